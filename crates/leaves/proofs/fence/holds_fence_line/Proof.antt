@@ -1,0 +1,12 @@
+-- `leaves::fence::holds_fence_line` meets its contract.
+use Rattle.leaves.proofs.Rules.{leaf}
+use Rattle.leaves.proofs.fence.holds_fence_line.Statement.{statement}
+use Rattle.leaves.proofs.fence.holds_fence_line.Tie as tie
+
+pub holds-fence-line-spec : {M : Type 1} → statement M
+holds-fence-line-spec =
+    tie.close
+    (tie.spec
+    (λ c κs. search leaf)
+    (λ c κs. search leaf)
+    (λ c. search leaf))

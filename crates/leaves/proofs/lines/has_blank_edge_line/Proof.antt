@@ -1,0 +1,13 @@
+-- `leaves::lines::has_blank_edge_line` meets its contract.
+use Rattle.leaves.proofs.Rules.{leaf}
+use Rattle.leaves.proofs.lines.has_blank_edge_line.Statement.{statement}
+use Rattle.leaves.proofs.lines.has_blank_edge_line.Tie as tie
+
+pub has-blank-edge-line-spec : {M : Type 1} → statement M
+has-blank-edge-line-spec =
+    tie.close
+    (tie.spec
+    (λ c κs. search leaf)
+    (λ c κs. search leaf)
+    (λ c. search leaf)
+    (λ c. search leaf))

@@ -1,0 +1,32 @@
+-- `leaves::lines::holds_line_ending` meets its contract.
+use Prim.Native.Nat.{_-_}
+use Rattle.leaves.proofs.Rules.{leaf}
+use Rattle.leaves.proofs.Scan.{At}
+use Rattle.leaves.specs.Bytes.{isLineEndingByte}
+use Rattle.leaves.specs.Lines.{holdsLineEnding}
+use Rattle.leaves.specs.Lists.{any}
+use lib.ListN.{length}
+use Rattle.leaves.proofs.lines.holds_line_ending.Statement.{statement}
+use Rattle.leaves.proofs.lines.holds_line_ending.Tie as tie
+
+abbrev Inv-loop : tie.InvT-loop
+Inv-loop s i₀ i = At (holdsLineEnding s) (any isLineEndingByte) s i
+
+abbrev μ-loop : tie.MeasureT-loop
+μ-loop s i₀ i = length s - i
+
+pub holds-line-ending-spec : {M : Type 1} → statement M
+unfolding holdsLineEnding any
+holds-line-ending-spec =
+    tie.close
+    (tie.spec
+    Inv-loop
+    μ-loop
+    (λ c. search leaf)
+    (λ c. search leaf)
+    (λ c κs. search leaf)
+    (λ c. search leaf)
+    (λ c. search leaf)
+    (λ c. search leaf)
+    (λ c. search leaf)
+    (λ c. search leaf))

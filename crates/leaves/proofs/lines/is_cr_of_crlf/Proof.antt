@@ -1,0 +1,14 @@
+-- `leaves::lines::is_cr_of_crlf` meets its contract.
+use Rattle.leaves.proofs.Rules.{leaf}
+use Rattle.leaves.proofs.lines.is_cr_of_crlf.Statement.{statement}
+use Rattle.leaves.proofs.lines.is_cr_of_crlf.Tie as tie
+
+pub is-cr-of-crlf-spec : {M : Type 1} → statement M
+is-cr-of-crlf-spec =
+    tie.close
+    (tie.spec
+    (λ c. search leaf)
+    (λ c. search leaf)
+    (λ c. search leaf)
+    (λ c. search leaf)
+    (λ c. search leaf))

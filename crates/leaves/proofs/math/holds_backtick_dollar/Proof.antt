@@ -1,0 +1,33 @@
+-- `leaves::math::holds_backtick_dollar` meets its contract.
+use Prim.Native.Nat.{_-_}
+use Rattle.leaves.proofs.Rules.{leaf}
+use Rattle.leaves.proofs.Scan.{At}
+use Rattle.leaves.specs.Math.{holdsBacktickDollar}
+use Rattle.leaves.specs.Scans.{tickFrom}
+use lib.ListN.{length}
+use Rattle.leaves.proofs.math.holds_backtick_dollar.Statement.{statement}
+use Rattle.leaves.proofs.math.holds_backtick_dollar.Tie as tie
+
+abbrev Inv-loop : tie.InvT-loop
+Inv-loop s tick₀ i₀ tick i = At (holdsBacktickDollar s) (tickFrom tick) s i
+
+abbrev μ-loop : tie.MeasureT-loop
+μ-loop s tick₀ i₀ tick i = length s - i
+
+loop-holds : tie.Need-loop-holds Inv-loop μ-loop
+unfolding tickFrom
+loop-holds c = search leaf
+
+pub holds-backtick-dollar-spec : {M : Type 1} → statement M
+holds-backtick-dollar-spec =
+    tie.close
+    (tie.spec
+    Inv-loop
+    μ-loop
+    loop-holds
+    (λ c. search leaf)
+    (λ c. search leaf)
+    (λ c. search leaf)
+    (λ c. search leaf)
+    (λ c. search leaf)
+    (λ c. search leaf))

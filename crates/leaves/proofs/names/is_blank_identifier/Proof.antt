@@ -1,0 +1,31 @@
+-- `leaves::names::is_blank_identifier` meets its contract.
+use Prim.Native.Nat.{_-_}
+use Rattle.leaves.proofs.Rules.{leaf}
+use Rattle.leaves.proofs.Scan.{At}
+use Rattle.leaves.specs.Lists.{all}
+use Rattle.leaves.specs.Names.{isBlankIdentifier, isTrimmedByte}
+use lib.ListN.{length}
+use Rattle.leaves.proofs.names.is_blank_identifier.Statement.{statement}
+use Rattle.leaves.proofs.names.is_blank_identifier.Tie as tie
+
+abbrev Inv-loop : tie.InvT-loop
+Inv-loop s i₀ i = At (isBlankIdentifier s) (all isTrimmedByte) s i
+
+abbrev μ-loop : tie.MeasureT-loop
+μ-loop s i₀ i = length s - i
+
+pub is-blank-identifier-spec : {M : Type 1} → statement M
+unfolding isBlankIdentifier all
+is-blank-identifier-spec =
+    tie.close
+    (tie.spec
+    Inv-loop
+    μ-loop
+    (λ c. search leaf)
+    (λ c. search leaf)
+    (λ c κs. search leaf)
+    (λ c. search leaf)
+    (λ c. search leaf)
+    (λ c. search leaf)
+    (λ c. search leaf)
+    (λ c. search leaf))

@@ -1,0 +1,11 @@
+-- `leaves::utf8::breaks` meets its contract.
+use Rattle.leaves.proofs.Rules.{sequences}
+use Rattle.leaves.proofs.utf8.breaks.Statement.{statement}
+use Rattle.leaves.proofs.utf8.breaks.Tie as tie
+
+pub breaks-spec : {M : Type 1} → statement M
+breaks-spec =
+    tie.close
+    (tie.spec
+    (λ c. search sequences)
+    (λ c. search sequences))

@@ -1,0 +1,16 @@
+-- `leaves::utf8::follow` meets its contract.
+use Rattle.leaves.proofs.Rules.{sequences}
+use Rattle.leaves.proofs.utf8.follow.Statement.{statement}
+use Rattle.leaves.proofs.utf8.follow.Tie as tie
+
+pub follow-spec : {M : Type 1} → statement M
+follow-spec =
+    tie.close
+    (tie.spec
+    (λ c. search sequences)
+    (λ c. search sequences)
+    (λ c. search sequences)
+    (λ c κs. search sequences)
+    (λ c. search sequences)
+    (λ c κs. search sequences)
+    (λ c. search sequences))

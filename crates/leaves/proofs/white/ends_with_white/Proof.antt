@@ -1,0 +1,20 @@
+-- `leaves::white::ends_with_white` meets its contract.
+use Rattle.leaves.proofs.Rules.{sequences}
+use Rattle.leaves.proofs.WhiteLaws.{ends-part}
+use borrow.Author.Needs.{needs}
+use Rattle.leaves.proofs.white.ends_with_white.Statement.{statement}
+use Rattle.leaves.proofs.white.ends_with_white.Tie as tie
+
+returns : tie.Need-returns
+returns c = ends-part _ _ (c .last-is-white .ensures) (search needs)
+
+pub ends-with-white-spec : {M : Type 1} → statement M
+ends-with-white-spec =
+    tie.close
+    (tie.spec
+    (λ c κs. search sequences)
+    (λ c. search sequences)
+    (λ c. search sequences)
+    (λ c. search sequences)
+    (λ c κs. search sequences)
+    returns)

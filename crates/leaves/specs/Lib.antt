@@ -1,0 +1,17 @@
+pub mod Lists
+pub mod Bytes
+pub mod Part
+pub mod Same
+pub mod Utf8
+pub mod Scalars
+pub mod White
+pub mod Lines
+pub mod Trim
+pub mod Fence
+pub mod Title
+pub mod Names
+pub mod Pipe
+pub mod Math
+pub mod Punctuation
+pub mod Scans
+pub mod Owed

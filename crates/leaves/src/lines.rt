@@ -1,0 +1,92 @@
+// Lines and line endings.
+ghost use mathlib.Core.Path.{_≡_};
+ghost use Prim.Native.Nat.{_+_, _<_};
+ghost use mathlib.Core.List.{[]};
+ghost use lib.ListN.{length, getD, drop};
+ghost use Rattle.leaves.specs.Lists.{firstOr, lastOr};
+ghost use Rattle.leaves.specs.Lines.{holdsLineEnding, isBlank, isCrOfCrlf, lines, hasBlankEdgeLine};
+use crate::bytes;
+use crate::bytes::CR;
+use crate::bytes::LF;
+
+pub fn holds_line_ending(s: &[u8]) -> bool
+    ensures { λ r. ⌜ r ≡ holdsLineEnding (now (s .entry)) ⌝ }
+{
+    let mut i: usize = 0;
+    while i < s.len() {
+        if bytes::is_line_ending_byte(s[i]) {
+            return true;
+        }
+        i = i + 1;
+    }
+    false
+}
+
+pub fn is_blank(s: &[u8]) -> bool
+    ensures { λ r. ⌜ r ≡ isBlank (now (s .entry)) ⌝ }
+{
+    let mut i: usize = 0;
+    while i < s.len() {
+        if !bytes::is_blank_byte(s[i]) {
+            return false;
+        }
+        i = i + 1;
+    }
+    true
+}
+
+// Whether the byte at `i` is a CR with its LF after it.
+pub fn is_cr_of_crlf(s: &[u8], i: usize) -> bool
+    requires { ⌜ i < length (now s) ⌝ }
+    ensures { λ r. ⌜ r ≡ isCrOfCrlf (getD (now (s .entry)) i 0) (drop (i + 1) (now (s .entry))) ⌝ }
+{
+    let next = i + 1;
+    if s.len() <= next {
+        return false;
+    }
+    (s[i] == CR) & (s[next] == LF)
+}
+
+fn first_line_is_blank(s: &[u8]) -> bool
+    ensures { λ r. ⌜ r ≡ isBlank (firstOr [] (lines (now (s .entry)))) ⌝ }
+{
+    let mut i: usize = 0;
+    while i < s.len() {
+        let b = s[i];
+        if bytes::is_line_ending_byte(b) {
+            return true;
+        }
+        if !bytes::is_blank_byte(b) {
+            return false;
+        }
+        i = i + 1;
+    }
+    true
+}
+
+// `blank` is of the line being read, `last` of the last line that has a byte or an ending.
+fn last_line_is_blank(s: &[u8]) -> bool
+    ensures { λ r. ⌜ r ≡ isBlank (lastOr [] (lines (now (s .entry)))) ⌝ }
+{
+    let mut last = true;
+    let mut blank = true;
+    let mut i: usize = 0;
+    while i < s.len() {
+        let b = s[i];
+        let skips = is_cr_of_crlf(s, i);
+        let ends = bytes::is_line_ending_byte(b);
+        let held = blank & bytes::is_blank_byte(b);
+        let told = bytes::choose(ends, blank, held);
+        last = bytes::choose(skips, last, told);
+        blank = bytes::choose(skips, blank, ends | held);
+        i = i + 1;
+    }
+    last
+}
+
+// Whether the first or the last line is blank; a text with no line counts as a blank one.
+pub fn has_blank_edge_line(s: &[u8]) -> bool
+    ensures { λ r. ⌜ r ≡ hasBlankEdgeLine (now (s .entry)) ⌝ }
+{
+    first_line_is_blank(s) || last_line_is_blank(s)
+}

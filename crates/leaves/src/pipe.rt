@@ -1,0 +1,22 @@
+// Pipes in the values of a table cell.
+ghost use mathlib.Core.Path.{_≡_};
+ghost use Rattle.leaves.specs.Pipe.{hasOddEscapedPipe};
+use crate::bytes::BACKSLASH;
+use crate::bytes::PIPE;
+
+// Whether a `|` stands right after an odd run of backslashes; `odd` is of the run before the byte read.
+pub fn has_odd_escaped_pipe(s: &[u8]) -> bool
+    ensures { λ r. ⌜ r ≡ hasOddEscapedPipe (now (s .entry)) ⌝ }
+{
+    let mut odd = false;
+    let mut i: usize = 0;
+    while i < s.len() {
+        let b = s[i];
+        if (b == PIPE) & odd {
+            return true;
+        }
+        odd = (b == BACKSLASH) & !odd;
+        i = i + 1;
+    }
+    false
+}
