@@ -15,6 +15,7 @@ use Rattle.leaves.specs.Scans.{breaks, owedAfter, valueAfter, room, Begi
 use Rattle.leaves.specs.Owed.{columns}
 use Rattle.leaves.specs.White.{isWhite, startsWithWhite, endsWithWhite}
 use Rattle.leaves.proofs.Scan.{next}
+use Rattle.leaves.proofs.Scan.{scan}
 
 -- ---- a rule of all bytes, by one computed test
 unfoldable pub allBelow : (ℕ → Bool) → ℕ → Bool
@@ -193,3 +194,5 @@ pub utf8-end : (more low high : ℕ) → eqb more 0 ≡ wellFormed (columns more
 unfolding wellFormed
 utf8-end zero low high = refl
 utf8-end (suc n) low high = eqb·suc-zero n
+
+pub ruleset decoding = (follow-ascii, follow-stray, follow-two, follow-e0, follow-ed, follow-three, follow-f0, follow-four, follow-f4, follow-high, breaks-none, breaks-some, owed-whole, owed-broken, owed-next, utf8-no, utf8-yes, utf8-end, scan)

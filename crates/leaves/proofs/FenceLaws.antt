@@ -17,6 +17,7 @@ use Rattle.leaves.specs.Trim.{trimCons, trimEnd}
 use Rattle.leaves.specs.declared.fence.FrontmatterKind.{FrontmatterKind}
 use Rattle.leaves.specs.declared.fence.FrontmatterKind.the-variants.{Yaml, Toml}
 use Rattle.leaves.proofs.LineLaws.{lines-skip, lines-end, lines-hold}
+use Rattle.leaves.proofs.Scan.{scan}
 
 -- ---- one line
 abbrev lineLeft : ℕ → ℕ → List ℕ → ℕ
@@ -157,3 +158,5 @@ module _ (c left b : ℕ) (s : List ℕ) {skips ends : Bool} (p : skips ≡ isCr
 pub fence-end : (c left : ℕ) → eqb left 0 ≡ fenceFrom c left []
 unfolding fenceFrom
 fence-end c left = refl
+
+pub ruleset fence-laws = (left-blank, left-solid, left-next, left-never, fence-yes, fence-no, fence-end, fences, scan)

@@ -8,4 +8,4 @@ pub mod LineLaws
 pub mod FenceLaws
 pub mod Decoding
 pub mod WhiteLaws
-pub mod Rules
+pub mod Examples

@@ -12,6 +12,7 @@ use Rattle.leaves.specs.Lists.{if_then_else_, all, firstOr, lastOr}
 use Rattle.leaves.specs.Lines.{startsWith, longer, isCrOfCrlf, lines, isBlank, hasBlankEdgeLine}
 use Rattle.leaves.specs.Scans.{lastBlank}
 use Rattle.leaves.proofs.Scan.{next}
+use Rattle.leaves.proofs.Scan.{scan}
 
 module _ (b : ℕ) (s : List ℕ) where
   pub lines-skip : isCrOfCrlf b s ≡ true → lines (b ∷ s) ≡ lines s
@@ -148,3 +149,5 @@ crlf-short s i h = rw (drop-of-length-le s {i = i + 1} h) (sym (and-false (eqb (
 pub crlf-long : (s : List ℕ) (i : ℕ) → i + 1 < length s → (eqb (getD s i 0) cr && eqb (getD s (i + 1) 0) lf) ≡ isCrOfCrlf (getD s i 0) (drop (i + 1) s)
 unfolding isCrOfCrlf startsWith
 crlf-long s i h = rw (next s (i + 1) h)
+
+pub ruleset line-laws = (first-ends, first-blank, first-solid, first-none, last-turn, last-none, edge-first, edge-last, crlf-short, crlf-long, scan)

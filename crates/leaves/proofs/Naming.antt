@@ -12,6 +12,8 @@ use Rattle.leaves.specs.Lines.{longer}
 use Rattle.leaves.specs.Names.{runs, isRun, isDirectiveName, beginsRun, continuesRun, isAttributeName, beginsAttribute, continuesAttribute}
 use Rattle.leaves.specs.Scans.{nameFrom}
 use Rattle.leaves.proofs.Scan.{At}
+use Rattle.leaves.proofs.Scan.{scan}
+use Rattle.leaves.proofs.Tests.{all-yes, all-no}
 
 -- runs of which the first has begun already, where `start` is false
 abbrev runsFrom : Bool → List (List ℕ) → Bool
@@ -73,3 +75,5 @@ module _ {r : Bool} where
   unfolding isAttributeName
   attribute-yes [] h e n = absurd (h refl)
   attribute-yes (b ∷ s) h e n = record { within = omega arith; same = rw (← e, n) }
+
+pub ruleset naming = (name-yes, name-no, attribute-none, attribute-yes, attribute-no, all-yes, all-no, scan)

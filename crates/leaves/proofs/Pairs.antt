@@ -9,6 +9,7 @@ use lib.Dec.{eqb}
 use lib.ListN.{length, drop, getD, drop-of-length-le}
 use Rattle.leaves.specs.Same.{sameBytes}
 use Rattle.leaves.proofs.Scan.{next}
+use borrow.Author.Needs.{needs}
 
 pub record Both (a b : List ℕ) (i : ℕ) : Type 0 where
   pub within : i ≤ length a
@@ -37,3 +38,5 @@ module _ (a b : List ℕ) (i : ℕ) (h : i < length a) (inv : Both a b i) where
 pub same-end : (a b : List ℕ) (i : ℕ) → length a ≤ i → Both a b i → true ≡ sameBytes a b
 unfolding sameBytes
 same-end a b i h inv = sym (inv .same ∙ rw (drop-of-length-le a {i = i} h, drop-of-length-le b {i = i} (omega arith)))
+
+pub ruleset pairs = (same-long, same-turn, same-stop, same-end, needs)

@@ -6,6 +6,8 @@ use native.Mathlib.Numerals.{add-one}
 use native.Mathlib.Omega.{arith}
 use lib.ListN.{length, drop, getD, drop-of-length-le}
 use lib.Seq.{drop-cons}
+use borrow.Author.Needs.{needs}
+use borrow.Author.Tests.{not-true, not-false}
 
 -- the loop stands at i, and `rest` of what is left is the whole answer
 pub record At {A : Type 0} (whole : A) (rest : List ℕ → A) (s : List ℕ) (i : ℕ) : Type 0 where
@@ -26,3 +28,6 @@ stop {rest = rest} {s = s} {i = i} h inv e = e ∙ sym (inv .same ∙ ap rest (n
 -- no byte is left
 pub end : {A : Type 0} {whole r : A} {rest : List ℕ → A} {s : List ℕ} {i : ℕ} → length s ≤ i → At whole rest s i → r ≡ rest [] → r ≡ whole
 end {rest = rest} {s = s} {i = i} h inv e = e ∙ sym (inv .same ∙ ap rest (drop-of-length-le s {i = i} h))
+
+-- what `search` is handed for such a loop
+pub ruleset scan = (turn, stop, end, not-true, not-false, needs)

@@ -10,6 +10,7 @@ use Rattle.leaves.specs.Lines.{startsWith}
 use Rattle.leaves.specs.Math.{holdsBacktickDollar}
 use Rattle.leaves.specs.Pipe.{oddPipeAfter}
 use Rattle.leaves.specs.Scans.{tickFrom}
+use Rattle.leaves.proofs.Scan.{scan}
 
 module _ (test : ℕ → Bool) (b : ℕ) {r : Bool} (e : r ≡ test b) where
   pub any-no : r ≡ false → (s : List ℕ) → any test (b ∷ s) ≡ any test s
@@ -47,3 +48,5 @@ tick-no tick b s e = rw e
 pub tick-none : (tick : Bool) → false ≡ tickFrom tick []
 unfolding tickFrom startsWith holdsBacktickDollar
 tick-none tick = rw and-false
+
+pub ruleset tests = (any-no, any-yes, all-yes, all-no, pipe-yes, pipe-no, tick-yes, tick-no, tick-none, scan)

@@ -12,6 +12,7 @@ use Rattle.leaves.specs.Lists.{lastOr, none}
 use Rattle.leaves.specs.Same.{sameBytes}
 use Rattle.leaves.specs.Title.{isAlertTitle}
 use Rattle.leaves.specs.Trim.{trimCons, trimEnd, trimStart, trim}
+use Rattle.leaves.proofs.Scan.{scan}
 
 same-self : (s : List ℕ) → sameBytes s s ≡ true
 unfolding sameBytes
@@ -84,3 +85,5 @@ title-some (b ∷ s) h e f = rw (e, f, at-end) (sym (title b s))
     at-end =
         let e : suc (length s) - 1 ≡ length s = omega arith in
         rw e (last-at b s)
+
+pub ruleset titles = (title-none, title-some, scan)

@@ -17,6 +17,7 @@ use Rattle.leaves.specs.Owed.{columns}
 use Rattle.leaves.specs.White.{isWhite, startsWithWhite, endsWithWhite}
 use Rattle.leaves.proofs.Scan.{next}
 use Rattle.leaves.proofs.Decoding.{allBelow, each, whole, outside, and-left, and-right, from-to}
+use Rattle.leaves.proofs.Scan.{scan}
 
 -- ---- the value of the bits
 module _ (b : ℕ) where
@@ -298,3 +299,5 @@ room-small (suc zero) value h k = k
 room-small (suc (suc zero)) value h k = omega arith
 room-small (suc (suc (suc zero))) value h k = omega arith
 room-small (suc (suc (suc (suc n)))) value h k = omega arith
+
+pub ruleset white-laws = (lead-one, lead-two, lead-three, lead-four, valued-whole, valued-broken, valued-next, room-kept, start-broken, start-whole, start-more, start-none, end-turn, end-done, begins-start, begins-back, scan)

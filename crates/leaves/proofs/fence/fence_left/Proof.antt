@@ -1,5 +1,5 @@
 -- `leaves::fence::fence_left` meets its contract.
-use Rattle.leaves.proofs.Rules.{leaf}
+use Rattle.leaves.proofs.FenceLaws.{fence-laws}
 use Rattle.leaves.proofs.fence.fence_left.Statement.{statement}
 use Rattle.leaves.proofs.fence.fence_left.Tie as tie
 
@@ -7,9 +7,9 @@ pub fence-left-spec : {M : Type 1} → statement M
 fence-left-spec =
     tie.close
     (tie.spec
-    (λ c κs. search leaf)
-    (λ c. search leaf)
-    (λ c. search leaf)
-    (λ c. search leaf)
-    (λ c. search leaf)
-    (λ c. search leaf))
+    (λ c κs. search fence-laws)
+    (λ c. search fence-laws)
+    (λ c. search fence-laws)
+    (λ c. search fence-laws)
+    (λ c. search fence-laws)
+    (λ c. search fence-laws))

@@ -1,5 +1,5 @@
 -- `leaves::fence::holds_fence_line` meets its contract.
-use Rattle.leaves.proofs.Rules.{leaf}
+use Rattle.leaves.proofs.FenceLaws.{fence-laws}
 use Rattle.leaves.proofs.fence.holds_fence_line.Statement.{statement}
 use Rattle.leaves.proofs.fence.holds_fence_line.Tie as tie
 
@@ -7,6 +7,6 @@ pub holds-fence-line-spec : {M : Type 1} → statement M
 holds-fence-line-spec =
     tie.close
     (tie.spec
-    (λ c κs. search leaf)
-    (λ c κs. search leaf)
-    (λ c. search leaf))
+    (λ c κs. search fence-laws)
+    (λ c κs. search fence-laws)
+    (λ c. search fence-laws))

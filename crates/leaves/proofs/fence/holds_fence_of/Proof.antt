@@ -1,6 +1,6 @@
 -- `leaves::fence::holds_fence_of` meets its contract.
+use Rattle.leaves.proofs.FenceLaws.{fence-laws}
 use Prim.Native.Nat.{_-_}
-use Rattle.leaves.proofs.Rules.{leaf}
 use Rattle.leaves.proofs.Scan.{At}
 use Rattle.leaves.specs.Scans.{fenceFrom}
 use lib.ListN.{length}
@@ -19,13 +19,13 @@ holds-fence-of-spec =
     (tie.spec
     Inv-loop
     μ-loop
-    (λ c. search leaf)
-    (λ c. search leaf)
-    (λ c κs. search leaf)
-    (λ c κs. search leaf)
-    (λ c. search leaf)
-    (λ c κs. search leaf)
-    (λ c. search leaf)
-    (λ c. search leaf)
-    (λ c. search leaf)
-    (λ c. search leaf))
+    (λ c. search fence-laws)
+    (λ c. search fence-laws)
+    (λ c κs. search fence-laws)
+    (λ c κs. search fence-laws)
+    (λ c. search fence-laws)
+    (λ c κs. search fence-laws)
+    (λ c. search fence-laws)
+    (λ c. search fence-laws)
+    (λ c. search fence-laws)
+    (λ c. search fence-laws))

@@ -1,7 +1,6 @@
 -- `leaves::lines::first_line_is_blank` meets its contract.
 use Prim.Native.Nat.{_-_}
-use Rattle.leaves.proofs.LineLaws.{first-blank, firstBlank}
-use Rattle.leaves.proofs.Rules.{leaf}
+use Rattle.leaves.proofs.LineLaws.{first-blank, firstBlank, line-laws}
 use Rattle.leaves.proofs.Scan.{At, turn}
 use Rattle.leaves.specs.Lines.{isBlank, lines}
 use Rattle.leaves.specs.Lists.{firstOr}
@@ -19,10 +18,10 @@ abbrev μ-loop : tie.MeasureT-loop
 
 loop-holds : tie.Need-loop-holds Inv-loop μ-loop
 unfolding firstBlank
-loop-holds c = search leaf
+loop-holds c = search line-laws
 
 loop-again : tie.Need-loop-again Inv-loop μ-loop
-loop-again c = turn (search needs) (c .before .before .before .before .before .before .loop .inv) (first-blank _ _ (c .before .before .before .is-line-ending-byte .ensures) (search leaf) (c .before .is-blank-byte .ensures) (search leaf))
+loop-again c = turn (search needs) (c .before .before .before .before .before .before .loop .inv) (first-blank _ _ (c .before .before .before .is-line-ending-byte .ensures) (search line-laws) (c .before .is-blank-byte .ensures) (search line-laws))
 
 pub first-line-is-blank-spec : {M : Type 1} → statement M
 first-line-is-blank-spec =
@@ -31,12 +30,12 @@ first-line-is-blank-spec =
     Inv-loop
     μ-loop
     loop-holds
-    (λ c. search leaf)
-    (λ c κs. search leaf)
-    (λ c. search leaf)
-    (λ c κs. search leaf)
-    (λ c. search leaf)
-    (λ c. search leaf)
-    (λ c. search leaf)
+    (λ c. search line-laws)
+    (λ c κs. search line-laws)
+    (λ c. search line-laws)
+    (λ c κs. search line-laws)
+    (λ c. search line-laws)
+    (λ c. search line-laws)
+    (λ c. search line-laws)
     loop-again
-    (λ c. search leaf))
+    (λ c. search line-laws))

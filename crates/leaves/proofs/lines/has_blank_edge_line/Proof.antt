@@ -1,5 +1,5 @@
 -- `leaves::lines::has_blank_edge_line` meets its contract.
-use Rattle.leaves.proofs.Rules.{leaf}
+use Rattle.leaves.proofs.LineLaws.{line-laws}
 use Rattle.leaves.proofs.lines.has_blank_edge_line.Statement.{statement}
 use Rattle.leaves.proofs.lines.has_blank_edge_line.Tie as tie
 
@@ -7,7 +7,7 @@ pub has-blank-edge-line-spec : {M : Type 1} → statement M
 has-blank-edge-line-spec =
     tie.close
     (tie.spec
-    (λ c κs. search leaf)
-    (λ c κs. search leaf)
-    (λ c. search leaf)
-    (λ c. search leaf))
+    (λ c κs. search line-laws)
+    (λ c κs. search line-laws)
+    (λ c. search line-laws)
+    (λ c. search line-laws))

@@ -1,5 +1,5 @@
 -- `leaves::lines::is_cr_of_crlf` meets its contract.
-use Rattle.leaves.proofs.Rules.{leaf}
+use Rattle.leaves.proofs.LineLaws.{line-laws}
 use Rattle.leaves.proofs.lines.is_cr_of_crlf.Statement.{statement}
 use Rattle.leaves.proofs.lines.is_cr_of_crlf.Tie as tie
 
@@ -7,8 +7,8 @@ pub is-cr-of-crlf-spec : {M : Type 1} → statement M
 is-cr-of-crlf-spec =
     tie.close
     (tie.spec
-    (λ c. search leaf)
-    (λ c. search leaf)
-    (λ c. search leaf)
-    (λ c. search leaf)
-    (λ c. search leaf))
+    (λ c. search line-laws)
+    (λ c. search line-laws)
+    (λ c. search line-laws)
+    (λ c. search line-laws)
+    (λ c. search line-laws))

@@ -1,7 +1,6 @@
 -- `leaves::lines::last_line_is_blank` meets its contract.
 use Prim.Native.Nat.{_-_}
-use Rattle.leaves.proofs.LineLaws.{last-line}
-use Rattle.leaves.proofs.Rules.{leaf}
+use Rattle.leaves.proofs.LineLaws.{last-line, line-laws}
 use Rattle.leaves.proofs.Scan.{At}
 use Rattle.leaves.specs.Lines.{isBlank, lines}
 use Rattle.leaves.specs.Lists.{lastOr}
@@ -28,14 +27,14 @@ last-line-is-blank-spec =
     Inv-loop
     μ-loop
     loop-holds
-    (λ c. search leaf)
-    (λ c κs. search leaf)
-    (λ c κs. search leaf)
-    (λ c κs. search leaf)
-    (λ c κs. search leaf)
-    (λ c κs. search leaf)
-    (λ c κs. search leaf)
-    (λ c. search leaf)
-    (λ c. search leaf)
-    (λ c. search leaf)
-    (λ c. search leaf))
+    (λ c. search line-laws)
+    (λ c κs. search line-laws)
+    (λ c κs. search line-laws)
+    (λ c κs. search line-laws)
+    (λ c κs. search line-laws)
+    (λ c κs. search line-laws)
+    (λ c κs. search line-laws)
+    (λ c. search line-laws)
+    (λ c. search line-laws)
+    (λ c. search line-laws)
+    (λ c. search line-laws))

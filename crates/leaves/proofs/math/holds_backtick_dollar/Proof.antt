@@ -1,6 +1,6 @@
 -- `leaves::math::holds_backtick_dollar` meets its contract.
+use Rattle.leaves.proofs.Tests.{tests}
 use Prim.Native.Nat.{_-_}
-use Rattle.leaves.proofs.Rules.{leaf}
 use Rattle.leaves.proofs.Scan.{At}
 use Rattle.leaves.specs.Math.{holdsBacktickDollar}
 use Rattle.leaves.specs.Scans.{tickFrom}
@@ -16,7 +16,7 @@ abbrev μ-loop : tie.MeasureT-loop
 
 loop-holds : tie.Need-loop-holds Inv-loop μ-loop
 unfolding tickFrom
-loop-holds c = search leaf
+loop-holds c = search tests
 
 pub holds-backtick-dollar-spec : {M : Type 1} → statement M
 holds-backtick-dollar-spec =
@@ -25,9 +25,9 @@ holds-backtick-dollar-spec =
     Inv-loop
     μ-loop
     loop-holds
-    (λ c. search leaf)
-    (λ c. search leaf)
-    (λ c. search leaf)
-    (λ c. search leaf)
-    (λ c. search leaf)
-    (λ c. search leaf))
+    (λ c. search tests)
+    (λ c. search tests)
+    (λ c. search tests)
+    (λ c. search tests)
+    (λ c. search tests)
+    (λ c. search tests))

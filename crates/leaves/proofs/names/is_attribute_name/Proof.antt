@@ -1,6 +1,6 @@
 -- `leaves::names::is_attribute_name` meets its contract.
+use Rattle.leaves.proofs.Naming.{naming}
 use Prim.Native.Nat.{_-_}
-use Rattle.leaves.proofs.Rules.{leaf}
 use Rattle.leaves.proofs.Scan.{At}
 use Rattle.leaves.specs.Lists.{all}
 use Rattle.leaves.specs.Names.{continuesAttribute, isAttributeName}
@@ -21,15 +21,15 @@ is-attribute-name-spec =
     (tie.spec
     Inv-loop
     μ-loop
-    (λ c. search leaf)
-    (λ c. search leaf)
-    (λ c κs. search leaf)
-    (λ c. search leaf)
-    (λ c. search leaf)
-    (λ c. search leaf)
-    (λ c κs. search leaf)
-    (λ c. search leaf)
-    (λ c. search leaf)
-    (λ c. search leaf)
-    (λ c. search leaf)
-    (λ c. search leaf))
+    (λ c. search naming)
+    (λ c. search naming)
+    (λ c κs. search naming)
+    (λ c. search naming)
+    (λ c. search naming)
+    (λ c. search naming)
+    (λ c κs. search naming)
+    (λ c. search naming)
+    (λ c. search naming)
+    (λ c. search naming)
+    (λ c. search naming)
+    (λ c. search naming))

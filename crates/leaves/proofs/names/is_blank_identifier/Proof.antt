@@ -1,6 +1,6 @@
 -- `leaves::names::is_blank_identifier` meets its contract.
+use Rattle.leaves.proofs.Tests.{tests}
 use Prim.Native.Nat.{_-_}
-use Rattle.leaves.proofs.Rules.{leaf}
 use Rattle.leaves.proofs.Scan.{At}
 use Rattle.leaves.specs.Lists.{all}
 use Rattle.leaves.specs.Names.{isBlankIdentifier, isTrimmedByte}
@@ -21,11 +21,11 @@ is-blank-identifier-spec =
     (tie.spec
     Inv-loop
     μ-loop
-    (λ c. search leaf)
-    (λ c. search leaf)
-    (λ c κs. search leaf)
-    (λ c. search leaf)
-    (λ c. search leaf)
-    (λ c. search leaf)
-    (λ c. search leaf)
-    (λ c. search leaf))
+    (λ c. search tests)
+    (λ c. search tests)
+    (λ c κs. search tests)
+    (λ c. search tests)
+    (λ c. search tests)
+    (λ c. search tests)
+    (λ c. search tests)
+    (λ c. search tests))

@@ -1,7 +1,6 @@
 -- `leaves::names::is_directive_name` meets its contract.
 use Prim.Native.Nat.{_-_}
-use Rattle.leaves.proofs.Naming.{directive}
-use Rattle.leaves.proofs.Rules.{leaf}
+use Rattle.leaves.proofs.Naming.{directive, naming}
 use Rattle.leaves.proofs.Scan.{At}
 use Rattle.leaves.specs.Names.{isDirectiveName}
 use Rattle.leaves.specs.Scans.{nameFrom}
@@ -27,13 +26,13 @@ is-directive-name-spec =
     Inv-loop
     μ-loop
     loop-holds
-    (λ c. search leaf)
-    (λ c κs. search leaf)
-    (λ c κs. search leaf)
-    (λ c κs. search leaf)
-    (λ c κs. search leaf)
-    (λ c. search leaf)
-    (λ c. search leaf)
-    (λ c. search leaf)
-    (λ c. search leaf)
-    (λ c. search leaf))
+    (λ c. search naming)
+    (λ c κs. search naming)
+    (λ c κs. search naming)
+    (λ c κs. search naming)
+    (λ c κs. search naming)
+    (λ c. search naming)
+    (λ c. search naming)
+    (λ c. search naming)
+    (λ c. search naming)
+    (λ c. search naming))

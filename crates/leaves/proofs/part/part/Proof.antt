@@ -1,6 +1,6 @@
 -- `leaves::part::part` meets its contract.
+use borrow.Author.Needs.{needs}
 use Rattle.leaves.proofs.Parts.{part-inside, part-outside}
-use Rattle.leaves.proofs.Rules.{leaf}
 use native.Mathlib.Omega.{arith}
 use Rattle.leaves.proofs.part.part.Statement.{statement}
 use Rattle.leaves.proofs.part.part.Tie as tie
@@ -18,17 +18,17 @@ pub part-spec : {M : Type 1} → statement M
 part-spec =
     tie.close
     (tie.spec
-    (λ c. search leaf)
-    (λ c. search leaf)
-    (λ c. search leaf)
+    (λ c. search needs)
+    (λ c. search needs)
+    (λ c. search needs)
     returns
-    (λ c. search leaf)
-    (λ c. search leaf)
-    (λ c. search leaf)
-    (λ c. search leaf)
+    (λ c. search needs)
+    (λ c. search needs)
+    (λ c. search needs)
+    (λ c. search needs)
     returns-2
-    (λ c. search leaf)
-    (λ c. search leaf)
-    (λ c. search leaf)
-    (λ c. search leaf)
+    (λ c. search needs)
+    (λ c. search needs)
+    (λ c. search needs)
+    (λ c. search needs)
     returns-3)

@@ -1,6 +1,6 @@
 -- `leaves::pipe::has_odd_escaped_pipe` meets its contract.
+use Rattle.leaves.proofs.Tests.{tests}
 use Prim.Native.Nat.{_-_}
-use Rattle.leaves.proofs.Rules.{leaf}
 use Rattle.leaves.proofs.Scan.{At}
 use Rattle.leaves.specs.Pipe.{hasOddEscapedPipe, oddPipeAfter}
 use lib.ListN.{length}
@@ -20,10 +20,10 @@ has-odd-escaped-pipe-spec =
     (tie.spec
     Inv-loop
     μ-loop
-    (λ c. search leaf)
-    (λ c. search leaf)
-    (λ c. search leaf)
-    (λ c. search leaf)
-    (λ c. search leaf)
-    (λ c. search leaf)
-    (λ c. search leaf))
+    (λ c. search tests)
+    (λ c. search tests)
+    (λ c. search tests)
+    (λ c. search tests)
+    (λ c. search tests)
+    (λ c. search tests)
+    (λ c. search tests))

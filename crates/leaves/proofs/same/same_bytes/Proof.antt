@@ -1,7 +1,6 @@
 -- `leaves::same::same_bytes` meets its contract.
 use Prim.Native.Nat.{_-_}
-use Rattle.leaves.proofs.Pairs.{Both}
-use Rattle.leaves.proofs.Rules.{leaf}
+use Rattle.leaves.proofs.Pairs.{Both, pairs}
 use lib.ListN.{length}
 use Rattle.leaves.proofs.same.same_bytes.Statement.{statement}
 use Rattle.leaves.proofs.same.same_bytes.Tie as tie
@@ -18,12 +17,12 @@ same-bytes-spec =
     (tie.spec
     Inv-loop
     μ-loop
-    (λ c. search leaf)
-    (λ c. search leaf)
-    (λ c. search leaf)
-    (λ c. search leaf)
-    (λ c. search leaf)
-    (λ c. search leaf)
-    (λ c. search leaf)
-    (λ c. search leaf)
-    (λ c. search leaf))
+    (λ c. search pairs)
+    (λ c. search pairs)
+    (λ c. search pairs)
+    (λ c. search pairs)
+    (λ c. search pairs)
+    (λ c. search pairs)
+    (λ c. search pairs)
+    (λ c. search pairs)
+    (λ c. search pairs))

@@ -1,5 +1,5 @@
 -- `leaves::title::is_alert_title` meets its contract.
-use Rattle.leaves.proofs.Rules.{leaf}
+use Rattle.leaves.proofs.Titles.{titles}
 use Rattle.leaves.proofs.title.is_alert_title.Statement.{statement}
 use Rattle.leaves.proofs.title.is_alert_title.Tie as tie
 
@@ -7,10 +7,10 @@ pub is-alert-title-spec : {M : Type 1} → statement M
 is-alert-title-spec =
     tie.close
     (tie.spec
-    (λ c. search leaf)
-    (λ c. search leaf)
-    (λ c. search leaf)
-    (λ c κs. search leaf)
-    (λ c. search leaf)
-    (λ c κs. search leaf)
-    (λ c. search leaf))
+    (λ c. search titles)
+    (λ c. search titles)
+    (λ c. search titles)
+    (λ c κs. search titles)
+    (λ c. search titles)
+    (λ c κs. search titles)
+    (λ c. search titles))

@@ -1,5 +1,5 @@
 -- `leaves::utf8::follow` meets its contract.
-use Rattle.leaves.proofs.Rules.{sequences}
+use Rattle.leaves.proofs.Decoding.{decoding}
 use Rattle.leaves.proofs.utf8.follow.Statement.{statement}
 use Rattle.leaves.proofs.utf8.follow.Tie as tie
 
@@ -7,10 +7,10 @@ pub follow-spec : {M : Type 1} → statement M
 follow-spec =
     tie.close
     (tie.spec
-    (λ c. search sequences)
-    (λ c. search sequences)
-    (λ c. search sequences)
-    (λ c κs. search sequences)
-    (λ c. search sequences)
-    (λ c κs. search sequences)
-    (λ c. search sequences))
+    (λ c. search decoding)
+    (λ c. search decoding)
+    (λ c. search decoding)
+    (λ c κs. search decoding)
+    (λ c. search decoding)
+    (λ c κs. search decoding)
+    (λ c. search decoding))

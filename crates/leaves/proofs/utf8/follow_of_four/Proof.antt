@@ -1,5 +1,5 @@
 -- `leaves::utf8::follow_of_four` meets its contract.
-use Rattle.leaves.proofs.Rules.{sequences}
+use Rattle.leaves.proofs.Decoding.{decoding}
 use Rattle.leaves.proofs.utf8.follow_of_four.Statement.{statement}
 use Rattle.leaves.proofs.utf8.follow_of_four.Tie as tie
 
@@ -7,7 +7,7 @@ pub follow-of-four-spec : {M : Type 1} → statement M
 follow-of-four-spec =
     tie.close
     (tie.spec
-    (λ c. search sequences)
-    (λ c. search sequences)
-    (λ c. search sequences)
-    (λ c. search sequences))
+    (λ c. search decoding)
+    (λ c. search decoding)
+    (λ c. search decoding)
+    (λ c. search decoding))

@@ -1,5 +1,5 @@
 -- `leaves::utf8::follow_of_three` meets its contract.
-use Rattle.leaves.proofs.Rules.{sequences}
+use Rattle.leaves.proofs.Decoding.{decoding}
 use Rattle.leaves.proofs.utf8.follow_of_three.Statement.{statement}
 use Rattle.leaves.proofs.utf8.follow_of_three.Tie as tie
 
@@ -7,6 +7,6 @@ pub follow-of-three-spec : {M : Type 1} → statement M
 follow-of-three-spec =
     tie.close
     (tie.spec
-    (λ c. search sequences)
-    (λ c. search sequences)
-    (λ c. search sequences))
+    (λ c. search decoding)
+    (λ c. search decoding)
+    (λ c. search decoding))

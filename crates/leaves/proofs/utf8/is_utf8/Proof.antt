@@ -1,6 +1,6 @@
 -- `leaves::utf8::is_utf8` meets its contract.
+use Rattle.leaves.proofs.Decoding.{decoding}
 use Prim.Native.Nat.{_-_}
-use Rattle.leaves.proofs.Rules.{sequences}
 use Rattle.leaves.proofs.Scan.{At}
 use Rattle.leaves.specs.Owed.{owedOf}
 use Rattle.leaves.specs.Utf8.{isUtf8, wellFormed}
@@ -16,7 +16,7 @@ abbrev μ-loop : tie.MeasureT-loop
 
 loop-holds : tie.Need-loop-holds Inv-loop μ-loop
 unfolding isUtf8
-loop-holds c = search sequences
+loop-holds c = search decoding
 
 pub is-utf8-spec : {M : Type 1} → statement M
 is-utf8-spec =
@@ -25,11 +25,11 @@ is-utf8-spec =
     Inv-loop
     μ-loop
     loop-holds
-    (λ c. search sequences)
-    (λ c κs. search sequences)
-    (λ c. search sequences)
-    (λ c κs. search sequences)
-    (λ c. search sequences)
-    (λ c. search sequences)
-    (λ c. search sequences)
-    (λ c. search sequences))
+    (λ c. search decoding)
+    (λ c κs. search decoding)
+    (λ c. search decoding)
+    (λ c κs. search decoding)
+    (λ c. search decoding)
+    (λ c. search decoding)
+    (λ c. search decoding)
+    (λ c. search decoding))

@@ -1,6 +1,5 @@
 -- `leaves::white::ends_with_white` meets its contract.
-use Rattle.leaves.proofs.Rules.{sequences}
-use Rattle.leaves.proofs.WhiteLaws.{ends-part}
+use Rattle.leaves.proofs.WhiteLaws.{ends-part, white-laws}
 use borrow.Author.Needs.{needs}
 use Rattle.leaves.proofs.white.ends_with_white.Statement.{statement}
 use Rattle.leaves.proofs.white.ends_with_white.Tie as tie
@@ -12,9 +11,9 @@ pub ends-with-white-spec : {M : Type 1} → statement M
 ends-with-white-spec =
     tie.close
     (tie.spec
-    (λ c κs. search sequences)
-    (λ c. search sequences)
-    (λ c. search sequences)
-    (λ c. search sequences)
-    (λ c κs. search sequences)
+    (λ c κs. search white-laws)
+    (λ c. search white-laws)
+    (λ c. search white-laws)
+    (λ c. search white-laws)
+    (λ c κs. search white-laws)
     returns)

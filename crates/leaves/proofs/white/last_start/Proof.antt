@@ -1,6 +1,6 @@
 -- `leaves::white::last_start` meets its contract.
+use Rattle.leaves.proofs.WhiteLaws.{white-laws}
 use Prim.Native.Nat.{_≤_}
-use Rattle.leaves.proofs.Rules.{sequences}
 use lib.ListN.{length}
 use Rattle.leaves.proofs.white.last_start.Statement.{statement}
 use Rattle.leaves.proofs.white.last_start.Tie as tie
@@ -17,12 +17,12 @@ last-start-spec =
     (tie.spec
     Inv-loop
     μ-loop
-    (λ c. search sequences)
-    (λ c. search sequences)
-    (λ c. search sequences)
-    (λ c κs. search sequences)
-    (λ c κs. search sequences)
-    (λ c. search sequences)
-    (λ c. search sequences)
-    (λ c. search sequences)
-    (λ c. search sequences))
+    (λ c. search white-laws)
+    (λ c. search white-laws)
+    (λ c. search white-laws)
+    (λ c κs. search white-laws)
+    (λ c κs. search white-laws)
+    (λ c. search white-laws)
+    (λ c. search white-laws)
+    (λ c. search white-laws)
+    (λ c. search white-laws))

@@ -1,5 +1,5 @@
 -- `leaves::white::lead_bits` meets its contract.
-use Rattle.leaves.proofs.Rules.{sequences}
+use Rattle.leaves.proofs.WhiteLaws.{white-laws}
 use Rattle.leaves.proofs.white.lead_bits.Statement.{statement}
 use Rattle.leaves.proofs.white.lead_bits.Tie as tie
 
@@ -7,7 +7,7 @@ pub lead-bits-spec : {M : Type 1} → statement M
 lead-bits-spec =
     tie.close
     (tie.spec
-    (λ c. search sequences)
-    (λ c. search sequences)
-    (λ c. search sequences)
-    (λ c. search sequences))
+    (λ c. search white-laws)
+    (λ c. search white-laws)
+    (λ c. search white-laws)
+    (λ c. search white-laws))

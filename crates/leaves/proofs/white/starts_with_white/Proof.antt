@@ -1,8 +1,7 @@
 -- `leaves::white::starts_with_white` meets its contract.
 use Prim.Native.Nat.{_-_, _<_}
-use Rattle.leaves.proofs.Rules.{sequences}
 use Rattle.leaves.proofs.Scan.{At}
-use Rattle.leaves.proofs.WhiteLaws.{startFrom}
+use Rattle.leaves.proofs.WhiteLaws.{startFrom, white-laws}
 use Rattle.leaves.specs.Owed.{owedOf}
 use Rattle.leaves.specs.Scalars.{scalars}
 use Rattle.leaves.specs.Scans.{room}
@@ -19,7 +18,7 @@ abbrev μ-loop : tie.MeasureT-loop
 
 loop-holds : tie.Need-loop-holds Inv-loop μ-loop
 unfolding startsWithWhite startFrom scalars
-loop-holds c = search sequences
+loop-holds c = search white-laws
 
 pub starts-with-white-spec : {M : Type 1} → statement M
 starts-with-white-spec =
@@ -28,14 +27,14 @@ starts-with-white-spec =
     Inv-loop
     μ-loop
     loop-holds
-    (λ c. search sequences)
-    (λ c κs. search sequences)
-    (λ c. search sequences)
-    (λ c κs. search sequences)
-    (λ c κs. search sequences)
-    (λ c κs. search sequences)
-    (λ c. search sequences)
-    (λ c. search sequences)
-    (λ c. search sequences)
-    (λ c. search sequences)
-    (λ c. search sequences))
+    (λ c. search white-laws)
+    (λ c κs. search white-laws)
+    (λ c. search white-laws)
+    (λ c κs. search white-laws)
+    (λ c κs. search white-laws)
+    (λ c κs. search white-laws)
+    (λ c. search white-laws)
+    (λ c. search white-laws)
+    (λ c. search white-laws)
+    (λ c. search white-laws)
+    (λ c. search white-laws))

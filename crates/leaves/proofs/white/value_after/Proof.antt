@@ -1,7 +1,6 @@
 -- `leaves::white::value_after` meets its contract.
 use Prim.Native.Nat.{_<_}
-use Rattle.leaves.proofs.Rules.{sequences}
-use Rattle.leaves.proofs.WhiteLaws.{room-small}
+use Rattle.leaves.proofs.WhiteLaws.{room-small, white-laws}
 use borrow.Author.Needs.{needs}
 use native.Mathlib.Omega.{arith}
 use Rattle.leaves.proofs.white.value_after.Statement.{statement}
@@ -17,10 +16,10 @@ pub value-after-spec : {M : Type 1} → statement M
 value-after-spec =
     tie.close
     (tie.spec
-    (λ c κs. search sequences)
-    (λ c. search sequences)
-    (λ c κs. search sequences)
-    (λ c. search sequences)
+    (λ c κs. search white-laws)
+    (λ c. search white-laws)
+    (λ c κs. search white-laws)
+    (λ c. search white-laws)
     mul-result
     add-result
-    (λ c. search sequences))
+    (λ c. search white-laws))

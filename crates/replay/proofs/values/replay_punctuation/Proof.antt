@@ -1,0 +1,32 @@
+-- `replay::values::replay_punctuation` meets its contract.
+use Prim.Native.Nat.{_-_}
+use borrow.Author.Needs.{needs}
+use lib.ListN.{length}
+use Rattle.replay.proofs.values.replay_punctuation.Statement.{statement}
+use Rattle.replay.proofs.values.replay_punctuation.Tie as tie
+
+abbrev Inv-loop : tie.InvT-loop
+Inv-loop s tally₀ at₀ tally at = Unit
+
+abbrev μ-loop : tie.MeasureT-loop
+μ-loop s tally₀ at₀ tally at = length s - at
+
+pub replay-punctuation-spec : {M : Type 1} → statement M
+replay-punctuation-spec =
+    tie.close
+    (tie.spec
+    Inv-loop
+    μ-loop
+    (λ c κs. search needs)
+    (λ c. search needs)
+    (λ c κs. search needs)
+    (λ c κs. search needs)
+    (λ c κs. search needs)
+    (λ c κs. search needs)
+    (λ c κs. search needs)
+    (λ c κs. search needs)
+    (λ c. search needs)
+    (λ c. search needs)
+    (λ c. search needs)
+    (λ c κs. search needs)
+    (λ c. search needs))

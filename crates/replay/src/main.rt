@@ -1,0 +1,63 @@
+// Replays the stored answers of the Rust in data/ (rust/vectors writes them) and counts what differs.
+mod read;
+mod tally;
+mod texts;
+mod values;
+
+use libc::STDOUT_FILENO;
+use tally::Tally;
+
+fn write_number(n: u64) {
+    io::write_all(STDOUT_FILENO, b" ");
+    io::print_decimal(STDOUT_FILENO, n);
+}
+
+// A line: the name, records, answers compared, answers that differ.
+fn write_line(name: &[u8], t: Tally) {
+    io::write_all(STDOUT_FILENO, name);
+    write_number(t.records);
+    write_number(t.compared);
+    write_number(t.differ);
+    io::write_all(STDOUT_FILENO, b"\n");
+}
+
+enum Format {
+    Texts,
+    Pairs,
+    Punctuation,
+    Parts,
+}
+
+// A file that cannot be opened counts as one difference.
+fn replay(name: &[u8], format: Format, total: Tally) -> Tally {
+    let fd = os::open_read(name);
+    if fd < 0 {
+        os::fail(name);
+        return total.differs();
+    }
+    let mut buffer = [0u8; 262144];
+    let n = io::read_full(fd, &mut buffer);
+    libc::close(fd);
+    let found = match format {
+        Format::Texts => texts::replay(&buffer[..n]),
+        Format::Pairs => values::replay_pairs(&buffer[..n]),
+        Format::Punctuation => values::replay_punctuation(&buffer[..n]),
+        Format::Parts => values::replay_parts(&buffer[..n]),
+    };
+    write_line(name, found);
+    total.with(found)
+}
+
+fn main() {
+    io::write_all(STDOUT_FILENO, b"file records compared differ\n");
+    let mut total = Tally::none();
+    total = replay(b"utf8", Format::Texts, total);
+    total = replay(b"white", Format::Texts, total);
+    total = replay(b"lines", Format::Texts, total);
+    total = replay(b"names", Format::Texts, total);
+    total = replay(b"pipes", Format::Texts, total);
+    total = replay(b"pairs", Format::Pairs, total);
+    total = replay(b"punctuation", Format::Punctuation, total);
+    total = replay(b"parts", Format::Parts, total);
+    write_line(b"all", total);
+}

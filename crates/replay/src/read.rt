@@ -1,0 +1,37 @@
+// Numbers of a stored file, least byte first; past its end every byte is 0.
+ghost use Prim.Native.Nat.{_<_};
+
+pub fn byte(s: &[u8], at: usize) -> u8 {
+    if at < s.len() { s[at] } else { 0 }
+}
+
+fn wide(b: u8) -> u32
+    ensures { λ r. ⌜ r < 256 ⌝ }
+{
+    b as u32
+}
+
+pub fn size(b: u8) -> usize
+    ensures { λ r. ⌜ r < 256 ⌝ }
+{
+    b as usize
+}
+
+pub fn number(s: &[u8], at: usize) -> u32
+    requires { ⌜ at < 256 ⌝ }
+{
+    wide(byte(s, at))
+        + wide(byte(s, at + 1)) * 0x100
+        + wide(byte(s, at + 2)) * 0x1_0000
+        + wide(byte(s, at + 3)) * 0x100_0000
+}
+
+pub fn long_number(s: &[u8], at: usize) -> usize
+    requires { ⌜ at < 128 ⌝ }
+{
+    join(number(s, at), number(s, at + 4))
+}
+
+fn join(low: u32, high: u32) -> usize {
+    (low as usize) + (high as usize) * 0x1_0000_0000
+}

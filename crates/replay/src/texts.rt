@@ -1,0 +1,102 @@
+// Texts with the answers of each function that takes one.
+use crate::read;
+use crate::tally::Tally;
+use leaves::fence::FrontmatterKind;
+ghost use Prim.Native.Nat.{_≤_};
+
+fn flag(yes: bool, weight: u32) -> u32
+    ensures { λ r. ⌜ r ≤ weight ⌝ }
+{
+    if yes { weight } else { 0 }
+}
+
+fn first_seven(s: &[u8]) -> u32
+    ensures { λ r. ⌜ r ≤ 0x7F ⌝ }
+{
+    flag(leaves::utf8::is_utf8(s), 0x01)
+        + flag(leaves::white::starts_with_white(s), 0x02)
+        + flag(leaves::white::ends_with_white(s), 0x04)
+        + flag(leaves::lines::holds_line_ending(s), 0x08)
+        + flag(leaves::lines::is_blank(s), 0x10)
+        + flag(leaves::lines::has_blank_edge_line(s), 0x20)
+        + flag(
+            leaves::fence::holds_fence_line(s, FrontmatterKind::Yaml),
+            0x40,
+        )
+}
+
+fn last_seven(s: &[u8]) -> u32
+    ensures { λ r. ⌜ r ≤ 0x7F ⌝ }
+{
+    flag(
+        leaves::fence::holds_fence_line(s, FrontmatterKind::Toml),
+        0x01,
+    )
+        + flag(leaves::title::is_alert_title(s), 0x02)
+        + flag(leaves::pipe::has_odd_escaped_pipe(s), 0x04)
+        + flag(leaves::names::is_directive_name(s), 0x08)
+        + flag(leaves::names::is_attribute_name(s), 0x10)
+        + flag(leaves::names::is_blank_identifier(s), 0x20)
+        + flag(leaves::math::holds_backtick_dollar(s), 0x40)
+}
+
+// The answers of the fourteen functions, the first as the lowest bit.
+fn answers(s: &[u8]) -> u32 {
+    first_seven(s) + last_seven(s) * 0x80
+}
+
+// The answers whose bit is set in `mask` are compared.
+fn compare(mask: u32, expected: u32, found: u32, tally: Tally) -> Tally {
+    let mut t = tally;
+    let mut m = mask;
+    let mut e = expected;
+    let mut f = found;
+    let mut k: u32 = 0;
+    while k < 14 {
+        t = compare_bit(m % 2 == 1, e % 2 == f % 2, t);
+        m = m / 2;
+        e = e / 2;
+        f = f / 2;
+        k = k + 1;
+    }
+    t
+}
+
+fn compare_bit(wanted: bool, same: bool, tally: Tally) -> Tally {
+    if wanted {
+        return tally.compare(same);
+    }
+    tally
+}
+
+// A record: its length, the mask, the answers, the text.
+fn replay_record(r: &[u8], tally: Tally) -> Tally {
+    let n = read::size(read::byte(r, 0));
+    let both = read::number(r, 1);
+    let text = leaves::part::part(r, 5, n);
+    compare(
+        both % 0x1_0000,
+        both / 0x1_0000,
+        answers(text),
+        tally.record(),
+    )
+}
+
+pub fn replay(s: &[u8]) -> Tally {
+    let mut tally = Tally::none();
+    let mut at: usize = 0;
+    while at < s.len() {
+        let n = read::size(read::byte(s, at)) + 5;
+        tally = replay_record(leaves::part::part(s, at, n), tally);
+        at = at + n;
+    }
+    ended(at == s.len(), tally)
+}
+
+// A file that ends inside a record counts as one difference more.
+pub fn ended(whole: bool, tally: Tally) -> Tally {
+    if whole {
+        return tally;
+    }
+    tally.differs()
+}

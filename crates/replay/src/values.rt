@@ -1,0 +1,60 @@
+// Pairs of texts, scalar values, and parts of a text.
+use crate::read;
+use crate::tally::Tally;
+use crate::texts;
+
+// A record: the two lengths, the answer, the two texts.
+fn replay_pair(r: &[u8], tally: Tally) -> Tally {
+    let n = read::size(read::byte(r, 0));
+    let m = read::size(read::byte(r, 1));
+    let same = leaves::same::same_bytes(
+        leaves::part::part(r, 3, n),
+        leaves::part::part(r, n + 3, m),
+    );
+    tally.record().compare(same == (read::byte(r, 2) == 1))
+}
+
+pub fn replay_pairs(s: &[u8]) -> Tally {
+    let mut tally = Tally::none();
+    let mut at: usize = 0;
+    while at < s.len() {
+        let n = read::size(read::byte(s, at)) + read::size(read::byte(s, at + 1)) + 3;
+        tally = replay_pair(leaves::part::part(s, at, n), tally);
+        at = at + n;
+    }
+    texts::ended(at == s.len(), tally)
+}
+
+// A record: the scalar value, the answer.
+pub fn replay_punctuation(s: &[u8]) -> Tally {
+    let mut tally = Tally::none();
+    let mut at: usize = 0;
+    while at < s.len() {
+        let r = leaves::part::part(s, at, 5);
+        let found = leaves::punctuation::is_ascii_punctuation(read::number(r, 0));
+        tally = tally.record().compare(found == (read::byte(r, 4) == 1));
+        at = at + 5;
+    }
+    texts::ended(at == s.len(), tally)
+}
+
+// A record: start and length of the part, the length of what is expected, and that, of the text 0, 1, .. 15.
+fn replay_part(r: &[u8], tally: Tally) -> Tally {
+    let text = [0u8, 1, 2, 3, 4, 5, 6, 7, 8, 9, 10, 11, 12, 13, 14, 15];
+    let found = leaves::part::part(&text, read::long_number(r, 0), read::long_number(r, 8));
+    let expected = leaves::part::part(r, 17, read::size(read::byte(r, 16)));
+    tally
+        .record()
+        .compare(leaves::same::same_bytes(found, expected))
+}
+
+pub fn replay_parts(s: &[u8]) -> Tally {
+    let mut tally = Tally::none();
+    let mut at: usize = 0;
+    while at < s.len() {
+        let n = read::size(read::byte(s, at + 16)) + 17;
+        tally = replay_part(leaves::part::part(s, at, n), tally);
+        at = at + n;
+    }
+    texts::ended(at == s.len(), tally)
+}

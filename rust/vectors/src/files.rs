@@ -1,0 +1,230 @@
+//! The stored files: records one after another, integers little-endian.
+
+use std::collections::HashSet;
+
+use crate::{
+    leaves::answers,
+    texts::{self, strings},
+};
+
+/// No file is longer.
+pub const LONGEST: usize = 1_000_000;
+
+/// One stored file.
+#[derive(PartialEq, Eq, Debug)]
+pub struct File {
+    pub name: &'static str,
+    pub records: usize,
+    pub bytes: Vec<u8>,
+}
+
+impl File {
+    fn new(name: &'static str) -> Self {
+        Self {
+            name,
+            records: 0,
+            bytes: Vec::new(),
+        }
+    }
+
+    /// Adds a record of these fields.
+    fn record(&mut self, fields: &[&[u8]]) {
+        self.records += 1;
+        for field in fields {
+            self.bytes.extend_from_slice(field);
+        }
+    }
+}
+
+/// Every file, in the order in which they are written.
+pub fn all() -> Vec<File> {
+    vec![
+        of_texts("utf8", texts::utf8()),
+        of_texts("white", texts::white()),
+        of_texts("lines", texts::lines()),
+        of_texts("names", texts::names()),
+        of_texts("pipes", texts::pipes()),
+        pairs(),
+        punctuation(),
+        parts(),
+    ]
+}
+
+/// The length of a text, in its one byte.
+fn length(text: &[u8]) -> [u8; 1] {
+    [u8::try_from(text.len()).expect("a text has at most 255 bytes")]
+}
+
+/// Length (1 byte), mask (2), answers (2), text.
+fn of_texts(name: &'static str, texts: Vec<Vec<u8>>) -> File {
+    let mut file = File::new(name);
+    for text in texts {
+        let (mask, answers) = answers(&text);
+        file.record(&[
+            &length(&text),
+            &mask.to_le_bytes(),
+            &answers.to_le_bytes(),
+            &text,
+        ]);
+    }
+    file
+}
+
+/// The pairs of texts that are compared byte by byte.
+fn paired() -> Vec<(Vec<u8>, Vec<u8>)> {
+    let mut list = Vec::new();
+    let mut held = HashSet::new();
+    for texts in [strings(b"ab", 3), strings(b"a\x00\xFF", 2)] {
+        for left in &texts {
+            for right in &texts {
+                let pair = (left.clone(), right.clone());
+                if held.insert(pair.clone()) {
+                    list.push(pair);
+                }
+            }
+        }
+    }
+    let long: Vec<u8> = (0..200).map(|at| b'a' + at % 26).collect();
+    list.push((long.clone(), long.clone()));
+    for at in [0, 100, 199] {
+        let mut other = long.clone();
+        other[at] = b'A';
+        list.push((long.clone(), other.clone()));
+        list.push((other, long.clone()));
+    }
+    for shorter in [&long[..199], &long[..100], &long[..1], &long[1..], b""] {
+        list.push((long.clone(), shorter.to_vec()));
+        list.push((shorter.to_vec(), long.clone()));
+    }
+    list
+}
+
+/// Two lengths (1 byte each), whether the texts are equal (1), the texts.
+fn pairs() -> File {
+    let mut file = File::new("pairs");
+    for (left, right) in paired() {
+        let same = [u8::from(left == right)];
+        file.record(&[&length(&left), &length(&right), &same, &left, &right]);
+    }
+    file
+}
+
+/// Scalar value (4 bytes), whether it is ASCII punctuation (1).
+fn punctuation() -> File {
+    let mut file = File::new("punctuation");
+    let far = [0xD7FF, 0xE000, 0xFF01, 0x2010, 0x10FFFF];
+    for value in (0..=0x2FF).chain(far) {
+        let scalar = char::from_u32(value).expect("no surrogate stands above");
+        let answer = [u8::from(scalar.is_ascii_punctuation())];
+        file.record(&[&value.to_le_bytes(), &answer]);
+    }
+    file
+}
+
+/// The part of `text` of `len` bytes from `start` on, and nothing where it is
+/// not inside.
+fn part(text: &[u8], start: u64, len: u64) -> &[u8] {
+    let inside = || {
+        let end = start.checked_add(len)?;
+        text.get(usize::try_from(start).ok()?..usize::try_from(end).ok()?)
+    };
+    inside().unwrap_or_default()
+}
+
+/// Start (8 bytes), length (8), the part's length (1), the part: of a text of
+/// the bytes 0 to 15.
+fn parts() -> File {
+    const NUMBERS: [u64; 13] = [
+        0,
+        1,
+        2,
+        7,
+        8,
+        9,
+        15,
+        16,
+        17,
+        u32::MAX as u64,
+        1 << 32,
+        1 << 63,
+        u64::MAX,
+    ];
+    let text: Vec<u8> = (0..16).collect();
+    let mut file = File::new("parts");
+    for start in NUMBERS {
+        for len in NUMBERS {
+            let part = part(&text, start, len);
+            file.record(&[
+                &start.to_le_bytes(),
+                &len.to_le_bytes(),
+                &length(part),
+                part,
+            ]);
+        }
+    }
+    file
+}
+
+#[cfg(test)]
+mod tests {
+    use super::*;
+
+    #[test]
+    fn always_the_same_bytes() {
+        let files = all();
+        assert_eq!(files, all());
+        for file in &files {
+            assert!(
+                file.records > 0 && file.bytes.len() <= LONGEST,
+                "{}",
+                file.name
+            );
+        }
+    }
+
+    /// Reading a text file back gives as many records, and ends at its end.
+    #[test]
+    fn records_read_back() {
+        for file in all().iter().take(5) {
+            let mut rest = &file.bytes[..];
+            let mut records = 0;
+            while let [n, m0, m1, a0, a1, tail @ ..] = rest {
+                let (text, after) = tail.split_at(usize::from(*n));
+                let mask = u16::from_le_bytes([*m0, *m1]);
+                let answered = u16::from_le_bytes([*a0, *a1]);
+                assert_eq!(answered & !mask, 0);
+                assert_eq!(mask == 1, core::str::from_utf8(text).is_err());
+                assert_eq!((mask, answered), answers(text));
+                records += 1;
+                rest = after;
+            }
+            assert!(rest.is_empty());
+            assert_eq!(records, file.records);
+        }
+    }
+
+    #[test]
+    fn no_pair_twice() {
+        let pairs = paired();
+        let held: HashSet<_> = pairs.iter().collect();
+        assert_eq!(held.len(), pairs.len());
+    }
+
+    #[test]
+    fn parts_are_inside() {
+        let text: Vec<u8> = (0..16).collect();
+        assert_eq!(part(&text, 15, 1), [15]);
+        assert_eq!(part(&text, 0, 16), text);
+        assert!(part(&text, 16, 0).is_empty());
+        assert!(part(&text, 15, 2).is_empty());
+        assert!(part(&text, 1, u64::MAX).is_empty());
+        assert!(part(&text, u64::MAX, u64::MAX).is_empty());
+    }
+
+    #[test]
+    fn ascii_punctuation_is_32() {
+        let file = punctuation();
+        let count = file.bytes.chunks(5).filter(|record| record[4] == 1).count();
+        assert_eq!((file.records, count), (773, 32));
+    }
+}

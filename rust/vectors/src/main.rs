@@ -1,0 +1,47 @@
+//! Writes the stored answers of the Rust reference for the text leaves of
+//! Reedsander, the checker of grade notes: `vectors OUTDIR`.
+//!
+//! The text files `utf8`, `white`, `lines`, `names` and `pipes` hold records
+//! of a length n (1 byte), a mask (2 bytes), answers (2 bytes) and n bytes of
+//! text. Bit k of the mask says that function k is to be compared, and bit k
+//! of the answers is what it answers; see `leaves` for the functions. The
+//! files `pairs`, `punctuation` and `parts` are described in `files`.
+
+#![forbid(unsafe_code)]
+
+mod files;
+mod leaves;
+mod texts;
+
+use std::{env, fs, path::Path, process::ExitCode};
+
+fn main() -> ExitCode {
+    let arguments: Vec<_> = env::args_os().skip(1).collect();
+    let [folder] = &arguments[..] else {
+        eprintln!("usage: vectors OUTDIR");
+        return ExitCode::FAILURE;
+    };
+    match write(Path::new(folder)) {
+        Ok(()) => ExitCode::SUCCESS,
+        Err(error) => {
+            eprintln!("vectors: {}: {error}", Path::new(folder).display());
+            ExitCode::FAILURE
+        }
+    }
+}
+
+/// Writes every file into `folder`, and prints a line for each.
+fn write(folder: &Path) -> std::io::Result<()> {
+    fs::create_dir_all(folder)?;
+    for file in files::all() {
+        assert!(file.bytes.len() <= files::LONGEST, "{} is long", file.name);
+        fs::write(folder.join(file.name), &file.bytes)?;
+        println!(
+            "{:<12} {:>7} records {:>8} bytes",
+            file.name,
+            file.records,
+            file.bytes.len()
+        );
+    }
+    Ok(())
+}
