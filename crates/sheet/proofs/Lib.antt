@@ -1,0 +1,9 @@
+pub mod RecordLaws
+pub mod PlaceLaws
+pub mod RefusalLaws
+pub mod OpenLaws
+pub mod Trees
+pub mod TagLaws
+pub mod AcceptLaws
+pub mod ReportLaws
+pub mod ReportExamples

@@ -1,0 +1,16 @@
+-- `sheet::fields::is_surrogate` meets its contract.
+use Rattle.sheet.specs.Fields.{isSurrogate}
+use borrow.Author.Needs.{needs}
+use Rattle.sheet.proofs.fields.is_surrogate.Statement.{statement}
+use Rattle.sheet.proofs.fields.is_surrogate.Tie as tie
+
+returns : tie.Need-returns
+unfolding isSurrogate
+returns c = cc
+
+pub is-surrogate-spec : {M : Type 1} → statement M
+is-surrogate-spec =
+    tie.close
+    (tie.spec
+    (λ c κs. search needs)
+    returns)

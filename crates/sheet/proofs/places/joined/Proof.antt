@@ -1,0 +1,19 @@
+-- `sheet::places::joined` meets its contract.
+use Prim.Native.Nat.{_<_}
+use Rattle.sheet.proofs.PlaceLaws.{few-tags, place-laws}
+use borrow.Author.Needs.{needs}
+use native.Mathlib.Omega.{arith}
+use Rattle.sheet.proofs.places.joined.Statement.{statement}
+use Rattle.sheet.proofs.places.joined.Tie as tie
+
+add-t6 : tie.Need-add-t6
+add-t6 c = let a = c .before .before .before .args in let few : a .o .tags < 2 = few-tags (a .o) (a .kind) (search needs) (search place-laws) in omega arith
+
+pub joined-spec : {M : Type 1} → statement M
+joined-spec =
+    tie.close
+    (tie.spec
+    (λ c κs. search place-laws)
+    add-t6
+    (λ c. search place-laws)
+    (λ c. search place-laws))

@@ -1,0 +1,19 @@
+-- `sheet::places::other_group` meets its contract.
+use Rattle.sheet.specs.Places.{otherGroup}
+use borrow.Author.Needs.{needs}
+use Rattle.sheet.proofs.places.other_group.Statement.{statement}
+use Rattle.sheet.proofs.places.other_group.Tie as tie
+
+returns : tie.Need-returns
+unfolding otherGroup
+returns c = cc
+
+pub other-group-spec : {M : Type 1} → statement M
+other-group-spec =
+    tie.close
+    (tie.spec
+    (λ c κs. search needs)
+    (λ c κs. search needs)
+    (λ c κs. search needs)
+    (λ c κs. search needs)
+    returns)

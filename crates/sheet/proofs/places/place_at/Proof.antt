@@ -1,0 +1,22 @@
+-- `sheet::places::place_at` meets its contract.
+use Rattle.sheet.proofs.PlaceLaws.{place-laws}
+use Rattle.sheet.specs.Places.{places}
+use mathlib.Core.Path.{refl}
+use Rattle.sheet.proofs.places.place_at.Statement.{statement}
+use Rattle.sheet.proofs.places.place_at.Tie as tie
+
+returns-3 : tie.Need-returns-3
+unfolding places
+returns-3 c = refl
+
+pub place-at-spec : {M : Type 1} → statement M
+place-at-spec =
+    tie.close
+    (tie.spec
+    (λ c. search place-laws)
+    (λ c. search place-laws)
+    (λ c. search place-laws)
+    (λ c. search place-laws)
+    (λ c. search place-laws)
+    (λ c. search place-laws)
+    returns-3)

@@ -1,0 +1,17 @@
+-- `sheet::places::place_of` meets its contract.
+use Rattle.sheet.specs.Places.{placeOf}
+use borrow.Author.Needs.{needs}
+use Rattle.sheet.proofs.places.place_of.Statement.{statement}
+use Rattle.sheet.proofs.places.place_of.Tie as tie
+
+returns : tie.Need-returns
+unfolding placeOf
+returns c = cc
+
+pub place-of-spec : {M : Type 1} → statement M
+place-of-spec =
+    tie.close
+    (tie.spec
+    (λ c κs. search needs)
+    (λ c κs. search needs)
+    returns)

@@ -1,0 +1,16 @@
+-- `sheet::records::kind_at` meets its contract.
+use Rattle.sheet.specs.Sheet.{recordAt}
+use borrow.Author.Needs.{needs}
+use Rattle.sheet.proofs.records.kind_at.Statement.{statement}
+use Rattle.sheet.proofs.records.kind_at.Tie as tie
+
+returns : tie.Need-returns
+unfolding recordAt
+returns c = cc
+
+pub kind-at-spec : {M : Type 1} → statement M
+kind-at-spec =
+    tie.close
+    (tie.spec
+    (λ c κs. search needs)
+    returns)

@@ -1,0 +1,18 @@
+-- `sheet::records::span_at` meets its contract.
+use Rattle.sheet.specs.Sheet.{recordAt}
+use borrow.Author.Needs.{needs}
+use Rattle.sheet.proofs.records.span_at.Statement.{statement}
+use Rattle.sheet.proofs.records.span_at.Tie as tie
+
+returns : tie.Need-returns
+unfolding recordAt
+returns c = cc
+
+pub span-at-spec : {M : Type 1} → statement M
+span-at-spec =
+    tie.close
+    (tie.spec
+    (λ c κs. search needs)
+    (λ c κs. search needs)
+    (λ c κs. search needs)
+    returns)

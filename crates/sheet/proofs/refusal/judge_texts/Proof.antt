@@ -1,0 +1,16 @@
+-- `sheet::refusal::judge_texts` meets its contract.
+use Rattle.sheet.proofs.RefusalLaws.{judging}
+use Rattle.sheet.proofs.refusal.judge_texts.Statement.{statement}
+use Rattle.sheet.proofs.refusal.judge_texts.Tie as tie
+
+pub judge-texts-spec : {M : Type 1} → statement M
+judge-texts-spec =
+    tie.close
+    (tie.spec
+    (λ c κs. search judging)
+    (λ c κs. search judging)
+    (λ c. search judging)
+    (λ c κs. search judging)
+    (λ c κs. search judging)
+    (λ c. search judging)
+    (λ c. search judging))

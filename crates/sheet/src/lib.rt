@@ -1,0 +1,7 @@
+// The sheet: its records, where they may stand, and which sheets are refused; and the report's entries.
+pub mod fields;
+pub mod kinds;
+pub mod places;
+pub mod records;
+pub mod refusal;
+pub mod report;
