@@ -18,7 +18,7 @@ use Rattle.sheet.specs.declared.refusal.Judged.the-variants.{Accepted, O
 use Rattle.sheet.proofs.OpenLaws.{or-first, or-second, Passed, passed}
 
 -- both are accepted where the first that is given is
-both-first : (j k : Judged) → isAccepted (orElse j k) ≡ true → isAccepted j ≡ true
+pub both-first : (j k : Judged) → isAccepted (orElse j k) ≡ true → isAccepted j ≡ true
 unfolding orElse
 both-first j k h = go (isAccepted j) refl
   where
@@ -26,7 +26,7 @@ both-first j k h = go (isAccepted j) refl
     go true e = e
     go false e = absurd (false≢true (sym e ∙ (rw e at h)))
 
-both-second : (j k : Judged) → isAccepted (orElse j k) ≡ true → isAccepted k ≡ true
+pub both-second : (j k : Judged) → isAccepted (orElse j k) ≡ true → isAccepted k ≡ true
 both-second j k h = rw (or-second j k (both-first j k h)) at h
 
 each-from : (w bytes : List ℕ) (k i m : ℕ) → m < k → isAccepted (judgeFrom w bytes k i) ≡ true → isAccepted (judgeAt w bytes (i + m)) ≡ true

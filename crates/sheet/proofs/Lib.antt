@@ -1,9 +1,13 @@
 pub mod RecordLaws
 pub mod PlaceLaws
+pub mod Trees
+pub mod SiblingLaws
 pub mod RefusalLaws
 pub mod OpenLaws
-pub mod Trees
 pub mod TagLaws
 pub mod AcceptLaws
+pub mod FormedLaws
+pub mod PlacedLaws
+pub mod ContainerLaws
 pub mod ReportLaws
 pub mod ReportExamples

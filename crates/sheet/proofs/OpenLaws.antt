@@ -21,7 +21,10 @@ use Rattle.sheet.specs.declared.records.Rec.{Rec}
 use Rattle.sheet.specs.declared.places.Open.{Open}
 use Rattle.sheet.specs.declared.refusal.Judged.{Judged}
 use Rattle.sheet.specs.declared.refusal.Judged.the-variants.{Accepted, OddSheet, LongSheet, LongText, UnknownKind, BadLevel, Misplaced, BadField, TextOutside, NotUtf8, TagsMissing}
+use Rattle.sheet.specs.Siblings.{gather}
+use Rattle.sheet.specs.Forest.{under, size}
 use Rattle.sheet.proofs.PlaceLaws.{or-left, or-right}
+use Rattle.sheet.proofs.SiblingLaws.{gather-kid, gather-next, gather-deeper, gather-past}
 
 -- ---- answers
 pub accepted-number : (j : Judged) {n : ℕ} → n ≡ numberOf j → eqb n 0 ≡ isAccepted j
@@ -105,7 +108,7 @@ pub record Kept (w : List ℕ) (i before : ℕ) (os : List Open) : Type 0 where
   pub each : (l : ℕ) → l ≤ before → getD os (l + 1) closed ≡ openAt w (l + 1) i
 
 pub kept-start : (w : List ℕ) {o : Open} → o ≡ opened 0 → Kept w 0 0 (replicate 66 o)
-unfolding levelBefore opened openAt
+unfolding levelBefore opened openAt gather
 kept-start w e =
     record {
       is = refl;
@@ -115,18 +118,28 @@ kept-start w e =
     }
 
 -- how the state of a level changes with one record more
+abbrev under-record : Rec → Open
+under-record r = opened (parentGroup (r .kind) (r .a))
+
+abbrev after-child : Open → Rec → Open
+after-child o r = joined o (r .kind)
+
 module _ (w : List ℕ) (i l : ℕ) where
   pub open-kid : recordAt w i .level ≡ l → openAt w (l + 1) (i + 1) ≡ opened (parentGroup (recordAt w i .kind) (recordAt w i .a))
   unfolding openAt
-  open-kid e = rw (add-one i, eq-eqb (recordAt w i .level + 1) (l + 1) (ap (λ n. n + 1) e))
+  open-kid = gather-kid (opened holdsBlocks) under-record after-child w i l
 
   pub open-same : recordAt w i .level ≡ l → openAt w l (i + 1) ≡ joined (openAt w l i) (recordAt w i .kind)
   unfolding openAt
-  open-same e = rw (add-one i, ne-eqb (recordAt w i .level + 1) l (λ f. absurd (omega arith)), eq-eqb (recordAt w i .level) l e)
+  open-same = gather-next (opened holdsBlocks) under-record after-child w i l
 
   pub open-above : l < recordAt w i .level → openAt w l (i + 1) ≡ openAt w l i
   unfolding openAt
-  open-above h = rw (add-one i, ne-eqb (recordAt w i .level + 1) l (λ f. absurd (omega arith)), ne-eqb (recordAt w i .level) l (λ f. absurd (omega arith)))
+  open-above = gather-deeper (opened holdsBlocks) under-record after-child w i l
+
+pub open-past : (w : List ℕ) (n m s j : ℕ) → size (under w n j m) ≡ s → openAt w m (j + s) ≡ openAt w m j
+unfolding openAt
+open-past w n m s j = gather-past (opened holdsBlocks) under-record after-child w n m s j
 
 -- the record at i is judged by what is kept of its level
 module _ (w bytes : List ℕ) (i before : ℕ) (os : List Open) (k : Kept w i before os) where

@@ -25,7 +25,7 @@ use Rattle.sheet.proofs.OpenLaws.{or-first, or-second, Passed, passed, 
 use Rattle.sheet.proofs.Trees.{under-end, under-out, under-in}
 
 -- ---- what may stand in a container, by the table
-container-group : (a : ℕ) → (eqb (parentGroup htmlContainer a) 7 || eqb (parentGroup htmlContainer a) 8) ≡ true
+pub container-group : (a : ℕ) → (eqb (parentGroup htmlContainer a) 7 || eqb (parentGroup htmlContainer a) 8) ≡ true
 unfolding parentGroup otherGroup
 container-group a = go (eqb a 0) refl
   where
@@ -34,7 +34,7 @@ container-group a = go (eqb a 0) refl
     go false e = rw e
 
 -- under a container with fewer than two tags only a tag is not misplaced
-container-tag : (o : Open) (k : ℕ) → (eqb (o .group) 7 || eqb (o .group) 8) ≡ true → ltb (o .tags) 2 ≡ true → misplaced o k ≡ false → eqb k htmlTag ≡ true
+pub container-tag : (o : Open) (k : ℕ) → (eqb (o .group) 7 || eqb (o .group) 8) ≡ true → ltb (o .tags) 2 ≡ true → misplaced o k ≡ false → eqb k htmlTag ≡ true
 unfolding misplaced
 container-tag o k c t h =
     let place = placeOf (o .group) k in
@@ -47,7 +47,7 @@ zeros (suc n) zero = refl
 zeros (suc n) (suc c) = zeros n c
 
 -- nothing may stand under a tag
-nothing-under : (a k : ℕ) → misplaced (opened (parentGroup htmlTag a)) k ≡ false → ⊥
+pub nothing-under : (a k : ℕ) → misplaced (opened (parentGroup htmlTag a)) k ≡ false → ⊥
 unfolding misplaced opened parentGroup otherGroup placeOf places
 nothing-under a k h = true≢false (rw (zeros 7 (childGroup k)) at h)
 

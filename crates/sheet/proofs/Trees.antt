@@ -1,7 +1,7 @@
 -- Laws of the forest: how a walk by index moves over it.
 use mathlib.Core.Path.{_≡_, refl, ap, sym, _∙_}
 use mathlib.Core.Bool.{Bool, true, false}
-use mathlib.Core.List.{List, [], _∷_, _++_}
+use mathlib.Core.List.{List, [], _∷_, _++_, append-assoc}
 use Prim.Native.Nat.{ℕ, zero, suc, _+_, _*_, _-_, _≤_, _<_}
 use native.Mathlib.Omega.{arith}
 use native.Mathlib.Nat.{zero-add, add-zero, sub-zero, sub-add-eq}
@@ -9,7 +9,7 @@ use native.Mathlib.Numerals.{add-one}
 use Rattle.sheet.specs.Sheet.{recordAt}
 use lib.Dec.{ltb}
 use borrow.Author.Tests.{ltb-true, ltb-false, lt-ltb, le-ltb}
-use Rattle.sheet.specs.Forest.{Forest, none, tree, deeper, past, grow, forestAt, under, size, recordsIn}
+use Rattle.sheet.specs.Forest.{Forest, none, tree, deeper, past, grow, forestAt, under, size, recordsIn, recordsFrom}
 use Rattle.sheet.specs.declared.records.Rec.{Rec}
 use Rattle.leaves.specs.Lists.{if_then_else_}
 
@@ -153,3 +153,18 @@ module _ (w : List ℕ) (n i : ℕ) where
   pub size-end : (l : ℕ) → n ≤ i → size (under w n i l) ≡ 0
   unfolding size
   size-end l h = ap size (under-end l h)
+
+-- ---- the flat list again: a tree holds its record, then the records under it, then those of the siblings after it
+flat-split : (l : ℕ) (f : Forest) → recordsIn (deeper l f) ++ recordsIn (past l f) ≡ recordsIn f
+unfolding past deeper recordsIn
+flat-split l none = refl
+flat-split l (tree r kids rest) = go (ltb l (r .level)) refl (flat-split l rest)
+  where
+    go : (b : Bool) → ltb l (r .level) ≡ b → recordsIn (deeper l rest) ++ recordsIn (past l rest) ≡ recordsIn rest → recordsIn (deeper l (tree r kids rest)) ++ recordsIn (past l (tree r kids rest)) ≡ recordsIn (tree r kids rest)
+    go true e ih = rw e (ap (_∷_ r) (append-assoc (recordsIn kids) (recordsIn (deeper l rest)) (recordsIn (past l rest)) ∙ ap (_++_ (recordsIn kids)) ih))
+    go false e ih = rw e
+
+pub flat-forest : (w : List ℕ) (k i : ℕ) → recordsIn (forestAt w k i) ≡ recordsFrom w k i
+unfolding forestAt grow recordsIn recordsFrom
+flat-forest w zero i = refl
+flat-forest w (suc k) i = ap (_∷_ (recordAt w i)) (flat-split (recordAt w i .level) (forestAt w k (suc i)) ∙ flat-forest w k (suc i))

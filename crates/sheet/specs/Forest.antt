@@ -57,3 +57,8 @@ countKind k (tree r kids rest) = if eqb (r .kind) k then suc (countKind k rest) 
 unfoldable pub recordsIn : Forest → List Rec
 recordsIn none = []
 recordsIn (tree r kids rest) = r ∷ recordsIn kids ++ recordsIn rest
+
+-- k records from record i on
+unfoldable pub recordsFrom : List ℕ → ℕ → ℕ → List Rec
+recordsFrom w zero i = []
+recordsFrom w (suc k) i = recordAt w i ∷ recordsFrom w k (suc i)

@@ -1,7 +1,9 @@
 pub mod Kinds
 pub mod Sheet
+pub mod Siblings
 pub mod Forest
 pub mod Places
 pub mod Fields
 pub mod Refusal
+pub mod Formed
 pub mod Report

@@ -6,7 +6,7 @@ use lib.Dec.{eqb, ltb, leb}
 use lib.ListN.{getD}
 use Rattle.leaves.specs.Lists.{if_then_else_}
 use Rattle.sheet.specs.Kinds.{among, isBlock, paragraph, heading, blockQuote, alert, list, htmlContainer, footnoteDefinition, table, leafDirective, containerDirective, item, row, cell, htmlTag, attribute, emphasis, strong, delete, mark, link, image, linkReference, imageReference, inlineFootnote, textDirective}
-use Rattle.sheet.specs.Sheet.{recordAt}
+use Rattle.sheet.specs.Siblings.{gather}
 use Rattle.sheet.specs.declared.records.Rec.{Rec}
 use Rattle.sheet.specs.declared.places.Open.{Open}
 
@@ -131,15 +131,6 @@ misplaced o kind =
     let container = eqb (o .group) holdsTagsAndBlocks || eqb (o .group) holdsTagsAndInlines in
     eqb place 0 || ltb place (o .stage) || eqb kind htmlTag && leb 2 (o .tags) || container && not (eqb kind htmlTag) && ltb (o .tags) 2
 
--- The same of a record's own words. Of the records before i, the nearest one level up is the parent; without one the parent is the sheet, which holds blocks.
--- The earlier children are those of the same level since then.
+-- The same of a record's own words: the sheet itself holds blocks.
 unfoldable pub openAt : List ℕ → ℕ → ℕ → Open
-openAt w level zero = opened holdsBlocks
-openAt w level (suc i) =
-    let before = openAt w level i in
-    let r = recordAt w i in
-    if eqb (r .level + 1) level
-    then opened (parentGroup (r .kind) (r .a))
-    else if eqb (r .level) level
-    then joined before (r .kind)
-    else before
+openAt w level i = gather (opened holdsBlocks) (λ r. opened (parentGroup (r .kind) (r .a))) (λ o r. joined o (r .kind)) w level i

@@ -1,0 +1,33 @@
+-- What stands before a record under its parent.
+use mathlib.Core.List.{List}
+use Prim.Native.Nat.{ℕ, zero, suc, _+_}
+use lib.Dec.{eqb}
+use mathlib.Core.Bool.{Bool}
+use Rattle.leaves.specs.Bytes.{between}
+use Rattle.leaves.specs.Lists.{if_then_else_}
+use Rattle.sheet.specs.Sheet.{recordAt}
+use Rattle.sheet.specs.declared.records.Rec.{Rec}
+
+-- Of the records before record i, the nearest that is one level above `level` is the parent (document 01: "Parent: nearest earlier record one level up"), and those of `level` since then are the earlier children.
+-- Gathered from left to right: `sheet` where no record is the parent, `first` at a parent, and `next` at each earlier child.
+unfoldable pub gather : {A : Type 0} → A → (Rec → A) → (A → Rec → A) → List ℕ → ℕ → ℕ → A
+gather sheet first next w level zero = sheet
+gather sheet first next w level (suc i) =
+    let before = gather sheet first next w level i in
+    let r = recordAt w i in
+    if eqb (r .level + 1) level
+    then first r
+    else if eqb (r .level) level
+    then next before r
+    else before
+
+-- Document 01: "Path indices count blocks, items, rows and cells only."
+abbrev pub isCounted : ℕ → Bool
+isCounted kind = between 1 22 kind
+
+abbrev pub counting : ℕ → Rec → ℕ
+counting p r = if isCounted (r .kind) then suc p else p
+
+-- how many blocks, items, rows and cells stand before record i under the same parent, where its level is `level`
+unfoldable pub positionAt : List ℕ → ℕ → ℕ → ℕ
+positionAt w level i = gather 0 (λ r. 0) counting w level i
