@@ -12,7 +12,8 @@ use lib.ListN.{length}
 use Rattle.leaves.specs.Lists.{if_then_else_}
 use Rattle.sheet.specs.Sheet.{recordAt, recordWords, recordsOf}
 use Rattle.sheet.specs.Places.{openAt}
-use Rattle.sheet.specs.Refusal.{mostRecords, mostBytes, isAccepted, orElse, levelBefore, judge, judgeAt, judgeFrom, tagsFrom, lacksTags, judgeSheet, Placed, Containers}
+use Rattle.sheet.specs.Refusal.{mostRecords, mostBytes, isAccepted, orElse, levelBefore, judge, judgeAt, judgeFrom, tagsFrom, lacksTags, judgeSheet}
+use Rattle.sheet.specs.Judging.{Placed, Containers}
 use Rattle.sheet.specs.declared.refusal.Judged.{Judged}
 use Rattle.sheet.specs.declared.refusal.Judged.the-variants.{Accepted, OddSheet, LongSheet, LongText, TagsMissing}
 use Rattle.sheet.proofs.OpenLaws.{or-first, or-second, Passed, passed}

@@ -16,7 +16,8 @@ use Rattle.sheet.specs.Sheet.{recordAt, recordWords, recordsOf}
 use Rattle.sheet.specs.Forest.{Forest, none, tree, forestAt, forestOf, under, size, countKind}
 use Rattle.sheet.specs.Places.{holdsBlocks, parentGroup, opened, joined, misplaced, openAt}
 use Rattle.sheet.specs.Fields.{textOf, textOutside, textIllFormed}
-use Rattle.sheet.specs.Refusal.{mostRecords, mostBytes, isAccepted, orElse, levelBefore, judgeFrom, tagsFrom, lacksTags, judgeSheet, Placed}
+use Rattle.sheet.specs.Refusal.{mostRecords, mostBytes, isAccepted, orElse, levelBefore, judgeFrom, tagsFrom, lacksTags, judgeSheet}
+use Rattle.sheet.specs.Judging.{Placed}
 use Rattle.sheet.specs.Formed.{Named, Head, Formed, Sound}
 use Rattle.sheet.specs.declared.records.Rec.{Rec}
 use Rattle.sheet.specs.declared.records.Text.{Text}

@@ -16,7 +16,8 @@ use Rattle.sheet.specs.Kinds.{isKind}
 use Rattle.sheet.specs.Sheet.{recordAt, recordWords}
 use Rattle.sheet.specs.Places.{holdsBlocks, parentGroup, opened, joined, misplaced, openAt}
 use Rattle.sheet.specs.Fields.{badField, textOutside, textIllFormed}
-use Rattle.sheet.specs.Refusal.{numberOf, isAccepted, orElse, slotOf, Slot, levelBefore, badLevel, judgeTexts, judge, judgeAt, judgeFrom}
+use Rattle.sheet.specs.Refusal.{numberOf, isAccepted, orElse, levelBefore, badLevel, judgeTexts, judge, judgeAt, judgeFrom}
+use Rattle.sheet.specs.Judging.{slotOf, Slot}
 use Rattle.sheet.specs.declared.records.Rec.{Rec}
 use Rattle.sheet.specs.declared.places.Open.{Open}
 use Rattle.sheet.specs.declared.refusal.Judged.{Judged}

@@ -15,7 +15,8 @@ use Rattle.sheet.specs.Kinds.{htmlContainer, htmlTag}
 use Rattle.sheet.specs.Sheet.{recordAt, recordWords}
 use Rattle.sheet.specs.Forest.{Forest, none, tree, under, size, countKind}
 use Rattle.sheet.specs.Places.{parentGroup, otherGroup, childGroup, places, placeOf, opened, joined, misplaced, openAt}
-use Rattle.sheet.specs.Refusal.{isAccepted, orElse, levelBefore, badLevel, judge, judgeAt, judgeFrom, lacksTags, tagsFrom, Placed, tagUnder}
+use Rattle.sheet.specs.Refusal.{isAccepted, orElse, levelBefore, badLevel, judge, judgeAt, judgeFrom, lacksTags, tagsFrom}
+use Rattle.sheet.specs.Judging.{Placed, tagUnder}
 use Rattle.sheet.specs.declared.records.Rec.{Rec}
 use Rattle.sheet.specs.declared.places.Open.{Open}
 use Rattle.sheet.specs.declared.refusal.Judged.{Judged}

@@ -5,5 +5,6 @@ pub mod Forest
 pub mod Places
 pub mod Fields
 pub mod Refusal
+pub mod Judging
 pub mod Formed
 pub mod Report

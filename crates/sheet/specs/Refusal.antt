@@ -1,9 +1,8 @@
 -- Which sheets are refused, with which number and record. Document 01, 'The call': "Order: 1, 2, 3; then 4 to 9 record by record; then 10 over all records, giving the first such container".
-use mathlib.Core.Path.{_≡_}
-use Prim.Native.Nat.{ℕ, zero, suc, _+_, _*_, _%_, _<_, _≤_}
+use Prim.Native.Nat.{ℕ, zero, suc, _+_, _%_}
 use mathlib.Core.Bool.{Bool, true, false, not, _&&_, _||_}
 use mathlib.Core.List.{List}
-use lib.Dec.{eqb, ltb, leb}
+use lib.Dec.{eqb, ltb}
 use lib.ListN.{length}
 use Rattle.leaves.specs.Lists.{if_then_else_}
 use Rattle.sheet.specs.Kinds.{isKind, htmlContainer, htmlTag}
@@ -117,29 +116,6 @@ lacksTags w n i = eqb (recordAt w i .kind) htmlContainer && ltb (countKind htmlT
 unfoldable pub tagsFrom : List ℕ → ℕ → ℕ → ℕ → Judged
 tagsFrom w n zero i = Accepted
 tagsFrom w n (suc k) i = let later = tagsFrom w n k (suc i) in if lacksTags w n i then TagsMissing i else later
-
--- every record passes the tests 5 and 6
-pub record Placed (w : List ℕ) (n : ℕ) : Type 0 where
-  pub level : (i : ℕ) → i < n → badLevel (levelBefore w i) (recordAt w i .level) ≡ false
-  pub place : (i : ℕ) → i < n → misplaced (openAt w (recordAt w i .level) i) (recordAt w i .kind) ≡ false
-
--- n placed records that the sheet holds
-pub record Containers (w : List ℕ) (n : ℕ) : Type 0 where
-  pub whole : n * recordWords ≤ length w
-  pub few : n ≤ mostRecords
-  pub placed : Placed w n
-
--- record i is there, is an HTML tag, and is deeper than a level
-unfoldable pub tagUnder : List ℕ → ℕ → ℕ → ℕ → Bool
-tagUnder w n i l = ltb i n && (eqb (recordAt w i .kind) htmlTag && ltb l (recordAt w i .level))
-
--- where the code keeps what stands before a record of a level; 0 where the level is none
-abbrev pub slotOf : ℕ → ℕ
-slotOf level = if leb level mostLevel then level else 0
-
-pub record Slot (level slot : ℕ) : Type 0 where
-  pub is : slot ≡ slotOf level
-  pub most : slot ≤ mostLevel
 
 -- The answer for a sheet and its text.
 unfoldable pub judgeSheet : List ℕ → List ℕ → Judged
