@@ -11,3 +11,4 @@ pub mod PlacedLaws
 pub mod ContainerLaws
 pub mod ReportLaws
 pub mod ReportExamples
+pub mod SheetExamples
