@@ -1,5 +1,7 @@
-// Replays the stored answers of the Rust in data/ (rust/vectors writes them) and counts what differs.
+// Replays the stored answers in data/ (rust/vectors writes them) and counts what differs: the Rust's for the text
+// leaves, and those of a plain reading of document 01 for the refusals.
 mod read;
+mod sheets;
 mod tally;
 mod texts;
 mod values;
@@ -26,6 +28,7 @@ enum Format {
     Pairs,
     Punctuation,
     Parts,
+    Sheets,
 }
 
 // A file that cannot be opened counts as one difference.
@@ -43,6 +46,7 @@ fn replay(name: &[u8], format: Format, total: Tally) -> Tally {
         Format::Pairs => values::replay_pairs(&buffer[..n]),
         Format::Punctuation => values::replay_punctuation(&buffer[..n]),
         Format::Parts => values::replay_parts(&buffer[..n]),
+        Format::Sheets => sheets::replay(&buffer[..n]),
     };
     write_line(name, found);
     total.with(found)
@@ -59,5 +63,6 @@ fn main() {
     total = replay(b"pairs", Format::Pairs, total);
     total = replay(b"punctuation", Format::Punctuation, total);
     total = replay(b"parts", Format::Parts, total);
+    total = replay(b"sheets", Format::Sheets, total);
     write_line(b"all", total);
 }

@@ -1,5 +1,5 @@
 // Numbers of a stored file, least byte first; past its end every byte is 0.
-ghost use Prim.Native.Nat.{_<_};
+ghost use Prim.Native.Nat.{_<_, _≤_, _^_};
 
 pub fn byte(s: &[u8], at: usize) -> u8 {
     if at < s.len() { s[at] } else { 0 }
@@ -17,8 +17,15 @@ pub fn size(b: u8) -> usize
     b as usize
 }
 
-pub fn number(s: &[u8], at: usize) -> u32
+pub fn pair(s: &[u8], at: usize) -> usize
     requires { ⌜ at < 256 ⌝ }
+    ensures { λ r. ⌜ r ≤ 65535 ⌝ }
+{
+    size(byte(s, at)) + size(byte(s, at + 1)) * 0x100
+}
+
+pub fn number(s: &[u8], at: usize) -> u32
+    requires { ⌜ at < 2 ^ 63 ⌝ }
 {
     wide(byte(s, at))
         + wide(byte(s, at + 1)) * 0x100

@@ -26,10 +26,12 @@ mod decode;
 mod gemoji;
 mod messages;
 mod parse;
+mod refusal;
 mod serialize;
 mod swar;
 
 pub use messages::{rule, DROPPED, KEPT};
+pub use refusal::{refusal, RECORD_WORDS};
 
 /// The list of the reference for `document`, entire: diagnostics of dropped
 /// messages are among it.

@@ -4,11 +4,12 @@ use std::collections::HashSet;
 
 use crate::{
     leaves::answers,
+    sheets,
     texts::{self, strings},
 };
 
-/// No file is longer.
-pub const LONGEST: usize = 1_000_000;
+/// No file is longer: the program that replays them reads so many bytes.
+pub const LONGEST: usize = 262_144;
 
 /// One stored file.
 #[derive(PartialEq, Eq, Debug)]
@@ -47,6 +48,7 @@ pub fn all() -> Vec<File> {
         pairs(),
         punctuation(),
         parts(),
+        sheets(),
     ]
 }
 
@@ -161,6 +163,27 @@ fn parts() -> File {
                 part,
             ]);
         }
+    }
+    file
+}
+
+/// How many words (2 bytes), how many text bytes (2), the refusal's number (1)
+/// and record (2), the words (4 bytes each), the text.
+fn sheets() -> File {
+    let mut file = File::new("sheets");
+    for (words, text) in sheets::all() {
+        let (number, record) = oracle::refusal(&words, &text);
+        let bytes: Vec<u8> = words.iter().flat_map(|word| word.to_le_bytes()).collect();
+        file.record(&[
+            &u16::try_from(words.len()).expect("few words").to_le_bytes(),
+            &u16::try_from(text.len())
+                .expect("a short text")
+                .to_le_bytes(),
+            &[number as u8],
+            &u16::try_from(record).expect("few records").to_le_bytes(),
+            &bytes,
+            &text,
+        ]);
     }
     file
 }

@@ -1,16 +1,17 @@
-//! Writes the stored answers of the Rust reference for the text leaves of
-//! Reedsander, the checker of grade notes: `vectors OUTDIR`.
+//! Writes the stored answers of the Rust reference for the text leaves, and of a
+//! plain reading of document 01 for the refusals, of Reedsander, the checker of grade notes: `vectors OUTDIR`.
 //!
 //! The text files `utf8`, `white`, `lines`, `names` and `pipes` hold records
 //! of a length n (1 byte), a mask (2 bytes), answers (2 bytes) and n bytes of
 //! text. Bit k of the mask says that function k is to be compared, and bit k
 //! of the answers is what it answers; see `leaves` for the functions. The
-//! files `pairs`, `punctuation` and `parts` are described in `files`.
+//! files `pairs`, `punctuation`, `parts` and `sheets` are described in `files`.
 
 #![forbid(unsafe_code)]
 
 mod files;
 mod leaves;
+mod sheets;
 mod texts;
 
 use std::{env, fs, path::Path, process::ExitCode};

@@ -1,0 +1,67 @@
+// Sheets with the refusal that a plain reading of document 01 gives each.
+ghost use Prim.Native.Nat.{_≤_};
+use crate::read;
+use crate::tally::Tally;
+use crate::texts;
+use sheet::refusal::Judged;
+
+// How many bytes stand before a record's words: two counts, the number, and its record.
+const HEAD: usize = 7;
+
+// The words of a sheet from their bytes.
+fn fill(words: &mut [u32], s: &[u8]) {
+    let mut k: usize = 0;
+    while k < words.len() {
+        words[k] = read::number(s, k * 4);
+        k = k + 1;
+    }
+}
+
+fn words_of(r: &[u8]) -> usize
+    ensures { λ n. ⌜ n ≤ 65535 ⌝ }
+{
+    read::pair(r, 0)
+}
+
+fn text_bytes_of(r: &[u8]) -> usize
+    ensures { λ n. ⌜ n ≤ 65535 ⌝ }
+{
+    read::pair(r, 2)
+}
+
+// The answer for a stored sheet, whose words are brought to `words`; none where they do not fit.
+fn judged(words: &mut [u32], r: &[u8]) -> Judged {
+    let n = words_of(r);
+    fill(words, leaves::part::part(r, HEAD, n * 4));
+    let text = leaves::part::part(r, HEAD + n * 4, text_bytes_of(r));
+    if words.len() < n {
+        return Judged::Accepted;
+    }
+    sheet::refusal::accept(&words[..n], text)
+}
+
+// Both the number and the record of the answer are compared.
+fn replay_record(r: &[u8], tally: Tally) -> Tally {
+    let mut words = [0u32; 800];
+    let answer = judged(&mut words, r);
+    let number = sheet::refusal::number_of(answer) as usize;
+    let record = sheet::refusal::record_of(answer);
+    let fits = words_of(r) <= 800;
+    let expected = read::size(read::byte(r, 4));
+    tally
+        .record()
+        .compare(fits & (number == expected))
+        .compare(fits & (record == read::pair(r, 5)))
+}
+
+pub fn replay(s: &[u8]) -> Tally {
+    let mut tally = Tally::none();
+    let mut at: usize = 0;
+    while at < s.len() {
+        let head = leaves::part::part(s, at, HEAD);
+        let n = HEAD + words_of(head) * 4 + text_bytes_of(head);
+        tally = replay_record(leaves::part::part(s, at, n), tally);
+        at = at + n;
+    }
+    texts::ended(at == s.len(), tally)
+}
