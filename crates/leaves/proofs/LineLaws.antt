@@ -7,11 +7,11 @@ use native.Mathlib.Omega.{arith}
 use lib.Dec.{eqb}
 use lib.ListN.{length, getD, drop, drop-of-length-le}
 use borrow.Author.Tests.{eqb-true}
-use Rattle.leaves.specs.Bytes.{cr, lf, isBlankByte, isLineEndingByte}
+use Rattle.leaves.specs.Bytes.{tab, lf, cr, space, isBlankByte, isLineEndingByte}
 use Rattle.leaves.specs.Lists.{if_then_else_, all, firstOr, lastOr}
 use Rattle.leaves.specs.Lines.{startsWith, longer, isCrOfCrlf, lines, isBlank, hasBlankEdgeLine}
-use Rattle.leaves.specs.Scans.{lastBlank}
-use Rattle.leaves.proofs.Scan.{next}
+use Rattle.leaves.specs.Scans.{lastBlank, Led}
+use Rattle.leaves.proofs.Scan.{At, next}
 use Rattle.leaves.proofs.Scan.{scan}
 
 module _ (b : ℕ) (s : List ℕ) where
@@ -43,6 +43,14 @@ no-cr b s e = rw (or-right (eqb b lf) (eqb b cr) e)
 lf-no-cr : (b : ℕ) (s : List ℕ) → eqb b lf ≡ true → isCrOfCrlf b s ≡ false
 unfolding isCrOfCrlf
 lf-no-cr b s e = rw (eqb-true b lf e)
+
+-- and a blank byte is no line ending
+blank-holds : (b : ℕ) → isBlankByte b ≡ true → isLineEndingByte b ≡ false
+blank-holds b e = go (eqb b space) refl
+  where
+    go : (t : Bool) → eqb b space ≡ t → isLineEndingByte b ≡ false
+    go true p = rw (eqb-true b space p)
+    go false p = rw (eqb-true b tab (rw p at e))
 
 -- ---- the first line
 unfoldable pub firstBlank : List ℕ → Bool
@@ -132,14 +140,59 @@ pub last-none : (last blank : Bool) → last ≡ lastBlank last blank []
 unfolding lastBlank
 last-none last blank = refl
 
--- ---- either
-pub edge-first : (s : List ℕ) {r : Bool} → r ≡ isBlank (firstOr [] (lines s)) → r ≡ true → r ≡ hasBlankEdgeLine s
-unfolding hasBlankEdgeLine
-edge-first s e y = y ∙ rw (← e, y)
+-- ---- the bytes before the first that is not blank
+-- a blank byte changes neither
+last-blank : (b : ℕ) (s : List ℕ) {r : Bool} → r ≡ isBlankByte b → r ≡ true → lastBlank true true (b ∷ s) ≡ lastBlank true true s
+unfolding lastBlank
+last-blank b s e y =
+    let n : isLineEndingByte b ≡ false = blank-holds b (sym e ∙ y) in
+    rw (no-cr b s n, n, ← e, y)
 
-pub edge-last : (s : List ℕ) {r q : Bool} → r ≡ isBlank (firstOr [] (lines s)) → r ≡ false → q ≡ isBlank (lastOr [] (lines s)) → q ≡ hasBlankEdgeLine s
-unfolding hasBlankEdgeLine
-edge-last s e n f = f ∙ rw (← e, n)
+pub record Leading (s : List ℕ) (i : ℕ) : Type 0 where
+  pub within : i ≤ length s
+  pub first : isBlank (firstOr [] (lines s)) ≡ firstBlank (drop i s)
+  pub last : isBlank (lastOr [] (lines s)) ≡ lastBlank true true (drop i s)
+
+pub leading-start : (s : List ℕ) → Leading s 0
+unfolding firstBlank
+leading-start s = record { within = omega arith; first = refl; last = last-line s }
+
+module _ (s : List ℕ) (i : ℕ) (h : i < length s) (v : Leading s i) {r : Bool} (e : r ≡ isBlankByte (getD s i 0)) where
+  pub leading-turn : r ≡ true → Leading s (i + 1)
+  leading-turn y =
+      let n : isLineEndingByte (getD s i 0) ≡ false = blank-holds (getD s i 0) (sym e ∙ y) in
+      record {
+        within = omega arith;
+        first = v .first ∙ ap firstBlank (next s i h) ∙ first-blank (getD s i 0) (drop (i + 1) s) refl n e y;
+        last = v .last ∙ ap (lastBlank true true) (next s i h) ∙ last-blank (getD s i 0) (drop (i + 1) s) e y;
+      }
+
+  pub leading-stop : r ≡ false → Led s i
+  unfolding firstBlank
+  leading-stop n = record { within = v .within; first = v .first; last = v .last; solid = λ g. sym e ∙ n }
+
+pub leading-end : (s : List ℕ) (i : ℕ) → length s ≤ i → Leading s i → Led s i
+unfolding firstBlank
+leading-end s i h v = record { within = v .within; first = v .first; last = v .last; solid = λ g. absurd (omega arith) }
+
+-- ---- either line
+module _ (s : List ℕ) (at : ℕ) (v : Led s at) where
+  either : (t : Bool) → firstBlank (drop at s) ≡ t → hasBlankEdgeLine s ≡ (t || lastBlank true true (drop at s))
+  unfolding hasBlankEdgeLine firstBlank
+  either t e = rw (v .first, v .last, e)
+
+  pub edge-none : length s ≤ at → true ≡ hasBlankEdgeLine s
+  edge-none h = sym (either true (rw (drop-of-length-le s {i = at} h) (sym first-none)))
+
+  pub edge-first : {r : Bool} → at < length s → r ≡ isLineEndingByte (getD s at 0) → r ≡ true → true ≡ hasBlankEdgeLine s
+  edge-first h e y = sym (either true (rw (next s at h) (sym (first-ends (getD s at 0) (drop (at + 1) s) e y))))
+
+  pub edge-last : {r q : Bool} → at < length s → r ≡ isLineEndingByte (getD s at 0) → r ≡ false → q ≡ lastBlank true true (drop at s) → q ≡ hasBlankEdgeLine s
+  edge-last h e n f = f ∙ sym (either false (rw (next s at h) (sym (first-solid (getD s at 0) (drop (at + 1) s) e n refl (v .solid h)))))
+
+-- a loop that begins at `from`
+pub from-at : (s : List ℕ) (i : ℕ) → i ≤ length s → At (lastBlank true true (drop i s)) (lastBlank true true) s i
+from-at s i h = record { within = h; same = refl }
 
 -- ---- the CR of a CRLF
 pub crlf-short : (s : List ℕ) (i : ℕ) → length s ≤ i + 1 → false ≡ isCrOfCrlf (getD s i 0) (drop (i + 1) s)
@@ -150,4 +203,4 @@ pub crlf-long : (s : List ℕ) (i : ℕ) → i + 1 < length s → (eqb (getD s i
 unfolding isCrOfCrlf startsWith
 crlf-long s i h = rw (next s (i + 1) h)
 
-pub ruleset line-laws = (first-ends, first-blank, first-solid, first-none, last-turn, last-none, edge-first, edge-last, crlf-short, crlf-long, scan)
+pub ruleset line-laws = (last-turn, last-none, leading-start, leading-turn, leading-stop, leading-end, edge-none, edge-first, edge-last, from-at, crlf-short, crlf-long, scan)

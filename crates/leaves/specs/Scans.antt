@@ -4,10 +4,10 @@ use Prim.Native.Nat.{ℕ, zero, suc, _-_, _<_, _≤_}
 use mathlib.Core.Bool.{Bool, true, false, not, _&&_, _||_}
 use mathlib.Core.List.{List, [], _∷_}
 use lib.Dec.{eqb, leb}
-use lib.ListN.{length, getD}
+use lib.ListN.{length, getD, drop}
 use Rattle.leaves.specs.Bytes.{hyphen, backtick, dollar, isBlankByte, isLineEndingByte}
-use Rattle.leaves.specs.Lists.{if_then_else_}
-use Rattle.leaves.specs.Lines.{isCrOfCrlf, startsWith}
+use Rattle.leaves.specs.Lists.{if_then_else_, firstOr, lastOr}
+use Rattle.leaves.specs.Lines.{isCrOfCrlf, startsWith, lines, isBlank}
 use Rattle.leaves.specs.Math.{holdsBacktickDollar}
 use Rattle.leaves.specs.Names.{beginsRun, continuesRun}
 use Rattle.leaves.specs.Utf8.{Range, within, trail, follow, table}
@@ -22,6 +22,13 @@ lastBlank last blank (b ∷ s) =
     (if isCrOfCrlf b s then last else if isLineEndingByte b then blank else held)
     (if isCrOfCrlf b s then blank else isLineEndingByte b || held)
     s
+
+-- only spaces and tabs stand before `at`, and none at it: the first and the last line are as blank from there on
+pub record Led (s : List ℕ) (at : ℕ) : Type 0 where
+  pub within : at ≤ length s
+  pub first : isBlank (firstOr [] (lines s)) ≡ isBlank (firstOr [] (lines (drop at s)))
+  pub last : isBlank (lastOr [] (lines s)) ≡ lastBlank true true (drop at s)
+  pub solid : at < length s → isBlankByte (getD s at 0) ≡ false
 
 -- how many bytes of a fence are still to come in the line, after b; 4: the line is no fence
 unfoldable pub fenceLeft : ℕ → ℕ → ℕ → ℕ

@@ -1,10 +1,10 @@
 // Lines and line endings.
 ghost use mathlib.Core.Path.{_≡_};
-ghost use Prim.Native.Nat.{_+_, _<_};
-ghost use mathlib.Core.List.{[]};
+ghost use Prim.Native.Nat.{_+_, _<_, _≤_};
+ghost use mathlib.Core.Bool.{true};
 ghost use lib.ListN.{length, getD, drop};
-ghost use Rattle.leaves.specs.Lists.{firstOr, lastOr};
-ghost use Rattle.leaves.specs.Lines.{holdsLineEnding, isBlank, isCrOfCrlf, lines, hasBlankEdgeLine};
+ghost use Rattle.leaves.specs.Lines.{holdsLineEnding, isBlank, isCrOfCrlf, hasBlankEdgeLine};
+ghost use Rattle.leaves.specs.Scans.{lastBlank, Led};
 use crate::bytes;
 use crate::bytes::CR;
 use crate::bytes::LF;
@@ -47,30 +47,29 @@ pub fn is_cr_of_crlf(s: &[u8], i: usize) -> bool
     (s[i] == CR) & (s[next] == LF)
 }
 
-fn first_line_is_blank(s: &[u8]) -> bool
-    ensures { λ r. ⌜ r ≡ isBlank (firstOr [] (lines (now (s .entry)))) ⌝ }
+// Where the first byte stands that is no space and no tab; the length where there is none.
+fn leading_blanks(s: &[u8]) -> usize
+    ensures { λ r. ⌜ Led (now (s .entry)) r ⌝ }
 {
     let mut i: usize = 0;
     while i < s.len() {
-        let b = s[i];
-        if bytes::is_line_ending_byte(b) {
-            return true;
-        }
-        if !bytes::is_blank_byte(b) {
-            return false;
+        if !bytes::is_blank_byte(s[i]) {
+            return i;
         }
         i = i + 1;
     }
-    true
+    i
 }
 
+// Whether the last line of what stands from `from` on is blank; before it are only spaces and tabs.
 // `blank` is of the line being read, `last` of the last line that has a byte or an ending.
-fn last_line_is_blank(s: &[u8]) -> bool
-    ensures { λ r. ⌜ r ≡ isBlank (lastOr [] (lines (now (s .entry)))) ⌝ }
+fn last_line_is_blank(s: &[u8], from: usize) -> bool
+    requires { ⌜ from ≤ length (now s) ⌝ }
+    ensures { λ r. ⌜ r ≡ lastBlank true true (drop from (now (s .entry))) ⌝ }
 {
     let mut last = true;
     let mut blank = true;
-    let mut i: usize = 0;
+    let mut i = from;
     while i < s.len() {
         let b = s[i];
         let skips = is_cr_of_crlf(s, i);
@@ -88,5 +87,12 @@ fn last_line_is_blank(s: &[u8]) -> bool
 pub fn has_blank_edge_line(s: &[u8]) -> bool
     ensures { λ r. ⌜ r ≡ hasBlankEdgeLine (now (s .entry)) ⌝ }
 {
-    first_line_is_blank(s) || last_line_is_blank(s)
+    let at = leading_blanks(s);
+    if s.len() <= at {
+        return true;
+    }
+    if bytes::is_line_ending_byte(s[at]) {
+        return true;
+    }
+    last_line_is_blank(s, at)
 }

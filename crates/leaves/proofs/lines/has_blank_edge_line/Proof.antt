@@ -8,6 +8,9 @@ has-blank-edge-line-spec =
     tie.close
     (tie.spec
     (λ c κs. search line-laws)
+    (λ c. search line-laws)
+    (λ c. search line-laws)
     (λ c κs. search line-laws)
     (λ c. search line-laws)
+    (λ c κs. search line-laws)
     (λ c. search line-laws))
