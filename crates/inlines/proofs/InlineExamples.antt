@@ -19,7 +19,7 @@ use Rattle.sheet.specs.Report.{Entry, listIf, _⊕_}
 use Rattle.sheet.specs.declared.records.Rec.{Rec}
 use Rattle.sheet.specs.declared.records.Text.{Text}
 use Rattle.inlines.specs.Values.{startsWhite, endsWhite, isUnwritable}
-use Rattle.inlines.specs.Inlines.{noInline, allEmpty, startsWithWhitespace, endsWithWhitespaceAfter, endsWithWhitespace, holdsJoined, validateDestination, validateEscape, validateCodeInline, validateMathInline, validateDirectiveName, validateDirectiveAttributes, validateLinkText, validateCellValues, validateOneLine, validateSiblings, finalBreakAfter, finalBreak, validateEmphasisContainer, validateInline, validateInlineNodesAfter, validateInlineNodes, validateInlines}
+use Rattle.inlines.specs.Inlines.{noInline, allEmpty, startsWithWhitespace, endsWithWhitespaceAfter, endsWithWhitespace, holdsJoined, validateDestination, validateEscape, validateCodeInline, validateMathInline, validateDirectiveName, validateDirectiveAttributes, validateLinkText, validateCellValues, validateOneLine, eachRecord, validateSiblings, finalBreakAfter, finalBreak, validateEmphasisContainer, validateInline, validateInlineNodesAfter, validateInlineNodes, validateInlines}
 
 -- ---- records over the text
 bytes : List ℕ
@@ -76,5 +76,5 @@ emphases = (refl, refl, refl, refl, refl, refl, refl, refl, refl, refl, refl, re
 
 -- ---- 42 at depth, and not below a link that was found; three links in each other give two entries. 20, 21 at depth
 links : (listed (holds link 0 (holds mark 0 (one autolink 0 0 (part 0 1) (part 0 0)))) ≡ 42 ∷ []) × (listed (holds link 0 (holds link 0 (holds link 0 (says 0 1 none)))) ≡ 42 ∷ 42 ∷ []) × (listed (holds image 0 (one autolink 0 0 (part 0 1) (part 0 0))) ≡ []) × (map ruleOf (validateOneLine 20 (0 ∷ []) (holds mark 0 (leaf softBreak (leaf lineBreak none)))) ≡ 20 ∷ 20 ∷ []) × (map ruleOf (validateCellValues bytes (0 ∷ []) (holds mark 0 (one code 0 0 (part 2 2) (part 0 0)))) ≡ 21 ∷ []) × (map ruleOf (validateCellValues bytes (0 ∷ []) (one wikiLink 0 0 (part 2 2) (part 2 2))) ≡ 21 ∷ []) × (map ruleOf (validateCellValues bytes (0 ∷ []) (says 2 2 none)) ≡ [])
-unfolding listed bytes validateInlines finalBreak finalBreakAfter validateInlineNodes validateInlineNodesAfter validateSiblings validateInline validateDestination validateLinkText validateOneLine validateCellValues isUnwritable hasOddEscapedPipe oddPipeAfter validateEmphasisContainer allEmpty startsWithWhitespace endsWithWhitespace endsWithWhitespaceAfter startsWhite endsWhite holdsJoined noInline startsWithWhite endsWithWhite isWhite firstOr lastOr scalars decode emit leadBits trailBits follow table holdsLineEnding any textOf partOf listIf _⊕_
+unfolding listed bytes validateInlines finalBreak finalBreakAfter validateInlineNodes validateInlineNodesAfter validateSiblings validateInline validateDestination validateLinkText validateOneLine validateCellValues eachRecord isUnwritable hasOddEscapedPipe oddPipeAfter validateEmphasisContainer allEmpty startsWithWhitespace endsWithWhitespace endsWithWhitespaceAfter startsWhite endsWhite holdsJoined noInline startsWithWhite endsWithWhite isWhite firstOr lastOr scalars decode emit leadBits trailBits follow table holdsLineEnding any textOf partOf listIf _⊕_
 links = (refl, refl, refl, refl, refl, refl, refl)

@@ -1,2 +1,3 @@
 pub mod ValueLaws
+pub mod WalkLaws
 pub mod InlineExamples

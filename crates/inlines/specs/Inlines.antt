@@ -95,17 +95,18 @@ validateLinkText path (tree r kids rest) =
     let inside = validateLinkText path kids in
     (if isLink (r .kind) then listIf true Rules.linkInLink (r .span) path else inside) ⊕ validateLinkText path rest
 
+-- for each record of the trees, in the sheet's order
+unfoldable pub eachRecord : (Rec → List Entry) → Forest → List Entry
+eachRecord entries none = []
+eachRecord entries (tree r kids rest) = entries r ⊕ eachRecord entries kids ⊕ eachRecord entries rest
+
 -- `validate_cell_values`: 21
 unfoldable pub validateCellValues : List ℕ → List ℕ → Forest → List Entry
-validateCellValues bytes path none = []
-validateCellValues bytes path (tree r kids rest) =
-    listIf (isUnwritable bytes r) Rules.pipeInCell (r .span) path ⊕ validateCellValues bytes path kids ⊕ validateCellValues bytes path rest
+validateCellValues bytes path f = eachRecord (λ r. listIf (isUnwritable bytes r) Rules.pipeInCell (r .span) path) f
 
 -- `validate_one_line`: 20, 22 or 23, as the rule says
 unfoldable pub validateOneLine : ℕ → List ℕ → Forest → List Entry
-validateOneLine rule path none = []
-validateOneLine rule path (tree r kids rest) =
-    listIf (isBreak (r .kind)) rule (r .span) path ⊕ validateOneLine rule path kids ⊕ validateOneLine rule path rest
+validateOneLine rule path f = eachRecord (λ r. listIf (isBreak (r .kind)) rule (r .span) path) f
 
 -- ---- the walk
 

@@ -1,3 +1,4 @@
 pub mod Rules
 pub mod Values
 pub mod Inlines
+pub mod Walk
