@@ -1,7 +1,6 @@
 -- For each rule of the inline half a case that earns it and its neighbour that does not, computed from the definitions. The text is `a LF \ | space ` $ é`.
 use mathlib.Core.Path.{_≡_, refl}
-use mathlib.Core.Bool.{Bool, true, false}
-use mathlib.Core.List.{List, [], _∷_, _++_, map}
+use mathlib.Core.List.{List, [], _∷_, map}
 use Prim.Native.Nat.{ℕ}
 use Rattle.leaves.specs.Lists.{all, any, firstOr, lastOr}
 use Rattle.leaves.specs.Lines.{holdsLineEnding, longer, startsWith}
@@ -14,7 +13,7 @@ use Rattle.leaves.specs.Utf8.{follow, table}
 use Rattle.leaves.specs.White.{isWhite, startsWithWhite, endsWithWhite}
 use Rattle.sheet.specs.Fields.{textOf}
 use Rattle.sheet.specs.Forest.{Forest, none, tree}
-use Rattle.sheet.specs.Kinds.{attribute, text, escape, emphasis, strong, delete, mark, code, link, autolink, image, linkReference, imageReference, html, softBreak, lineBreak, math, footnoteReference, inlineFootnote, wikiLink, textDirective}
+use Rattle.sheet.specs.Kinds.{attribute, text, escape, emphasis, strong, delete, mark, code, link, autolink, image, linkReference, imageReference, softBreak, lineBreak, math, footnoteReference, inlineFootnote, wikiLink, textDirective}
 use Rattle.sheet.specs.Report.{Entry, listIf, _⊕_}
 use Rattle.sheet.specs.declared.records.Rec.{Rec}
 use Rattle.sheet.specs.declared.records.Text.{Text}

@@ -1,14 +1,14 @@
 -- A text that counts, and one of no bytes in its place.
-use mathlib.Core.Path.{_≡_, refl, sym, ap, _∙_}
-use mathlib.Core.Bool.{Bool, true, false, not, _&&_, _||_}
-use mathlib.Core.List.{List, [], _∷_}
-use Prim.Native.Nat.{ℕ, zero, _+_, _≤_}
+use mathlib.Core.Path.{_≡_, refl}
+use mathlib.Core.Bool.{Bool, true, false, _&&_, _||_}
+use mathlib.Core.List.{List, []}
+use Prim.Native.Nat.{ℕ}
 use native.Mathlib.Omega.{arith}
 use borrow.Author.Needs.{needs}
 use borrow.Author.Tests.{le-leb}
-use lib.Dec.{eqb, leb}
-use lib.ListN.{length, take, drop}
-use Rattle.leaves.specs.Lists.{if_then_else_, firstOr, lastOr}
+use lib.Dec.{eqb}
+use lib.ListN.{length}
+use Rattle.leaves.specs.Lists.{firstOr, lastOr}
 use Rattle.leaves.specs.Part.{partOf}
 use Rattle.leaves.specs.Pipe.{hasOddEscapedPipe, oddPipeAfter}
 use Rattle.leaves.specs.Scalars.{scalars, decode}

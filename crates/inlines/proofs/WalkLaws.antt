@@ -1,17 +1,16 @@
 -- Loops over the trees deeper than a level: over every record, and from tree to tree.
-use mathlib.Core.Path.{_≡_, refl, sym, ap, ap₂, _∙_}
+use mathlib.Core.Path.{_≡_, refl, sym, ap, _∙_}
 use mathlib.Core.Bool.{Bool, true, false}
-use mathlib.Core.List.{List, [], _∷_}
-use Prim.Native.Nat.{ℕ, zero, suc, _+_, _-_, _*_, _<_, _≤_}
+use mathlib.Core.List.{List, []}
+use Prim.Native.Nat.{ℕ, _+_, _-_, _<_, _≤_}
 use native.Mathlib.Nat.{add-zero, sub-add-eq}
-use native.Mathlib.Numerals.{add-one}
 use native.Mathlib.Omega.{arith}
 use borrow.Author.Needs.{needs}
 use borrow.Author.Tests.{ltb-true, ltb-false}
 use lib.Dec.{ltb}
 use lib.ListN.{length}
 use Rattle.leaves.specs.Lists.{if_then_else_}
-use Rattle.sheet.specs.Sheet.{recordAt, recordWords}
+use Rattle.sheet.specs.Sheet.{recordAt}
 use Rattle.sheet.specs.Forest.{Forest, none, tree, deeper, past, forestAt, under, size}
 use Rattle.sheet.specs.Report.{Entry, Lists, listIf, _⊕_}
 use Rattle.sheet.specs.declared.records.Rec.{Rec}
@@ -19,11 +18,10 @@ use Rattle.sheet.specs.declared.records.Span.{Span}
 use Rattle.sheet.specs.declared.report.Tally.{Tally}
 use Rattle.sheet.proofs.Trees.{past-in, past-out, deeper-in, deeper-out, past-at, under-in, under-out, under-end, under-fits, size-step, size-out, size-end}
 use Rattle.sheet.proofs.ReportLaws.{join-assoc, none-join, lists-none, lists-then}
-use Rattle.inlines.specs.Inlines.{eachRecord, validateLinkText, validateOneLine, validateCellValues}
+use Rattle.inlines.specs.Inlines.{eachRecord, validateLinkText}
 use Rattle.inlines.specs.Values.{isBreak, isLink, isUnwritable}
 use Rattle.inlines.specs.Rules
 use Rattle.inlines.specs.Walk.{Start, Done}
-use Rattle.inlines.specs.declared.walk.Walked.{Walked}
 
 -- ---- a list that goes from tree to tree
 module _ (h : Forest → List Entry) (g : Rec → Forest → List Entry) (at-none : h none ≡ []) (at-tree : (r : Rec) (kids rest : Forest) → h (tree r kids rest) ≡ g r kids ⊕ h rest) where

@@ -1,15 +1,15 @@
 -- The inline half of validate.rs: for each of its functions a definition of the same name, which gives the list of its entries in its order.
 -- Inlines are the trees of a forest; trees of another sort (attributes, tags, blocks) are passed over. `path` is that of the enclosing block or cell.
-use Prim.Native.Nat.{ℕ, zero, suc}
+use Prim.Native.Nat.{ℕ}
 use mathlib.Core.Bool.{Bool, true, false, not, _&&_, _||_}
-use mathlib.Core.List.{List, [], _∷_}
+use mathlib.Core.List.{List, []}
 use lib.Dec.{eqb}
 use Rattle.leaves.specs.Lists.{if_then_else_}
 use Rattle.leaves.specs.Lines.{holdsLineEnding}
 use Rattle.leaves.specs.Math.{holdsBacktickDollar}
 use Rattle.leaves.specs.Names.{isDirectiveName, isAttributeName}
 use Rattle.leaves.specs.Punctuation.{isAsciiPunctuation}
-use Rattle.sheet.specs.Kinds.{isInline, attribute, text, escape, emphasis, strong, delete, mark, code, link, image, linkReference, imageReference, lineBreak, math, footnoteReference, inlineFootnote, wikiLink, textDirective}
+use Rattle.sheet.specs.Kinds.{isInline, attribute, text, escape, delete, code, link, image, linkReference, imageReference, lineBreak, math, footnoteReference, inlineFootnote, wikiLink, textDirective}
 use Rattle.sheet.specs.Forest.{Forest, none, tree}
 use Rattle.sheet.specs.Fields.{textOf}
 use Rattle.sheet.specs.Report.{Entry, listIf, _⊕_}

@@ -1,14 +1,10 @@
 -- What the inline walk asks of one record: its kind and its own values.
 use Prim.Native.Nat.{ℕ}
-use mathlib.Core.Bool.{Bool, false, not, _&&_, _||_}
+use mathlib.Core.Bool.{Bool, _&&_, _||_}
 use mathlib.Core.List.{List, [], _∷_}
 use lib.Dec.{eqb}
 use Rattle.leaves.specs.Lists.{if_then_else_}
-use Rattle.leaves.specs.Lines.{holdsLineEnding}
-use Rattle.leaves.specs.Math.{holdsBacktickDollar}
-use Rattle.leaves.specs.Names.{isDirectiveName, isAttributeName}
 use Rattle.leaves.specs.Pipe.{hasOddEscapedPipe}
-use Rattle.leaves.specs.Punctuation.{isAsciiPunctuation}
 use Rattle.leaves.specs.White.{startsWithWhite, endsWithWhite}
 use Rattle.sheet.specs.Kinds.{among, text, emphasis, strong, delete, mark, code, link, autolink, linkReference, imageReference, html, softBreak, lineBreak, math, footnoteReference, wikiLink}
 use Rattle.sheet.specs.Fields.{textOf}
