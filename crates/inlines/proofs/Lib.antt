@@ -1,3 +1,4 @@
-pub mod ValueLaws
-pub mod WalkLaws
+pub mod ContentLaws
+pub mod InlineLaws
+pub mod NodeLaws
 pub mod InlineExamples

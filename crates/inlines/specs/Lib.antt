@@ -1,4 +1,3 @@
-pub mod Rules
-pub mod Values
 pub mod Inlines
-pub mod Walk
+pub mod Content
+pub mod Here

@@ -1,0 +1,16 @@
+-- `checks::single::validate_code_inline` meets its contract.
+use Rattle.checks.proofs.SingleLaws.{single}
+use Rattle.checks.proofs.single.validate_code_inline.Statement.{statement}
+use Rattle.checks.proofs.single.validate_code_inline.Tie as tie
+
+pub validate-code-inline-spec : {M : Type 1} → statement M
+validate-code-inline-spec =
+    tie.close
+    (tie.spec
+    (λ c κs. search single)
+    (λ c κs. search single)
+    (λ c κs. search single)
+    (λ c κs. search single)
+    (λ c κs. search single)
+    (λ c. search single)
+    (λ c. search single))

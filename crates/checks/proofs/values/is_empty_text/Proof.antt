@@ -1,0 +1,14 @@
+-- `checks::values::is_empty_text` meets its contract.
+use borrow.Author.Needs.{needs}
+use Rattle.checks.proofs.values.is_empty_text.Statement.{statement}
+use Rattle.checks.proofs.values.is_empty_text.Tie as tie
+
+returns : tie.Need-returns
+returns c = cc
+
+pub is-empty-text-spec : {M : Type 1} → statement M
+is-empty-text-spec =
+    tie.close
+    (tie.spec
+    (λ c κs. search needs)
+    returns)

@@ -1,0 +1,14 @@
+-- `checks::values::only_if` meets its contract.
+use borrow.Author.Needs.{needs}
+use Rattle.checks.proofs.values.only_if.Statement.{statement}
+use Rattle.checks.proofs.values.only_if.Tie as tie
+
+returns-2 : tie.Need-returns-2
+returns-2 c = cc
+
+pub only-if-spec : {M : Type 1} → statement M
+only-if-spec =
+    tie.close
+    (tie.spec
+    (λ c. search needs)
+    returns-2)

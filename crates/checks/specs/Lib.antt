@@ -1,0 +1,5 @@
+pub mod Rules
+pub mod Values
+pub mod Single
+pub mod Every
+pub mod Walk

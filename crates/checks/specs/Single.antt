@@ -1,0 +1,54 @@
+-- The functions of validate.rs that ask of one record and its own values, or of one inline and the kind before it: for each a definition of the same name, which gives the list of its entries in its order. `path` is that of the enclosing block or cell.
+use Prim.Native.Nat.{ℕ}
+use mathlib.Core.Bool.{not, _&&_}
+use mathlib.Core.List.{List}
+use lib.Dec.{eqb}
+use Rattle.leaves.specs.Lines.{holdsLineEnding}
+use Rattle.leaves.specs.Math.{holdsBacktickDollar}
+use Rattle.leaves.specs.Names.{isDirectiveName}
+use Rattle.leaves.specs.Punctuation.{isAsciiPunctuation}
+use Rattle.sheet.specs.Kinds.{delete}
+use Rattle.sheet.specs.Fields.{textOf}
+use Rattle.sheet.specs.Report.{Entry, listIf, _⊕_}
+use Rattle.sheet.specs.declared.records.Span.{Span}
+use Rattle.sheet.specs.declared.records.Text.{Text}
+use Rattle.checks.specs.Rules
+use Rattle.checks.specs.Values.{isEmpty, isBreak, isPlainBreak}
+
+-- `validate_destination`: 25. A is 0 for a bare destination.
+unfoldable pub validateDestination : List ℕ → Span → ℕ → Text → List Entry
+validateDestination path span a destination = listIf (eqb a 0 && isEmpty destination) Rules.emptyBareDestination span path
+
+-- the match's `identifier.is_empty()` and `target.is_empty()`: 32, 33, 34, 36, as the rule says
+unfoldable pub validateIdentifier : List ℕ → ℕ → Span → Text → List Entry
+validateIdentifier path rule span identifier = listIf (isEmpty identifier) rule span path
+
+-- the match's arm for a text: 31
+unfoldable pub validateText : List ℕ → List ℕ → Span → Text → List Entry
+validateText bytes path span value = listIf (holdsLineEnding (textOf bytes value)) Rules.lineEndingInText span path
+
+-- `validate_escape`: 43
+unfoldable pub validateEscape : List ℕ → Span → ℕ → List Entry
+validateEscape path span a = listIf (not (isAsciiPunctuation a)) Rules.escapedValue span path
+
+-- `validate_code_inline`: 44, 45
+unfoldable pub validateCodeInline : List ℕ → List ℕ → Span → Text → List Entry
+validateCodeInline bytes path span value =
+    listIf (isEmpty value) Rules.emptyCode span path ⊕ listIf (holdsLineEnding (textOf bytes value)) Rules.lineEndingInCode span path
+
+-- `validate_math_inline`: 46; then 47 for a dollar fence of none (A is 0, B the dollars), or 48 for the code form (A is 1)
+unfoldable pub validateMathInline : List ℕ → List ℕ → Span → ℕ → ℕ → Text → List Entry
+validateMathInline bytes path span a b value =
+    listIf (isEmpty value) Rules.emptyMath span path
+    ⊕ listIf (eqb a 0 && eqb b 0) Rules.mathWithoutFence span path
+    ⊕ listIf (eqb a 1 && holdsBacktickDollar (textOf bytes value)) Rules.backtickDollarInMath span path
+
+-- `validate_directive_name`: 54
+unfoldable pub validateDirectiveName : List ℕ → List ℕ → Span → Text → List Entry
+validateDirectiveName bytes path span name = listIf (not (isDirectiveName (textOf bytes name))) Rules.directiveName span path
+
+-- `validate_siblings`: 37, 38. `before` is the kind of the inline before, 0 where there is none.
+unfoldable pub validateSiblings : List ℕ → Span → ℕ → ℕ → ℕ → List Entry
+validateSiblings path span before kind a =
+    listIf (isBreak before && isPlainBreak kind a) Rules.breakAfterBreak span path
+    ⊕ listIf (eqb before delete && eqb kind delete) Rules.adjacentStrikethroughs span path

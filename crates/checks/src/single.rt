@@ -1,0 +1,177 @@
+// The rules of one inline and its own values, and of two side by side.
+ghost use Prim.Native.Nat.{_≤_};
+ghost use lib.ListN.{length};
+ghost use Rattle.sheet.specs.Report.{Lists};
+ghost use Rattle.checks.specs.Single.{validateDestination, validateIdentifier, validateText, validateEscape, validateCodeInline, validateMathInline, validateDirectiveName, validateSiblings};
+use crate::rules;
+use crate::values;
+use leaves::lines::holds_line_ending;
+use leaves::math::holds_backtick_dollar;
+use leaves::names::is_directive_name;
+use leaves::punctuation::is_ascii_punctuation;
+use sheet::fields::text_of;
+use sheet::kinds;
+use sheet::records::Span;
+use sheet::records::Text;
+use sheet::report::Tally;
+use sheet::report::list_if;
+
+// Rule 25: a bare destination (`a` is 0) is not empty.
+pub fn validate_destination(
+    report: &mut [u32],
+    path: &[u32],
+    span: Span,
+    a: u32,
+    destination: Text,
+    tally: Tally,
+) -> Tally
+    requires { ⌜ length (now path) ≤ 64 ⌝ }
+    ensures { λ r. ⌜ Lists tally r (now (report .entry)) (now (report .exit)) (validateDestination (now (path .entry)) span a destination) ⌝ }
+{
+    let fault = (a == 0) & values::is_empty(destination);
+    list_if(
+        fault,
+        report,
+        rules::EMPTY_BARE_DESTINATION,
+        span,
+        path,
+        tally,
+    )
+}
+
+// Rules 32, 33, 34, 36, as the rule says: an identifier or a target is not empty.
+pub fn validate_identifier(
+    report: &mut [u32],
+    path: &[u32],
+    rule: u32,
+    span: Span,
+    identifier: Text,
+    tally: Tally,
+) -> Tally
+    requires { ⌜ length (now path) ≤ 64 ⌝ }
+    ensures { λ r. ⌜ Lists tally r (now (report .entry)) (now (report .exit)) (validateIdentifier (now (path .entry)) rule span identifier) ⌝ }
+{
+    let fault = values::is_empty(identifier);
+    list_if(fault, report, rule, span, path, tally)
+}
+
+// Rule 31: text holds no line ending.
+pub fn validate_text(
+    bytes: &[u8],
+    report: &mut [u32],
+    path: &[u32],
+    span: Span,
+    value: Text,
+    tally: Tally,
+) -> Tally
+    requires { ⌜ length (now path) ≤ 64 ⌝ }
+    ensures { λ r. ⌜ Lists tally r (now (report .entry)) (now (report .exit)) (validateText (now (bytes .entry)) (now (path .entry)) span value) ⌝ }
+{
+    let fault = holds_line_ending(text_of(bytes, value));
+    list_if(fault, report, rules::LINE_ENDING_IN_TEXT, span, path, tally)
+}
+
+// Rule 43: an escaped value is ASCII punctuation.
+pub fn validate_escape(report: &mut [u32], path: &[u32], span: Span, a: u32, tally: Tally) -> Tally
+    requires { ⌜ length (now path) ≤ 64 ⌝ }
+    ensures { λ r. ⌜ Lists tally r (now (report .entry)) (now (report .exit)) (validateEscape (now (path .entry)) span a) ⌝ }
+{
+    let fault = !is_ascii_punctuation(a);
+    list_if(fault, report, rules::ESCAPED_VALUE, span, path, tally)
+}
+
+// Rules 44, 45: inline code is not empty and holds no line ending.
+pub fn validate_code_inline(
+    bytes: &[u8],
+    report: &mut [u32],
+    path: &[u32],
+    span: Span,
+    value: Text,
+    tally: Tally,
+) -> Tally
+    requires { ⌜ length (now path) ≤ 64 ⌝ }
+    ensures { λ r. ⌜ Lists tally r (now (report .entry)) (now (report .exit)) (validateCodeInline (now (bytes .entry)) (now (path .entry)) span value) ⌝ }
+{
+    let empty = values::is_empty(value);
+    let out = list_if(empty, report, rules::EMPTY_CODE, span, path, tally);
+    let ends = holds_line_ending(text_of(bytes, value));
+    list_if(ends, report, rules::LINE_ENDING_IN_CODE, span, path, out)
+}
+
+// Rules 46, 47, 48: inline math is not empty; a dollar fence (`a` is 0) has `b` dollars, at least one; the code form holds no "`$".
+pub fn validate_math_inline(
+    bytes: &[u8],
+    report: &mut [u32],
+    path: &[u32],
+    span: Span,
+    a: u32,
+    b: u32,
+    value: Text,
+    tally: Tally,
+) -> Tally
+    requires { ⌜ length (now path) ≤ 64 ⌝ }
+    ensures { λ r. ⌜ Lists tally r (now (report .entry)) (now (report .exit)) (validateMathInline (now (bytes .entry)) (now (path .entry)) span a b value) ⌝ }
+{
+    let empty = values::is_empty(value);
+    let out = list_if(empty, report, rules::EMPTY_MATH, span, path, tally);
+    let bare = (a == 0) & (b == 0);
+    let out = list_if(bare, report, rules::MATH_WITHOUT_FENCE, span, path, out);
+    let closes = (a == 1) & holds_backtick_dollar(text_of(bytes, value));
+    list_if(
+        closes,
+        report,
+        rules::BACKTICK_DOLLAR_IN_MATH,
+        span,
+        path,
+        out,
+    )
+}
+
+// Rule 54.
+pub fn validate_directive_name(
+    bytes: &[u8],
+    report: &mut [u32],
+    path: &[u32],
+    span: Span,
+    name: Text,
+    tally: Tally,
+) -> Tally
+    requires { ⌜ length (now path) ≤ 64 ⌝ }
+    ensures { λ r. ⌜ Lists tally r (now (report .entry)) (now (report .exit)) (validateDirectiveName (now (bytes .entry)) (now (path .entry)) span name) ⌝ }
+{
+    let fault = !is_directive_name(text_of(bytes, name));
+    list_if(fault, report, rules::DIRECTIVE_NAME, span, path, tally)
+}
+
+// Rules 37, 38: a break after a break would leave an empty line, and two strikethroughs join their delimiters. `before` is the kind of the inline before, 0 where there is none.
+pub fn validate_siblings(
+    report: &mut [u32],
+    path: &[u32],
+    span: Span,
+    before: u32,
+    kind: u32,
+    a: u32,
+    tally: Tally,
+) -> Tally
+    requires { ⌜ length (now path) ≤ 64 ⌝ }
+    ensures { λ r. ⌜ Lists tally r (now (report .entry)) (now (report .exit)) (validateSiblings (now (path .entry)) span before kind a) ⌝ }
+{
+    let blank_line = values::is_break(before) & values::is_plain_break(kind, a);
+    let out = list_if(
+        blank_line,
+        report,
+        rules::BREAK_AFTER_BREAK,
+        span,
+        path,
+        tally,
+    );
+    let joined = (before == kinds::DELETE) & (kind == kinds::DELETE);
+    list_if(
+        joined,
+        report,
+        rules::ADJACENT_STRIKETHROUGHS,
+        span,
+        path,
+        out,
+    )
+}

@@ -1,0 +1,55 @@
+-- What one inline lists of itself, by what the calls of `nodes` answered: one law for each way through.
+use mathlib.Core.Path.{_≡_}
+use mathlib.Core.Bool.{Bool, false, not, _&&_, _||_}
+use mathlib.Core.List.{List}
+use Prim.Native.Nat.{ℕ}
+use borrow.Author.Needs.{needs}
+use borrow.Author.Tests.{ne-eqb}
+use Rattle.sheet.specs.Kinds.{text, escape, emphasis, strong, delete, mark, code, link, image, linkReference, imageReference, math, footnoteReference, inlineFootnote, wikiLink, textDirective}
+use Rattle.sheet.specs.Forest.{Forest, under}
+use Rattle.sheet.specs.Report.{Entry, Lists, listIf, _⊕_}
+use Rattle.sheet.specs.declared.records.Rec.{Rec}
+use Rattle.sheet.specs.declared.records.Span.{Span}
+use Rattle.sheet.specs.declared.records.Text.{Text}
+use Rattle.sheet.specs.declared.report.Tally.{Tally}
+use Rattle.sheet.proofs.ReportLaws.{lists-none, lists-then}
+use Rattle.inlines.specs.Content.{contentOf}
+use Rattle.checks.specs.Single.{validateDestination, validateIdentifier, validateText, validateEscape, validateCodeInline, validateMathInline, validateDirectiveName}
+use Rattle.checks.specs.Every.{validateDirectiveAttributes, validateLinkText}
+use Rattle.inlines.specs.Inlines.{noInline, finalBreak, validateTextDirective, validateEmphasisContainer, validateInline}
+use Rattle.checks.specs.Rules
+use Rattle.checks.specs.Values.{isEmphasisContainer}
+use Rattle.checks.specs.Walk.{Done}
+use Rattle.inlines.specs.declared.content.Content.{Content}
+use Rattle.checks.specs.declared.walk.Walked.{Walked}
+use Rattle.inlines.proofs.ContentLaws.{says-none, says-empty, says-starts, says-ends, says-joined, says-last}
+
+-- ---- by what was gathered of the children
+module _ (bytes path : List ℕ) (outer a : ℕ) (f : Forest) {s t : Tally} {x y : List ℕ} {c : Content} (is : c ≡ contentOf bytes outer a f) where
+  pub break-law : Lists s t x y (listIf (c .breaks) Rules.finalHardBreak (c .last) path) → Lists s t x y (finalBreak path f)
+  break-law l = rw (says-last bytes outer a f is path) at l
+
+  pub footnote-law : (span : Span) → Lists s t x y (listIf (not (c .some)) Rules.emptyInlineFootnote span path) → Lists s t x y (listIf (noInline f) Rules.emptyInlineFootnote span path)
+  footnote-law span l = rw (says-none bytes outer a f is) at l
+
+  pub emphasis-law : (span : Span) {u v o : Tally} {z p q : List ℕ} → Lists s t x y (listIf (c .empty) Rules.emptyEmphasis span path) → Lists t u y z (listIf (not (c .empty) && (c .starts || c .ends)) Rules.whiteEmphasis span path) → Lists u v z p (listIf (c .joined) Rules.joinedEmphasis span path) → Lists v o p q (listIf (c .breaks) Rules.finalHardBreak (c .last) path) → Lists s o x q (validateEmphasisContainer bytes path span outer a f)
+  unfolding validateEmphasisContainer
+  emphasis-law span k l m n =
+      lists-then (rw (says-empty bytes outer a f is) at k) (lists-then (rw (says-empty bytes outer a f is, says-starts bytes outer a f is, says-ends bytes outer a f is) at l) (lists-then (rw (says-joined bytes outer a f is) at m) (rw (says-last bytes outer a f is path) at n)))
+
+-- ---- by what a walk over the children listed after it
+module _ {w : List ℕ} {n from level : ℕ} {s t : Tally} {x y z : List ℕ} {r : Walked} where
+  pub then-walked : {es fs : List Entry} → Lists s t x y es → Done w n from level fs t y r z → Lists s (r .tally) x z (es ⊕ fs)
+  then-walked l d = lists-then l (d .lists)
+
+  pub directive-law : (bytes path : List ℕ) (span : Span) (name : Text) → Lists s t x y (validateDirectiveName bytes path span name) → Done w n from level (validateDirectiveAttributes bytes path (under w n from level)) t y r z → Lists s (r .tally) x z (validateTextDirective bytes path span name (under w n from level))
+  unfolding validateTextDirective
+  directive-law bytes path span name l d = lists-then l (d .lists)
+
+pub ruleset parts = (break-law, footnote-law, emphasis-law, then-walked, directive-law, needs)
+
+-- ---- the kinds of which nothing is asked, in the shape that a `match` gives for its `_`
+pub of-others : (bytes path : List ℕ) (r : Rec) (kids : Forest) {s : Tally} {x : List ℕ} {f : Bool} → f ≡ isEmphasisContainer (r .kind) → f ≡ false → ((((((((((((Unit {0} × (r .kind ≡ text → ⊥)) × (r .kind ≡ link → ⊥)) × (r .kind ≡ image → ⊥)) × (r .kind ≡ linkReference → ⊥)) × (r .kind ≡ imageReference → ⊥)) × (r .kind ≡ escape → ⊥)) × (r .kind ≡ textDirective → ⊥)) × (r .kind ≡ footnoteReference → ⊥)) × (r .kind ≡ inlineFootnote → ⊥)) × (r .kind ≡ wikiLink → ⊥)) × (r .kind ≡ code → ⊥)) × (r .kind ≡ math → ⊥)) → Lists s s x x (validateInline bytes path r kids)
+unfolding validateInline
+of-others bytes path r kids e f none-of =
+    rw (← e, f, ne-eqb (r .kind) text (none-of .0 .0 .0 .0 .0 .0 .0 .0 .0 .0 .0 .1), ne-eqb (r .kind) link (none-of .0 .0 .0 .0 .0 .0 .0 .0 .0 .0 .1), ne-eqb (r .kind) image (none-of .0 .0 .0 .0 .0 .0 .0 .0 .0 .1), ne-eqb (r .kind) linkReference (none-of .0 .0 .0 .0 .0 .0 .0 .0 .1), ne-eqb (r .kind) imageReference (none-of .0 .0 .0 .0 .0 .0 .0 .1), ne-eqb (r .kind) escape (none-of .0 .0 .0 .0 .0 .0 .1), ne-eqb (r .kind) textDirective (none-of .0 .0 .0 .0 .0 .1), ne-eqb (r .kind) footnoteReference (none-of .0 .0 .0 .0 .1), ne-eqb (r .kind) inlineFootnote (none-of .0 .0 .0 .1), ne-eqb (r .kind) wikiLink (none-of .0 .0 .1), ne-eqb (r .kind) code (none-of .0 .1), ne-eqb (r .kind) math (none-of .1)) lists-none

@@ -1,0 +1,93 @@
+// What inlines side by side say of the container that holds them, gathered in one pass.
+ghost use mathlib.Core.Path.{_≡_};
+ghost use Prim.Native.Nat.{_*_, _≤_};
+ghost use lib.ListN.{length};
+ghost use Rattle.sheet.specs.Sheet.{recordWords};
+ghost use Rattle.sheet.specs.Forest.{under};
+ghost use Rattle.inlines.specs.Content.{noContent, withInline, contentOf};
+use checks::values;
+use checks::walk::skip;
+use leaves::bytes::choose;
+use sheet::kinds;
+use sheet::records;
+use sheet::records::Rec;
+use sheet::records::Span;
+
+pub struct Content {
+    // an inline stands there
+    pub some: bool,
+    // all of them are empty texts
+    pub empty: bool,
+    // the first that is no empty text starts with white space, and the last ends with it
+    pub starts: bool,
+    pub ends: bool,
+    // there is one alone, written with the container's delimiter
+    pub joined: bool,
+    // the last is a line break, and its span
+    pub breaks: bool,
+    pub last: Span,
+}
+
+fn no_content() -> Content
+    ensures { λ r. ⌜ r ≡ noContent ⌝ }
+{
+    Content {
+        some: false,
+        empty: true,
+        starts: false,
+        ends: false,
+        joined: false,
+        breaks: false,
+        last: Span {
+            flag: 0,
+            start: 0,
+            end: 0,
+        },
+    }
+}
+
+// With one more: an inline counts, and a record of another sort does not.
+fn with_inline(bytes: &[u8], outer: u32, a: u32, c: Content, r: Rec) -> Content
+    ensures { λ q. ⌜ q ≡ withInline (now (bytes .entry)) outer a c r ⌝ }
+{
+    if !kinds::is_inline(r.kind) {
+        return c;
+    }
+    let empty = values::is_empty_text(r);
+    let last = r.span;
+    Content {
+        some: true,
+        empty: c.empty & empty,
+        starts: c.starts | (c.empty & !empty & values::starts_white(bytes, r)),
+        ends: choose(empty, c.ends, values::ends_white(bytes, r)),
+        joined: !c.some & values::is_joined(outer, a, r.kind, r.a),
+        breaks: r.kind == kinds::LINE_BREAK,
+        last,
+    }
+}
+
+// The content of a container of the kind `outer` whose A is `a`: the trees from record `from` on that are deeper than `level`.
+pub fn gather(
+    sheet: &[u32],
+    bytes: &[u8],
+    n: usize,
+    from: usize,
+    level: u32,
+    outer: u32,
+    a: u32,
+) -> Content
+    requires { ⌜ (n * recordWords ≤ length (now sheet)) × (from ≤ n) ⌝ }
+    ensures { λ r. ⌜ r ≡ contentOf (now (bytes .entry)) outer a (under (now (sheet .entry)) n from level) ⌝ }
+{
+    let mut c = no_content();
+    let mut i = from;
+    while i < n {
+        let r = records::record_at(sheet, i);
+        if r.level <= level {
+            return c;
+        }
+        c = with_inline(bytes, outer, a, c, r);
+        i = skip(sheet, n, i + 1, r.level);
+    }
+    c
+}

@@ -1,0 +1,309 @@
+// The walk of inlines: each by its kind, with the one before it and with its children.
+ghost use Prim.Native.Nat.{_+_};
+ghost use Rattle.sheet.specs.Sheet.{recordAt};
+ghost use Rattle.sheet.specs.Forest.{under};
+ghost use Rattle.sheet.specs.Report.{Lists, listIf, _⊕_};
+ghost use Rattle.checks.specs.Single.{validateDestination, validateIdentifier};
+ghost use Rattle.checks.specs.Every.{validateLinkText};
+ghost use Rattle.inlines.specs.Inlines.{noInline, validateTextDirective, validateEmphasisContainer, validateInline, validateInlineNodesAfter, validateInlines, validateNode, finalBreak};
+ghost use Rattle.checks.specs.Rules;
+ghost use Rattle.checks.specs.Walk.{Start, Done};
+ghost use Rattle.inlines.specs.Here.{Here};
+use crate::content::gather;
+use checks::rules;
+use checks::single;
+use checks::values;
+use checks::walk;
+use checks::walk::Walked;
+use sheet::kinds;
+use sheet::records::Rec;
+use sheet::records::record_at;
+use sheet::report::Tally;
+use sheet::report::list_if;
+
+// Rule 30: a hard break is not the last inline. A container that a `]` closes is not asked.
+fn final_break(
+    sheet: &[u32],
+    bytes: &[u8],
+    report: &mut [u32],
+    path: &[u32],
+    n: usize,
+    from: usize,
+    level: u32,
+    tally: Tally,
+) -> Tally
+    requires { ⌜ Start (now sheet) (now path) n from ⌝ }
+    ensures { λ q. ⌜ Lists tally q (now (report .entry)) (now (report .exit)) (finalBreak (now (path .entry)) (under (now (sheet .entry)) n from level)) ⌝ }
+{
+    let c = gather(sheet, bytes, n, from, level, 0, 0);
+    list_if(
+        c.breaks,
+        report,
+        rules::FINAL_HARD_BREAK,
+        c.last,
+        path,
+        tally,
+    )
+}
+
+// Rules 39 or 40, 41 and 30 of the container `r` whose children start at record `from`.
+fn validate_emphasis_container(
+    sheet: &[u32],
+    bytes: &[u8],
+    report: &mut [u32],
+    path: &[u32],
+    n: usize,
+    from: usize,
+    r: Rec,
+    tally: Tally,
+) -> Tally
+    requires { ⌜ Start (now sheet) (now path) n from ⌝ }
+    ensures { λ q. ⌜ Lists tally q (now (report .entry)) (now (report .exit)) (validateEmphasisContainer (now (bytes .entry)) (now (path .entry)) (r .span) (r .kind) (r .a) (under (now (sheet .entry)) n from (r .level))) ⌝ }
+{
+    let c = gather(sheet, bytes, n, from, r.level, r.kind, r.a);
+    let out = list_if(c.empty, report, rules::EMPTY_EMPHASIS, r.span, path, tally);
+    let white = !c.empty & (c.starts | c.ends);
+    let out = list_if(white, report, rules::WHITE_EMPHASIS, r.span, path, out);
+    let out = list_if(c.joined, report, rules::JOINED_EMPHASIS, r.span, path, out);
+    list_if(c.breaks, report, rules::FINAL_HARD_BREAK, c.last, path, out)
+}
+
+// Rule 25, then 42 in all that the link holds.
+fn validate_link(
+    sheet: &[u32],
+    report: &mut [u32],
+    path: &[u32],
+    n: usize,
+    from: usize,
+    r: Rec,
+    tally: Tally,
+) -> Tally
+    requires { ⌜ Start (now sheet) (now path) n from ⌝ }
+    ensures { λ q. ⌜ Lists tally q (now (report .entry)) (now (report .exit)) (validateDestination (now (path .entry)) (r .span) (r .a) (r .first) ⊕ validateLinkText (now (path .entry)) (under (now (sheet .entry)) n from (r .level))) ⌝ }
+{
+    let out = single::validate_destination(report, path, r.span, r.a, r.first, tally);
+    let walked = walk::validate_link_text(sheet, report, path, n, from, r.level, out);
+    walked.tally
+}
+
+// Rule 32, then 42 in all that the link holds.
+fn validate_link_reference(
+    sheet: &[u32],
+    report: &mut [u32],
+    path: &[u32],
+    n: usize,
+    from: usize,
+    r: Rec,
+    tally: Tally,
+) -> Tally
+    requires { ⌜ Start (now sheet) (now path) n from ⌝ }
+    ensures { λ q. ⌜ Lists tally q (now (report .entry)) (now (report .exit)) (validateIdentifier (now (path .entry)) Rules.emptyLinkReference (r .span) (r .first) ⊕ validateLinkText (now (path .entry)) (under (now (sheet .entry)) n from (r .level))) ⌝ }
+{
+    let rule = rules::EMPTY_LINK_REFERENCE;
+    let out = single::validate_identifier(report, path, rule, r.span, r.first, tally);
+    let walked = walk::validate_link_text(sheet, report, path, n, from, r.level, out);
+    walked.tally
+}
+
+// Rule 54, then 55 for each attribute.
+fn validate_text_directive(
+    sheet: &[u32],
+    bytes: &[u8],
+    report: &mut [u32],
+    path: &[u32],
+    n: usize,
+    from: usize,
+    r: Rec,
+    tally: Tally,
+) -> Tally
+    requires { ⌜ Start (now sheet) (now path) n from ⌝ }
+    ensures { λ q. ⌜ Lists tally q (now (report .entry)) (now (report .exit)) (validateTextDirective (now (bytes .entry)) (now (path .entry)) (r .span) (r .first) (under (now (sheet .entry)) n from (r .level))) ⌝ }
+{
+    let out = single::validate_directive_name(bytes, report, path, r.span, r.first, tally);
+    let walked = walk::validate_directive_attributes(
+        sheet,
+        bytes,
+        report,
+        path,
+        n,
+        from,
+        r.level,
+        out,
+    );
+    walked.tally
+}
+
+// Rule 35: an inline footnote holds an inline.
+fn validate_inline_footnote(
+    sheet: &[u32],
+    bytes: &[u8],
+    report: &mut [u32],
+    path: &[u32],
+    n: usize,
+    from: usize,
+    r: Rec,
+    tally: Tally,
+) -> Tally
+    requires { ⌜ Start (now sheet) (now path) n from ⌝ }
+    ensures { λ q. ⌜ Lists tally q (now (report .entry)) (now (report .exit)) (listIf (noInline (under (now (sheet .entry)) n from (r .level))) Rules.emptyInlineFootnote (r .span) (now (path .entry))) ⌝ }
+{
+    let c = gather(sheet, bytes, n, from, r.level, r.kind, r.a);
+    list_if(
+        !c.some,
+        report,
+        rules::EMPTY_INLINE_FOOTNOTE,
+        r.span,
+        path,
+        tally,
+    )
+}
+
+// What one inline reports of itself, before its children, which start at record `from`.
+fn validate_inline(
+    sheet: &[u32],
+    bytes: &[u8],
+    report: &mut [u32],
+    path: &[u32],
+    n: usize,
+    from: usize,
+    r: Rec,
+    tally: Tally,
+) -> Tally
+    requires { ⌜ Start (now sheet) (now path) n from ⌝ }
+    ensures { λ q. ⌜ Lists tally q (now (report .entry)) (now (report .exit)) (validateInline (now (bytes .entry)) (now (path .entry)) r (under (now (sheet .entry)) n from (r .level))) ⌝ }
+{
+    let kind = r.kind;
+    if values::is_emphasis_container(kind) {
+        return validate_emphasis_container(sheet, bytes, report, path, n, from, r, tally);
+    }
+    match kind {
+        kinds::TEXT => single::validate_text(bytes, report, path, r.span, r.first, tally),
+        kinds::LINK => validate_link(sheet, report, path, n, from, r, tally),
+        kinds::IMAGE => single::validate_destination(report, path, r.span, r.a, r.first, tally),
+        kinds::LINK_REFERENCE => validate_link_reference(sheet, report, path, n, from, r, tally),
+        kinds::IMAGE_REFERENCE => {
+            single::validate_identifier(
+                report,
+                path,
+                rules::EMPTY_IMAGE_REFERENCE,
+                r.span,
+                r.first,
+                tally,
+            )
+        }
+        kinds::ESCAPE => single::validate_escape(report, path, r.span, r.a, tally),
+        kinds::TEXT_DIRECTIVE => {
+            validate_text_directive(sheet, bytes, report, path, n, from, r, tally)
+        }
+        kinds::FOOTNOTE_REFERENCE => {
+            single::validate_identifier(
+                report,
+                path,
+                rules::EMPTY_FOOTNOTE_REFERENCE,
+                r.span,
+                r.first,
+                tally,
+            )
+        }
+        kinds::INLINE_FOOTNOTE => {
+            validate_inline_footnote(sheet, bytes, report, path, n, from, r, tally)
+        }
+        kinds::WIKI_LINK => {
+            single::validate_identifier(
+                report,
+                path,
+                rules::EMPTY_WIKI_LINK,
+                r.span,
+                r.first,
+                tally,
+            )
+        }
+        kinds::CODE => single::validate_code_inline(bytes, report, path, r.span, r.first, tally),
+        kinds::MATH => {
+            single::validate_math_inline(bytes, report, path, r.span, r.a, r.b, r.first, tally)
+        }
+        _ => tally,
+    }
+}
+
+// Record `i`, of level `level`, behind an inline of the kind `before`: both side by side, then itself, then its children. A record that is no inline is passed over.
+fn validate_node(
+    sheet: &[u32],
+    bytes: &[u8],
+    report: &mut [u32],
+    path: &[u32],
+    n: usize,
+    i: usize,
+    level: u32,
+    before: u32,
+    tally: Tally,
+) -> Walked
+    requires { ⌜ Here (now sheet) (now path) n i level ⌝ }
+    ensures { λ q. ⌜ Done (now (sheet .entry)) n (i + 1) level (validateNode (now (bytes .entry)) (now (path .entry)) before (recordAt (now (sheet .entry)) i) (under (now (sheet .entry)) n (i + 1) level) (validateInlineNodesAfter (now (bytes .entry)) (now (path .entry)) 0 (under (now (sheet .entry)) n (i + 1) level))) tally (now (report .entry)) q (now (report .exit)) ⌝ }
+{
+    let r = record_at(sheet, i);
+    if !kinds::is_inline(r.kind) {
+        return Walked {
+            next: walk::skip(sheet, n, i + 1, level),
+            tally,
+        };
+    }
+    let out = single::validate_siblings(report, path, r.span, before, r.kind, r.a, tally);
+    let out = validate_inline(sheet, bytes, report, path, n, i + 1, r, out);
+    validate_inline_nodes(sheet, bytes, report, path, n, i + 1, level, 0, out)
+}
+
+// The inlines from record `from` on that are deeper than `level`, behind one of the kind `before` (0 where there is none). Calls go as deep as levels do.
+fn validate_inline_nodes(
+    sheet: &[u32],
+    bytes: &[u8],
+    report: &mut [u32],
+    path: &[u32],
+    n: usize,
+    from: usize,
+    level: u32,
+    before: u32,
+    tally: Tally,
+) -> Walked
+    requires { ⌜ Start (now sheet) (now path) n from ⌝ }
+    ensures { λ q. ⌜ Done (now (sheet .entry)) n from level (validateInlineNodesAfter (now (bytes .entry)) (now (path .entry)) before (under (now (sheet .entry)) n from level)) tally (now (report .entry)) q (now (report .exit)) ⌝ }
+{
+    let mut last = before;
+    let mut out = tally;
+    let mut i = from;
+    while i < n {
+        let r = record_at(sheet, i);
+        if r.level <= level {
+            return Walked {
+                next: i,
+                tally: out,
+            };
+        }
+        let w = validate_node(sheet, bytes, report, path, n, i, r.level, last, out);
+        last = kinds::pick(kinds::is_inline(r.kind), r.kind, last);
+        out = w.tally;
+        i = w.next;
+    }
+    Walked {
+        next: i,
+        tally: out,
+    }
+}
+
+// The whole inline content from record `from` on that is deeper than `level`: rule 30, then each inline.
+pub fn validate_inlines(
+    sheet: &[u32],
+    bytes: &[u8],
+    report: &mut [u32],
+    path: &[u32],
+    n: usize,
+    from: usize,
+    level: u32,
+    tally: Tally,
+) -> Walked
+    requires { ⌜ Start (now sheet) (now path) n from ⌝ }
+    ensures { λ q. ⌜ Done (now (sheet .entry)) n from level (validateInlines (now (bytes .entry)) (now (path .entry)) (under (now (sheet .entry)) n from level)) tally (now (report .entry)) q (now (report .exit)) ⌝ }
+{
+    let out = final_break(sheet, bytes, report, path, n, from, level, tally);
+    validate_inline_nodes(sheet, bytes, report, path, n, from, level, 0, out)
+}
