@@ -10,7 +10,8 @@ use borrow.Author.Tests.{ltb-true, ltb-false}
 use lib.Dec.{ltb}
 use lib.ListN.{length}
 use Rattle.leaves.specs.Lists.{if_then_else_}
-use Rattle.sheet.specs.Sheet.{recordAt}
+use Rattle.sheet.specs.Sheet.{recordAt, recordsOf}
+use Rattle.sheet.specs.Formed.{Sound}
 use Rattle.sheet.specs.Forest.{Forest, none, tree, deeper, past, forestAt, under, size}
 use Rattle.sheet.specs.Report.{Entry, Lists, listIf, _⊕_}
 use Rattle.sheet.specs.declared.records.Rec.{Rec}
@@ -199,3 +200,7 @@ attributes-turn bytes {path} {w} {n} {from} {level} {i = i} v {j = j} b e d g k 
     let d′ : level < recordAt w i .level = rw e at d in
     let q′ : j ≡ behindKids w n i = rw e at q in
     rw q′ (loop-turn v (skip-tree w n from level (v .at) b d′) (spine-tree (validateDirectiveAttributes bytes path) (λ r kids. attributeOf bytes path r) (attributes-none bytes path) (attributes-tree bytes path) w n i level b d′) (rw (g, e) at k) o)
+
+-- ---- what acceptance gives a walk
+pub start-of : {w bytes path : List ℕ} {n from : ℕ} → Sound w bytes → n ≡ recordsOf w → from ≤ n → length path ≤ 64 → Start w path n from
+start-of sound e b s = rw e (record { whole = omega (arith, sound .whole); few = sound .few; shallow = sound .shallow; inside = rw e at b; short = s })

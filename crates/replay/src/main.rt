@@ -1,5 +1,6 @@
 // Replays the stored answers in data/ (rust/vectors writes them) and counts what differs: the Rust's for the text
-// leaves, and those of a plain reading of document 01 for the refusals.
+// leaves and the inline walk, and those of a plain reading of document 01 for the refusals.
+mod lists;
 mod read;
 mod sheets;
 mod tally;
@@ -29,6 +30,7 @@ enum Format {
     Punctuation,
     Parts,
     Sheets,
+    Lists,
 }
 
 // A file that cannot be opened counts as one difference.
@@ -47,6 +49,7 @@ fn replay(name: &[u8], format: Format, total: Tally) -> Tally {
         Format::Punctuation => values::replay_punctuation(&buffer[..n]),
         Format::Parts => values::replay_parts(&buffer[..n]),
         Format::Sheets => sheets::replay(&buffer[..n]),
+        Format::Lists => lists::replay(&buffer[..n]),
     };
     write_line(name, found);
     total.with(found)
@@ -64,5 +67,6 @@ fn main() {
     total = replay(b"punctuation", Format::Punctuation, total);
     total = replay(b"parts", Format::Parts, total);
     total = replay(b"sheets", Format::Sheets, total);
+    total = replay(b"inlines", Format::Lists, total);
     write_line(b"all", total);
 }

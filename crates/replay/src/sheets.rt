@@ -9,7 +9,7 @@ use sheet::refusal::Judged;
 const HEAD: usize = 7;
 
 // The words of a sheet from their bytes.
-fn fill(words: &mut [u32], s: &[u8]) {
+pub fn fill(words: &mut [u32], s: &[u8]) {
     let mut k: usize = 0;
     while k < words.len() {
         words[k] = read::number(s, k * 4);

@@ -23,6 +23,7 @@ extern crate alloc;
 include!(concat!(env!("OUT_DIR"), "/sources.rs"));
 
 mod decode;
+mod document;
 mod gemoji;
 mod messages;
 mod parse;
@@ -30,6 +31,7 @@ mod refusal;
 mod serialize;
 mod swar;
 
+pub use document::{document, list};
 pub use messages::{rule, DROPPED, KEPT};
 pub use refusal::{refusal, RECORD_WORDS};
 

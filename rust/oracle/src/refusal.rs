@@ -4,22 +4,22 @@
 /// How many words a record has.
 pub const RECORD_WORDS: usize = 12;
 
-const KIND: usize = 0;
-const LEVEL: usize = 1;
-const FLAG: usize = 2;
-const START: usize = 3;
-const END: usize = 4;
-const A: usize = 5;
-const B: usize = 6;
-const C: usize = 7;
+pub(crate) const KIND: usize = 0;
+pub(crate) const LEVEL: usize = 1;
+pub(crate) const FLAG: usize = 2;
+pub(crate) const START: usize = 3;
+pub(crate) const END: usize = 4;
+pub(crate) const A: usize = 5;
+pub(crate) const B: usize = 6;
+pub(crate) const C: usize = 7;
 /// The start of the first text and of the second; each has its length behind.
-const TEXTS: [usize; 2] = [8, 10];
+pub(crate) const TEXTS: [usize; 2] = [8, 10];
 
-fn is_block(kind: u32) -> bool {
+pub(crate) fn is_block(kind: u32) -> bool {
     (1..=17).contains(&kind)
 }
 
-fn is_inline(kind: u32) -> bool {
+pub(crate) fn is_inline(kind: u32) -> bool {
     (31..=53).contains(&kind)
 }
 
@@ -27,7 +27,7 @@ fn is_known(kind: u32) -> bool {
     is_block(kind) || (20..=24).contains(&kind) || is_inline(kind)
 }
 
-fn word(words: &[u32], record: usize, field: usize) -> u32 {
+pub(crate) fn word(words: &[u32], record: usize, field: usize) -> u32 {
     words[record * RECORD_WORDS + field]
 }
 

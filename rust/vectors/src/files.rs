@@ -1,8 +1,9 @@
 //! The stored files: records one after another, integers little-endian.
 
-use std::collections::HashSet;
+use std::collections::{BTreeMap, HashSet};
 
 use crate::{
+    inlines,
     leaves::answers,
     sheets,
     texts::{self, strings},
@@ -17,6 +18,8 @@ pub struct File {
     pub name: &'static str,
     pub records: usize,
     pub bytes: Vec<u8>,
+    /// How many entries of each rule are in its reports, where it has some.
+    pub entries: BTreeMap<u32, usize>,
 }
 
 impl File {
@@ -25,6 +28,7 @@ impl File {
             name,
             records: 0,
             bytes: Vec::new(),
+            entries: BTreeMap::new(),
         }
     }
 
@@ -39,22 +43,36 @@ impl File {
 
 /// Every file, in the order in which they are written.
 pub fn all() -> Vec<File> {
-    vec![
+    let others = [pairs(), punctuation(), parts(), sheets(), inlines()];
+    text_files().into_iter().chain(others).collect()
+}
+
+/// The files of texts.
+fn text_files() -> [File; 5] {
+    [
         of_texts("utf8", texts::utf8()),
         of_texts("white", texts::white()),
         of_texts("lines", texts::lines()),
         of_texts("names", texts::names()),
         of_texts("pipes", texts::pipes()),
-        pairs(),
-        punctuation(),
-        parts(),
-        sheets(),
     ]
 }
 
 /// The length of a text, in its one byte.
 fn length(text: &[u8]) -> [u8; 1] {
     [u8::try_from(text.len()).expect("a text has at most 255 bytes")]
+}
+
+/// A count, in its two bytes.
+fn count(count: usize) -> [u8; 2] {
+    u16::try_from(count)
+        .expect("counts are small")
+        .to_le_bytes()
+}
+
+/// Words, in their four bytes each.
+fn bytes(words: &[u32]) -> Vec<u8> {
+    words.iter().flat_map(|word| word.to_le_bytes()).collect()
 }
 
 /// Length (1 byte), mask (2), answers (2), text.
@@ -173,18 +191,34 @@ fn sheets() -> File {
     let mut file = File::new("sheets");
     for (words, text) in sheets::all() {
         let (number, record) = oracle::refusal(&words, &text);
-        let bytes: Vec<u8> = words.iter().flat_map(|word| word.to_le_bytes()).collect();
         file.record(&[
-            &u16::try_from(words.len()).expect("few words").to_le_bytes(),
-            &u16::try_from(text.len())
-                .expect("a short text")
-                .to_le_bytes(),
+            &count(words.len()),
+            &count(text.len()),
             &[number as u8],
-            &u16::try_from(record).expect("few records").to_le_bytes(),
-            &bytes,
+            &count(record),
+            &bytes(&words),
             &text,
         ]);
     }
+    file
+}
+
+/// How many words (2 bytes), how many text bytes (2), how many words of the
+/// report (2), the words (4 bytes each), the text, the report (4 bytes each).
+fn inlines() -> File {
+    let mut file = File::new("inlines");
+    let cases = inlines::cases();
+    for case in &cases {
+        file.record(&[
+            &count(case.words.len()),
+            &count(case.text.len()),
+            &count(case.report.len()),
+            &bytes(&case.words),
+            &case.text,
+            &bytes(&case.report),
+        ]);
+    }
+    file.entries = inlines::count(&cases);
     file
 }
 
@@ -208,7 +242,7 @@ mod tests {
     /// Reading a text file back gives as many records, and ends at its end.
     #[test]
     fn records_read_back() {
-        for file in all().iter().take(5) {
+        for file in text_files() {
             let mut rest = &file.bytes[..];
             let mut records = 0;
             while let [n, m0, m1, a0, a1, tail @ ..] = rest {
@@ -224,6 +258,29 @@ mod tests {
             assert!(rest.is_empty());
             assert_eq!(records, file.records);
         }
+    }
+
+    /// Reading the inlines back gives the cases, and ends at its end.
+    #[test]
+    fn inlines_read_back() {
+        let file = inlines();
+        let words = |bytes: &[u8]| -> Vec<u32> {
+            let words = bytes.chunks(4).map(|word| word.try_into().unwrap());
+            words.map(u32::from_le_bytes).collect()
+        };
+        let mut rest = &file.bytes[..];
+        for case in inlines::cases() {
+            let (head, after) = rest.split_at(6);
+            let size = |at| usize::from(u16::from_le_bytes([head[at], head[at + 1]]));
+            let (sheet, after) = after.split_at(4 * size(0));
+            let (text, after) = after.split_at(size(2));
+            let (report, after) = after.split_at(4 * size(4));
+            assert_eq!(words(sheet), case.words);
+            assert_eq!(text, case.text);
+            assert_eq!(words(report), case.report);
+            rest = after;
+        }
+        assert!(rest.is_empty());
     }
 
     #[test]

@@ -1,15 +1,18 @@
-//! Writes the stored answers of the Rust reference for the text leaves, and of a
-//! plain reading of document 01 for the refusals, of Reedsander, the checker of grade notes: `vectors OUTDIR`.
+//! Writes the stored answers of the Rust reference for the text leaves and the
+//! inline walk, and of a plain reading of document 01 for the refusals, of
+//! Reedsander, the checker of grade notes: `vectors OUTDIR`.
 //!
 //! The text files `utf8`, `white`, `lines`, `names` and `pipes` hold records
 //! of a length n (1 byte), a mask (2 bytes), answers (2 bytes) and n bytes of
 //! text. Bit k of the mask says that function k is to be compared, and bit k
 //! of the answers is what it answers; see `leaves` for the functions. The
-//! files `pairs`, `punctuation`, `parts` and `sheets` are described in `files`.
+//! files `pairs`, `punctuation`, `parts`, `sheets` and `inlines` are described
+//! in `files`.
 
 #![forbid(unsafe_code)]
 
 mod files;
+mod inlines;
 mod leaves;
 mod sheets;
 mod texts;
@@ -31,7 +34,8 @@ fn main() -> ExitCode {
     }
 }
 
-/// Writes every file into `folder`, and prints a line for each.
+/// Writes every file into `folder`, and prints a line for each, and under it
+/// a line for each rule of its reports.
 fn write(folder: &Path) -> std::io::Result<()> {
     fs::create_dir_all(folder)?;
     for file in files::all() {
@@ -43,6 +47,9 @@ fn write(folder: &Path) -> std::io::Result<()> {
             file.records,
             file.bytes.len()
         );
+        for (rule, count) in file.entries {
+            println!("{:<12} {count:>7} entries of rule {rule}", "");
+        }
     }
     Ok(())
 }

@@ -148,10 +148,11 @@ fn text_parts(sheets: &mut Vec<Sheet>) {
 }
 
 /// Small numbers from a fixed seed.
-struct Numbers(u64);
+#[derive(Clone)]
+pub struct Numbers(pub u64);
 
 impl Numbers {
-    fn below(&mut self, bound: u32) -> u32 {
+    pub fn below(&mut self, bound: u32) -> u32 {
         self.0 ^= self.0 << 13;
         self.0 ^= self.0 >> 7;
         self.0 ^= self.0 << 17;
@@ -243,6 +244,22 @@ mod tests {
         }
         for (number, count) in counts.iter().enumerate() {
             assert_eq!(*count == 0, number == 2 || number == 3, "{counts:?}");
+        }
+    }
+    /// Every accepted sheet has a tree, whose list is made of whole entries.
+    #[test]
+    fn accepted_sheets_have_lists() {
+        for (words, text) in all() {
+            if oracle::refusal(&words, &text) != (0, 0) {
+                continue;
+            }
+            let list = oracle::list(&words, &text);
+            let mut rest = &list[..];
+            while let [rule, flag, _, _, length, after @ ..] = rest {
+                assert!((1..=55).contains(rule) && *flag <= 1 && *length >= 1);
+                rest = &after[*length as usize..];
+            }
+            assert!(rest.is_empty());
         }
     }
 }

@@ -1,0 +1,37 @@
+-- `replay::lists::replay` meets its contract.
+use Prim.Native.Nat.{_-_}
+use lib.ListN.{length}
+use borrow.Author.Needs.{needs}
+use Rattle.replay.proofs.lists.replay.Statement.{statement}
+use Rattle.replay.proofs.lists.replay.Tie as tie
+
+abbrev Inv-loop : tie.InvT-loop
+Inv-loop s tally₀ at₀ tally at = Unit
+
+abbrev μ-loop : tie.MeasureT-loop
+μ-loop s tally₀ at₀ tally at = length s - at
+
+pub replay-spec : {M : Type 1} → statement M
+replay-spec =
+    tie.close
+    (tie.spec
+    Inv-loop
+    μ-loop
+    (λ c κs. search needs)
+    (λ c. search needs)
+    (λ c κs. search needs)
+    (λ c κs. search needs)
+    (λ c. search needs)
+    (λ c. search needs)
+    (λ c κs. search needs)
+    (λ c. search needs)
+    (λ c κs. search needs)
+    (λ c. search needs)
+    (λ c. search needs)
+    (λ c κs. search needs)
+    (λ c κs. search needs)
+    (λ c. search needs)
+    (λ c. search needs)
+    (λ c. search needs)
+    (λ c κs. search needs)
+    (λ c. search needs))

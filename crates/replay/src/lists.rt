@@ -1,0 +1,81 @@
+// Sheets of one paragraph with what the Rust lists of its inlines.
+use crate::read;
+use crate::sheets::fill;
+use crate::tally::Tally;
+use crate::texts;
+use inlines::nodes::validate_inlines;
+use leaves::part::part;
+use sheet::records::RECORD_WORDS;
+use sheet::refusal;
+use sheet::refusal::Judged;
+use sheet::report;
+
+// How many bytes stand before a record's words: how many words the sheet has, how many bytes its text, how many words the list.
+const HEAD: usize = 6;
+
+// How many words the sheet and the list may have.
+const MOST: usize = 800;
+
+// How many words the list of the first block's inlines has, which is written into the report; none where the sheet is refused.
+fn listed(words: &[u32], text: &[u8], report: &mut [u32]) -> usize {
+    let n = words.len() / RECORD_WORDS;
+    if n < 1 {
+        return 0;
+    }
+    match refusal::accept(words, text) {
+        Judged::Accepted => {
+            let path = [0u32; 1];
+            let w = validate_inlines(words, text, report, &path, n, 1, 1, report::none());
+            w.tally.words
+        }
+        _ => 0,
+    }
+}
+
+// The same of the first `n` words; none where there are fewer.
+fn listed_of(words: &[u32], n: usize, text: &[u8], report: &mut [u32]) -> usize {
+    if words.len() < n {
+        return 0;
+    }
+    listed(&words[..n], text, report)
+}
+
+// Whether the words are those whose bytes are given, and 0 behind them.
+fn same_words(words: &[u32], s: &[u8]) -> bool {
+    let mut k: usize = 0;
+    while k < words.len() {
+        if words[k] != read::number(s, k * 4) {
+            return false;
+        }
+        k = k + 1;
+    }
+    true
+}
+
+// The length of the list is compared, and each word of the report: behind the list it stays 0.
+fn replay_record(r: &[u8], tally: Tally) -> Tally {
+    let mut words = [0u32; MOST];
+    let mut report = [0u32; MOST];
+    let n = read::pair(r, 0);
+    let bytes = read::pair(r, 2);
+    let m = read::pair(r, 4);
+    fill(&mut words, part(r, HEAD, n * 4));
+    let expected = part(r, HEAD + n * 4 + bytes, m * 4);
+    let found = listed_of(&words, n, part(r, HEAD + n * 4, bytes), &mut report);
+    tally
+        .record()
+        .compare((n <= MOST) & (found == m))
+        .compare(same_words(&report, expected))
+}
+
+pub fn replay(s: &[u8]) -> Tally {
+    let mut tally = Tally::none();
+    let mut at: usize = 0;
+    while at < s.len() {
+        let head = part(s, at, HEAD);
+        let n = HEAD + read::pair(head, 0) * 4 + read::pair(head, 2) + read::pair(head, 4) * 4;
+        tally = replay_record(part(s, at, n), tally);
+        at = at + n;
+    }
+    texts::ended(at == s.len(), tally)
+}
