@@ -13,12 +13,12 @@ use Rattle.leaves.specs.Lists.{if_then_else_}
 use Rattle.sheet.specs.Sheet.{recordAt, recordsOf}
 use Rattle.sheet.specs.Formed.{Sound}
 use Rattle.sheet.specs.Forest.{Forest, none, tree, deeper, past, forestAt, under, size}
-use Rattle.sheet.specs.Report.{Entry, Lists, listIf, _⊕_}
 use Rattle.sheet.specs.declared.records.Rec.{Rec}
 use Rattle.sheet.specs.declared.records.Span.{Span}
-use Rattle.sheet.specs.declared.report.Tally.{Tally}
 use Rattle.sheet.proofs.Trees.{past-in, past-out, deeper-in, deeper-out, past-at, under-in, under-out, under-end, under-fits, size-step, size-out, size-end}
-use Rattle.sheet.proofs.ReportLaws.{join-assoc, none-join, lists-none, lists-then}
+use Rattle.report.specs.Report.{Entry, Lists, listIf, _⊕_}
+use Rattle.report.specs.declared.entries.Tally.{Tally}
+use Rattle.report.proofs.ReportLaws.{join-assoc, none-join, lists-none, lists-then}
 use Rattle.checks.specs.Every.{eachRecord, validateDirectiveAttributes, validateLinkText}
 use Rattle.checks.specs.Values.{isBadAttribute, isLink}
 use Rattle.checks.specs.Rules

@@ -4,8 +4,8 @@ use mathlib.Core.Bool.{true}
 use mathlib.Core.List.{List, []}
 use Rattle.leaves.specs.Lists.{if_then_else_}
 use Rattle.sheet.specs.Forest.{Forest, none, tree}
-use Rattle.sheet.specs.Report.{Entry, listIf, _⊕_}
 use Rattle.sheet.specs.declared.records.Rec.{Rec}
+use Rattle.report.specs.Report.{Entry, listIf, _⊕_}
 use Rattle.checks.specs.Rules
 use Rattle.checks.specs.Values.{isBreak, isLink, isUnwritable, isBadAttribute}
 

@@ -5,8 +5,8 @@ use Prim.Native.Nat.{ℕ, _+_, _*_, _<_, _≤_}
 use lib.ListN.{length}
 use Rattle.sheet.specs.Sheet.{recordAt, recordWords}
 use Rattle.sheet.specs.Forest.{under, size}
-use Rattle.sheet.specs.Report.{Entry, Lists}
-use Rattle.sheet.specs.declared.report.Tally.{Tally}
+use Rattle.report.specs.Report.{Entry, Lists}
+use Rattle.report.specs.declared.entries.Tally.{Tally}
 use Rattle.checks.specs.declared.walk.Walked.{Walked}
 
 -- a sheet of n records as acceptance leaves it, a record to start from, and a path

@@ -1,7 +1,7 @@
 // The rules of one inline and its own values, and of two side by side.
 ghost use Prim.Native.Nat.{_≤_};
 ghost use lib.ListN.{length};
-ghost use Rattle.sheet.specs.Report.{Lists};
+ghost use Rattle.report.specs.Report.{Lists};
 ghost use Rattle.checks.specs.Single.{validateDestination, validateIdentifier, validateText, validateEscape, validateCodeInline, validateMathInline, validateDirectiveName, validateSiblings};
 use crate::rules;
 use crate::values;
@@ -9,12 +9,12 @@ use leaves::lines::holds_line_ending;
 use leaves::math::holds_backtick_dollar;
 use leaves::names::is_directive_name;
 use leaves::punctuation::is_ascii_punctuation;
+use report::entries::Tally;
+use report::entries::list_if;
 use sheet::fields::text_of;
 use sheet::kinds;
 use sheet::records::Span;
 use sheet::records::Text;
-use sheet::report::Tally;
-use sheet::report::list_if;
 
 // Rule 25: a bare destination (`a` is 0) is not empty.
 pub fn validate_destination(

@@ -9,10 +9,10 @@ ghost use Rattle.checks.specs.Every.{validateCellValues, validateDirecti
 ghost use Rattle.checks.specs.Walk.{Start, Done};
 use crate::rules;
 use crate::values;
+use report::entries;
+use report::entries::Tally;
 use sheet::records;
 use sheet::records::Span;
-use sheet::report;
-use sheet::report::Tally;
 
 // The record after those that were walked, and the tally of the list.
 pub struct Walked {
@@ -45,7 +45,7 @@ pub fn validate_one_line(
             };
         }
         let fault = values::is_break(r.kind);
-        out = report::list_if(fault, report, rule, r.span, path, out);
+        out = entries::list_if(fault, report, rule, r.span, path, out);
         i = i + 1;
     }
     Walked {
@@ -79,7 +79,7 @@ pub fn validate_cell_values(
             };
         }
         let fault = values::is_unwritable(bytes, r);
-        out = report::list_if(fault, report, rules::PIPE_IN_CELL, r.span, path, out);
+        out = entries::list_if(fault, report, rules::PIPE_IN_CELL, r.span, path, out);
         i = i + 1;
     }
     Walked {
@@ -138,7 +138,7 @@ pub fn validate_link_text(
             };
         }
         let found = values::is_link(r.kind);
-        out = report::list_if(found, report, rules::LINK_IN_LINK, r.span, path, out);
+        out = entries::list_if(found, report, rules::LINK_IN_LINK, r.span, path, out);
         i = past_link(sheet, n, i, found, r.level);
     }
     Walked {
@@ -177,7 +177,7 @@ pub fn validate_directive_attributes(
             };
         }
         let fault = values::is_bad_attribute(bytes, r);
-        out = report::list_if(fault, report, rules::ATTRIBUTE_NAME, no_span, path, out);
+        out = entries::list_if(fault, report, rules::ATTRIBUTE_NAME, no_span, path, out);
         i = skip(sheet, n, i + 1, r.level);
     }
     Walked {

@@ -11,9 +11,9 @@ use Rattle.leaves.specs.Lists.{if_then_else_}
 use Rattle.sheet.specs.Kinds.{isInline, lineBreak}
 use Rattle.sheet.specs.Sheet.{recordAt}
 use Rattle.sheet.specs.Forest.{Forest, none, tree, under, size}
-use Rattle.sheet.specs.Report.{listIf}
 use Rattle.sheet.specs.declared.records.Rec.{Rec}
 use Rattle.sheet.proofs.Trees.{under-in, under-out, under-end}
+use Rattle.report.specs.Report.{listIf}
 use Rattle.inlines.specs.Content.{noContent, withInline, contentAfter, contentOf}
 use Rattle.inlines.specs.Inlines.{noInline, allEmpty, startsWithWhitespace, endsWithWhitespaceAfter, endsWithWhitespace, holdsJoined, finalBreakAfter, finalBreak}
 use Rattle.checks.specs.Rules

@@ -7,12 +7,12 @@ use borrow.Author.Needs.{needs}
 use borrow.Author.Tests.{ne-eqb}
 use Rattle.sheet.specs.Kinds.{text, escape, emphasis, strong, delete, mark, code, link, image, linkReference, imageReference, math, footnoteReference, inlineFootnote, wikiLink, textDirective}
 use Rattle.sheet.specs.Forest.{Forest, under}
-use Rattle.sheet.specs.Report.{Entry, Lists, listIf, _⊕_}
 use Rattle.sheet.specs.declared.records.Rec.{Rec}
 use Rattle.sheet.specs.declared.records.Span.{Span}
 use Rattle.sheet.specs.declared.records.Text.{Text}
-use Rattle.sheet.specs.declared.report.Tally.{Tally}
-use Rattle.sheet.proofs.ReportLaws.{lists-none, lists-then}
+use Rattle.report.specs.Report.{Entry, Lists, listIf, _⊕_}
+use Rattle.report.specs.declared.entries.Tally.{Tally}
+use Rattle.report.proofs.ReportLaws.{lists-none, lists-then}
 use Rattle.inlines.specs.Content.{contentOf}
 use Rattle.checks.specs.Single.{validateDestination, validateIdentifier, validateText, validateEscape, validateCodeInline, validateMathInline, validateDirectiveName}
 use Rattle.checks.specs.Every.{validateDirectiveAttributes, validateLinkText}

@@ -11,11 +11,11 @@ use Rattle.leaves.specs.Lists.{if_then_else_}
 use Rattle.sheet.specs.Kinds.{isInline}
 use Rattle.sheet.specs.Sheet.{recordAt}
 use Rattle.sheet.specs.Forest.{Forest, none, under, size}
-use Rattle.sheet.specs.Report.{Entry, Lists, _⊕_}
 use Rattle.sheet.specs.declared.records.Rec.{Rec}
-use Rattle.sheet.specs.declared.report.Tally.{Tally}
 use Rattle.sheet.proofs.Trees.{under-in}
-use Rattle.sheet.proofs.ReportLaws.{lists-none, lists-then}
+use Rattle.report.specs.Report.{Entry, Lists, _⊕_}
+use Rattle.report.specs.declared.entries.Tally.{Tally}
+use Rattle.report.proofs.ReportLaws.{lists-none, lists-then}
 use Rattle.checks.specs.Single.{validateSiblings}
 use Rattle.inlines.specs.Inlines.{finalBreak, validateInline, validateNode, validateInlineNodesAfter, validateInlineNodes, validateInlines}
 use Rattle.checks.specs.Walk.{Start, Done}

@@ -7,10 +7,10 @@ use lib.Dec.{eqb}
 use Rattle.leaves.specs.Lists.{if_then_else_}
 use Rattle.sheet.specs.Kinds.{isInline, text, escape, code, link, image, linkReference, imageReference, lineBreak, math, footnoteReference, inlineFootnote, wikiLink, textDirective}
 use Rattle.sheet.specs.Forest.{Forest, none, tree}
-use Rattle.sheet.specs.Report.{Entry, listIf, _⊕_}
 use Rattle.sheet.specs.declared.records.Rec.{Rec}
 use Rattle.sheet.specs.declared.records.Span.{Span}
 use Rattle.sheet.specs.declared.records.Text.{Text}
+use Rattle.report.specs.Report.{Entry, listIf, _⊕_}
 use Rattle.checks.specs.Rules
 use Rattle.checks.specs.Values.{isEmptyText, isEmphasisContainer, startsWhite, endsWhite, isJoined}
 use Rattle.checks.specs.Single.{validateDestination, validateIdentifier, validateText, validateEscape, validateCodeInline, validateMathInline, validateDirectiveName, validateSiblings}

@@ -2,7 +2,7 @@
 ghost use Prim.Native.Nat.{_+_};
 ghost use Rattle.sheet.specs.Sheet.{recordAt};
 ghost use Rattle.sheet.specs.Forest.{under};
-ghost use Rattle.sheet.specs.Report.{Lists, listIf, _⊕_};
+ghost use Rattle.report.specs.Report.{Lists, listIf, _⊕_};
 ghost use Rattle.checks.specs.Single.{validateDestination, validateIdentifier};
 ghost use Rattle.checks.specs.Every.{validateLinkText};
 ghost use Rattle.inlines.specs.Inlines.{noInline, validateTextDirective, validateEmphasisContainer, validateInline, validateInlineNodesAfter, validateInlines, validateNode, finalBreak};
@@ -15,11 +15,11 @@ use checks::single;
 use checks::values;
 use checks::walk;
 use checks::walk::Walked;
+use report::entries::Tally;
+use report::entries::list_if;
 use sheet::kinds;
 use sheet::records::Rec;
 use sheet::records::record_at;
-use sheet::report::Tally;
-use sheet::report::list_if;
 
 // Rule 30: a hard break is not the last inline. A container that a `]` closes is not asked.
 fn final_break(

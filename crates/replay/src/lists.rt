@@ -5,10 +5,10 @@ use crate::tally::Tally;
 use crate::texts;
 use inlines::nodes::validate_inlines;
 use leaves::part::part;
+use report::entries;
 use sheet::records::RECORD_WORDS;
 use sheet::refusal;
 use sheet::refusal::Judged;
-use sheet::report;
 
 // How many bytes stand before a record's words: how many words the sheet has, how many bytes its text, how many words the list.
 const HEAD: usize = 6;
@@ -25,7 +25,7 @@ fn listed(words: &[u32], text: &[u8], report: &mut [u32]) -> usize {
     match refusal::accept(words, text) {
         Judged::Accepted => {
             let path = [0u32; 1];
-            let w = validate_inlines(words, text, report, &path, n, 1, 1, report::none());
+            let w = validate_inlines(words, text, report, &path, n, 1, 1, entries::none());
             w.tally.words
         }
         _ => 0,

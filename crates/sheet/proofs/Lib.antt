@@ -9,6 +9,4 @@ pub mod AcceptLaws
 pub mod FormedLaws
 pub mod PlacedLaws
 pub mod ContainerLaws
-pub mod ReportLaws
-pub mod ReportExamples
 pub mod SheetExamples

@@ -7,4 +7,3 @@ pub mod Fields
 pub mod Refusal
 pub mod Judging
 pub mod Formed
-pub mod Report

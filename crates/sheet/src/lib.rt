@@ -1,7 +1,6 @@
-// The sheet: its records, where they may stand, and which sheets are refused; and the report's entries.
+// The sheet: its records, where they may stand, and which sheets are refused.
 pub mod fields;
 pub mod kinds;
 pub mod places;
 pub mod records;
 pub mod refusal;
-pub mod report;

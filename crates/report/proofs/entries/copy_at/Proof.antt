@@ -1,9 +1,9 @@
--- `sheet::report::copy_at` meets its contract.
+-- `report::entries::copy_at` meets its contract.
 use Prim.Native.Nat.{_-_}
-use Rattle.sheet.proofs.ReportLaws.{Copying, reports}
+use Rattle.report.proofs.ReportLaws.{Copying, reports}
 use lib.ListN.{length}
-use Rattle.sheet.proofs.report.copy_at.Statement.{statement}
-use Rattle.sheet.proofs.report.copy_at.Tie as tie
+use Rattle.report.proofs.entries.copy_at.Statement.{statement}
+use Rattle.report.proofs.entries.copy_at.Tie as tie
 
 abbrev Inv-loop : tie.InvT-loop
 Inv-loop dst₀ at src i₀ dst i = Copying dst₀ at src i dst

@@ -3,8 +3,8 @@ ghost use mathlib.Core.Path.{_≡_};
 ghost use mathlib.Core.Bool.{cond};
 ghost use Prim.Native.Nat.{_+_, _≤_};
 ghost use lib.ListN.{length};
-ghost use Rattle.sheet.specs.Report.{words, headWords, listIf, capped, start, counted, over, Lists};
-use crate::records::Span;
+ghost use Rattle.report.specs.Report.{words, headWords, listIf, capped, start, counted, over, Lists};
+use sheet::records::Span;
 
 // What a sum of the tally stops at: no report is as long.
 const CAP: usize = 4611686018427387904;

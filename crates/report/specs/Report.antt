@@ -6,8 +6,8 @@ use mathlib.Core.Path.{_≡_}
 use Prim.Native.Nat.{ℕ, zero, suc, min, _+_, _-_, _^_}
 use lib.Dec.{leb}
 use lib.ListN.{length, getD, take, drop}
 use Rattle.sheet.specs.declared.records.Span.{Span}
-use Rattle.sheet.specs.declared.report.Tally.{Tally}
+use Rattle.report.specs.declared.entries.Tally.{Tally}
 
 -- ---- entries and their words
 

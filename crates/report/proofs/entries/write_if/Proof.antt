@@ -1,7 +1,7 @@
--- `sheet::report::write_if` meets its contract.
-use Rattle.sheet.proofs.ReportLaws.{reports}
-use Rattle.sheet.proofs.report.write_if.Statement.{statement}
-use Rattle.sheet.proofs.report.write_if.Tie as tie
+-- `report::entries::write_if` meets its contract.
+use Rattle.report.proofs.ReportLaws.{reports}
+use Rattle.report.proofs.entries.write_if.Statement.{statement}
+use Rattle.report.proofs.entries.write_if.Tie as tie
 
 pub write-if-spec : {M : Type 1} → statement M
 write-if-spec =

@@ -12,9 +12,9 @@ use lib.Seq.{paste, paste-zero, paste-suc, take-all, take-nil, take-length, take
 use borrow.Author.Needs.{needs}
 use borrow.Author.Tests.{leb-true, leb-false, le-leb, lt-leb, not-true, not-false}
 use borrow.Rule.Slice.PartMut.{putMid}
-use Rattle.sheet.specs.Report.{Entry, words, headWords, flat, _⊕_, listIf, cap, capped, start, counted, after, over, put, Lists, fitting, entriesIn}
 use Rattle.sheet.specs.declared.records.Span.{Span}
-use Rattle.sheet.specs.declared.report.Tally.{Tally}
+use Rattle.report.specs.Report.{Entry, words, headWords, flat, _⊕_, listIf, cap, capped, start, counted, after, over, put, Lists, fitting, entriesIn}
+use Rattle.report.specs.declared.entries.Tally.{Tally}
 
 -- ---- joining
 
@@ -95,7 +95,7 @@ over-two w h p at fits =
     let rest : drop (at + length h + length p) x ≡ drop (at + length h + length p) w = rw (← drop-drop (length p) (at + length h) x, back, drop-drop) in
     over-fits x (at + length h) p (omega arith) ∙ rw (front, rest) (simp (length-append, append-assoc, add-assoc)) ∙ sym (over-fits w at (h ++ p) (omega arith))
 
--- ---- the functions of `report`, one law for each way through
+-- ---- the functions of `entries`, one law for each way through
 
 -- `copy_at`: the first i words of s stand over those of d from `at` on
 pub record Copying (d : List ℕ) (at : ℕ) (s : List ℕ) (i : ℕ) (e : List ℕ) : Type 0 where

@@ -1,7 +1,7 @@
--- `sheet::report::write_entry` meets its contract.
-use Rattle.sheet.proofs.ReportLaws.{reports}
-use Rattle.sheet.proofs.report.write_entry.Statement.{statement}
-use Rattle.sheet.proofs.report.write_entry.Tie as tie
+-- `report::entries::write_entry` meets its contract.
+use Rattle.report.proofs.ReportLaws.{reports}
+use Rattle.report.proofs.entries.write_entry.Statement.{statement}
+use Rattle.report.proofs.entries.write_entry.Tie as tie
 
 pub write-entry-spec : {M : Type 1} → statement M
 write-entry-spec =

@@ -3,8 +3,8 @@ use mathlib.Core.Path.{_≡_, refl}
 use mathlib.Core.Bool.{true, false}
 use mathlib.Core.List.{List, [], _∷_, _++_}
 use Prim.Native.Nat.{ℕ}
-use Rattle.sheet.specs.Report.{Entry, words, flat, _⊕_, listIf, start, after, over, put, fitting, entriesIn}
 use Rattle.sheet.specs.declared.records.Span.{Span}
+use Rattle.report.specs.Report.{Entry, words, flat, _⊕_, listIf, start, after, over, put, fitting, entriesIn}
 
 abbrev nowhere : Span
 nowhere = record { flag = 0; start = 0; end = 0 }

@@ -1,0 +1,2 @@
+// The report's entries.
+pub mod entries;
