@@ -11,9 +11,9 @@ use Rattle.leaves.specs.Names.{isDirectiveName}
 use Rattle.leaves.specs.Punctuation.{isAsciiPunctuation}
 use Rattle.sheet.specs.Fields.{textOf}
 use Rattle.sheet.specs.Kinds.{delete}
+use Rattle.report.specs.Report.{Entry, Lists, listIf}
 use Rattle.sheet.specs.declared.records.Span.{Span}
 use Rattle.sheet.specs.declared.records.Text.{Text}
-use Rattle.report.specs.Report.{Entry, Lists, listIf}
 use Rattle.report.specs.declared.entries.Tally.{Tally}
 use Rattle.report.proofs.ReportLaws.{lists-then}
 use Rattle.checks.specs.Single.{validateDestination, validateIdentifier, validateText, validateEscape, validateCodeInline, validateMathInline, validateDirectiveName, validateSiblings}

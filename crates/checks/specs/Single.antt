@@ -9,9 +9,9 @@ use Rattle.leaves.specs.Names.{isDirectiveName}
 use Rattle.leaves.specs.Punctuation.{isAsciiPunctuation}
 use Rattle.sheet.specs.Kinds.{delete}
 use Rattle.sheet.specs.Fields.{textOf}
+use Rattle.report.specs.Report.{Entry, listIf, _⊕_}
 use Rattle.sheet.specs.declared.records.Span.{Span}
 use Rattle.sheet.specs.declared.records.Text.{Text}
-use Rattle.report.specs.Report.{Entry, listIf, _⊕_}
 use Rattle.checks.specs.Rules
 use Rattle.checks.specs.Values.{isEmpty, isBreak, isPlainBreak}
 

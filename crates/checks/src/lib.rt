@@ -1,5 +1,4 @@
-// What both walks check: one record and its values, and every record under one.
+// What both walks ask of one record.
 pub mod rules;
 pub mod single;
 pub mod values;
-pub mod walk;

@@ -11,15 +11,15 @@ use Rattle.leaves.specs.Lists.{if_then_else_}
 use Rattle.sheet.specs.Kinds.{isInline, lineBreak}
 use Rattle.sheet.specs.Sheet.{recordAt}
 use Rattle.sheet.specs.Forest.{Forest, none, tree, under, size}
+use Rattle.report.specs.Report.{listIf}
 use Rattle.sheet.specs.declared.records.Rec.{Rec}
 use Rattle.sheet.proofs.Trees.{under-in, under-out, under-end}
-use Rattle.report.specs.Report.{listIf}
 use Rattle.inlines.specs.Content.{noContent, withInline, contentAfter, contentOf}
 use Rattle.inlines.specs.Inlines.{noInline, allEmpty, startsWithWhitespace, endsWithWhitespaceAfter, endsWithWhitespace, holdsJoined, finalBreakAfter, finalBreak}
 use Rattle.checks.specs.Rules
 use Rattle.checks.specs.Values.{isEmptyText, startsWhite, endsWhite, isJoined}
 use Rattle.inlines.specs.declared.content.Content.{Content}
-use Rattle.checks.proofs.WalkLaws.{Skipping, skip-start, skip-tree, skip-down, behindKids}
+use Rattle.walks.proofs.WalkLaws.{Skipping, skip-start, skip-tree, skip-down, behindKids}
 
 -- ---- one inline more, or a record of another sort
 module _ (bytes : List ℕ) (outer a : ℕ) (c : Content) (r : Rec) where

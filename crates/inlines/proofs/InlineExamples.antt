@@ -14,12 +14,12 @@ use Rattle.leaves.specs.White.{isWhite, startsWithWhite, endsWithWhite}
 use Rattle.sheet.specs.Fields.{textOf}
 use Rattle.sheet.specs.Forest.{Forest, none, tree}
 use Rattle.sheet.specs.Kinds.{attribute, text, escape, emphasis, strong, delete, mark, code, link, autolink, image, linkReference, imageReference, softBreak, lineBreak, math, footnoteReference, inlineFootnote, wikiLink, textDirective}
+use Rattle.report.specs.Report.{Entry, listIf, _⊕_}
 use Rattle.sheet.specs.declared.records.Rec.{Rec}
 use Rattle.sheet.specs.declared.records.Text.{Text}
-use Rattle.report.specs.Report.{Entry, listIf, _⊕_}
 use Rattle.checks.specs.Values.{startsWhite, endsWhite, isUnwritable, isBadAttribute}
 use Rattle.checks.specs.Single.{validateDestination, validateIdentifier, validateText, validateEscape, validateCodeInline, validateMathInline, validateDirectiveName, validateSiblings}
-use Rattle.checks.specs.Every.{validateDirectiveAttributes, validateLinkText, validateCellValues, validateOneLine, eachRecord}
+use Rattle.walks.specs.Every.{validateDirectiveAttributes, validateLinkText, validateCellValues, validateOneLine, eachRecord}
 use Rattle.inlines.specs.Inlines.{noInline, allEmpty, startsWithWhitespace, endsWithWhitespaceAfter, endsWithWhitespace, holdsJoined, validateTextDirective, finalBreakAfter, finalBreak, validateEmphasisContainer, validateInline, validateNode, validateInlineNodesAfter, validateInlineNodes, validateInlines}
 
 -- ---- records over the text

@@ -7,21 +7,21 @@ use borrow.Author.Needs.{needs}
 use borrow.Author.Tests.{ne-eqb}
 use Rattle.sheet.specs.Kinds.{text, escape, emphasis, strong, delete, mark, code, link, image, linkReference, imageReference, math, footnoteReference, inlineFootnote, wikiLink, textDirective}
 use Rattle.sheet.specs.Forest.{Forest, under}
+use Rattle.report.specs.Report.{Entry, Lists, listIf, _⊕_}
 use Rattle.sheet.specs.declared.records.Rec.{Rec}
 use Rattle.sheet.specs.declared.records.Span.{Span}
 use Rattle.sheet.specs.declared.records.Text.{Text}
-use Rattle.report.specs.Report.{Entry, Lists, listIf, _⊕_}
 use Rattle.report.specs.declared.entries.Tally.{Tally}
 use Rattle.report.proofs.ReportLaws.{lists-none, lists-then}
 use Rattle.inlines.specs.Content.{contentOf}
 use Rattle.checks.specs.Single.{validateDestination, validateIdentifier, validateText, validateEscape, validateCodeInline, validateMathInline, validateDirectiveName}
-use Rattle.checks.specs.Every.{validateDirectiveAttributes, validateLinkText}
+use Rattle.walks.specs.Every.{validateDirectiveAttributes, validateLinkText}
 use Rattle.inlines.specs.Inlines.{noInline, finalBreak, validateTextDirective, validateEmphasisContainer, validateInline}
 use Rattle.checks.specs.Rules
 use Rattle.checks.specs.Values.{isEmphasisContainer}
-use Rattle.checks.specs.Walk.{Done}
+use Rattle.walks.specs.Walk.{Done}
 use Rattle.inlines.specs.declared.content.Content.{Content}
-use Rattle.checks.specs.declared.walk.Walked.{Walked}
+use Rattle.walks.specs.declared.every.Walked.{Walked}
 use Rattle.inlines.proofs.ContentLaws.{says-none, says-empty, says-starts, says-ends, says-joined, says-last}
 
 -- ---- by what was gathered of the children

@@ -11,17 +11,17 @@ use Rattle.leaves.specs.Lists.{if_then_else_}
 use Rattle.sheet.specs.Kinds.{isInline}
 use Rattle.sheet.specs.Sheet.{recordAt}
 use Rattle.sheet.specs.Forest.{Forest, none, under, size}
-use Rattle.sheet.specs.declared.records.Rec.{Rec}
-use Rattle.sheet.proofs.Trees.{under-in}
 use Rattle.report.specs.Report.{Entry, Lists, _⊕_}
+use Rattle.sheet.specs.declared.records.Rec.{Rec}
 use Rattle.report.specs.declared.entries.Tally.{Tally}
+use Rattle.sheet.proofs.Trees.{under-in}
 use Rattle.report.proofs.ReportLaws.{lists-none, lists-then}
 use Rattle.checks.specs.Single.{validateSiblings}
 use Rattle.inlines.specs.Inlines.{finalBreak, validateInline, validateNode, validateInlineNodesAfter, validateInlineNodes, validateInlines}
-use Rattle.checks.specs.Walk.{Start, Done}
+use Rattle.walks.specs.Walk.{Start, Done}
 use Rattle.inlines.specs.Here.{Here}
-use Rattle.checks.specs.declared.walk.Walked.{Walked}
-use Rattle.checks.proofs.WalkLaws.{Loop, behindKids, skip-tree, loop-start, loop-turn, loop-out, loop-end}
+use Rattle.walks.specs.declared.every.Walked.{Walked}
+use Rattle.walks.proofs.WalkLaws.{Loop, behindKids, skip-tree, loop-start, loop-turn, loop-out, loop-end}
 
 -- ---- one record: what its children list, by a call
 abbrev pub underOf : List ℕ → List ℕ → List ℕ → ℕ → ℕ → ℕ → List Entry

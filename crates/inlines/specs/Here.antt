@@ -3,7 +3,7 @@ use Prim.Native.Nat.{ℕ, _+_}
 use mathlib.Core.List.{List}
 use mathlib.Core.Path.{_≡_}
 use Rattle.sheet.specs.Sheet.{recordAt}
-use Rattle.checks.specs.Walk.{Start}
+use Rattle.walks.specs.Walk.{Start}
 
 -- a start behind record i, whose level is given
 pub record Here (w path : List ℕ) (n i level : ℕ) : Type 0 where

@@ -1,4 +1,4 @@
--- The walk of inlines of validate.rs: for each of its functions a definition of the same name, which gives the list of its entries in its order. What it calls is in `Single` and `Every` of `checks`.
+-- The walk of inlines of validate.rs: for each of its functions a definition of the same name, which gives the list of its entries in its order. What it calls is in `Single` of `checks` and `Every` of `walks`.
 -- Inlines are the trees of a forest; trees of another sort (attributes, tags, blocks) are passed over. `path` is that of the enclosing block or cell.
 use Prim.Native.Nat.{ℕ}
 use mathlib.Core.Bool.{Bool, true, false, not, _&&_, _||_}
@@ -7,14 +7,14 @@ use lib.Dec.{eqb}
 use Rattle.leaves.specs.Lists.{if_then_else_}
 use Rattle.sheet.specs.Kinds.{isInline, text, escape, code, link, image, linkReference, imageReference, lineBreak, math, footnoteReference, inlineFootnote, wikiLink, textDirective}
 use Rattle.sheet.specs.Forest.{Forest, none, tree}
+use Rattle.report.specs.Report.{Entry, listIf, _⊕_}
 use Rattle.sheet.specs.declared.records.Rec.{Rec}
 use Rattle.sheet.specs.declared.records.Span.{Span}
 use Rattle.sheet.specs.declared.records.Text.{Text}
-use Rattle.report.specs.Report.{Entry, listIf, _⊕_}
 use Rattle.checks.specs.Rules
 use Rattle.checks.specs.Values.{isEmptyText, isEmphasisContainer, startsWhite, endsWhite, isJoined}
 use Rattle.checks.specs.Single.{validateDestination, validateIdentifier, validateText, validateEscape, validateCodeInline, validateMathInline, validateDirectiveName, validateSiblings}
-use Rattle.checks.specs.Every.{validateDirectiveAttributes, validateLinkText}
+use Rattle.walks.specs.Every.{validateDirectiveAttributes, validateLinkText}
 
 -- ---- inlines side by side
 

@@ -4,22 +4,22 @@ ghost use Rattle.sheet.specs.Sheet.{recordAt};
 ghost use Rattle.sheet.specs.Forest.{under};
 ghost use Rattle.report.specs.Report.{Lists, listIf, _⊕_};
 ghost use Rattle.checks.specs.Single.{validateDestination, validateIdentifier};
-ghost use Rattle.checks.specs.Every.{validateLinkText};
+ghost use Rattle.walks.specs.Every.{validateLinkText};
 ghost use Rattle.inlines.specs.Inlines.{noInline, validateTextDirective, validateEmphasisContainer, validateInline, validateInlineNodesAfter, validateInlines, validateNode, finalBreak};
 ghost use Rattle.checks.specs.Rules;
-ghost use Rattle.checks.specs.Walk.{Start, Done};
+ghost use Rattle.walks.specs.Walk.{Start, Done};
 ghost use Rattle.inlines.specs.Here.{Here};
 use crate::content::gather;
 use checks::rules;
 use checks::single;
 use checks::values;
-use checks::walk;
-use checks::walk::Walked;
 use report::entries::Tally;
 use report::entries::list_if;
 use sheet::kinds;
 use sheet::records::Rec;
 use sheet::records::record_at;
+use walks::every;
+use walks::every::Walked;
 
 // Rule 30: a hard break is not the last inline. A container that a `]` closes is not asked.
 fn final_break(
@@ -82,7 +82,7 @@ fn validate_link(
     ensures { λ q. ⌜ Lists tally q (now (report .entry)) (now (report .exit)) (validateDestination (now (path .entry)) (r .span) (r .a) (r .first) ⊕ validateLinkText (now (path .entry)) (under (now (sheet .entry)) n from (r .level))) ⌝ }
 {
     let out = single::validate_destination(report, path, r.span, r.a, r.first, tally);
-    let walked = walk::validate_link_text(sheet, report, path, n, from, r.level, out);
+    let walked = every::validate_link_text(sheet, report, path, n, from, r.level, out);
     walked.tally
 }
 
@@ -101,7 +101,7 @@ fn validate_link_reference(
 {
     let rule = rules::EMPTY_LINK_REFERENCE;
     let out = single::validate_identifier(report, path, rule, r.span, r.first, tally);
-    let walked = walk::validate_link_text(sheet, report, path, n, from, r.level, out);
+    let walked = every::validate_link_text(sheet, report, path, n, from, r.level, out);
     walked.tally
 }
 
@@ -120,7 +120,7 @@ fn validate_text_directive(
     ensures { λ q. ⌜ Lists tally q (now (report .entry)) (now (report .exit)) (validateTextDirective (now (bytes .entry)) (now (path .entry)) (r .span) (r .first) (under (now (sheet .entry)) n from (r .level))) ⌝ }
 {
     let out = single::validate_directive_name(bytes, report, path, r.span, r.first, tally);
-    let walked = walk::validate_directive_attributes(
+    let walked = every::validate_directive_attributes(
         sheet,
         bytes,
         report,
@@ -244,7 +244,7 @@ fn validate_node(
     let r = record_at(sheet, i);
     if !kinds::is_inline(r.kind) {
         return Walked {
-            next: walk::skip(sheet, n, i + 1, level),
+            next: every::skip(sheet, n, i + 1, level),
             tally,
         };
     }

@@ -7,7 +7,7 @@ use borrow.Fn.Kind.{PK}
 use Rattle.sheet.specs.Forest.{under}
 use Rattle.inlines.specs.Inlines.{validateInlineNodesAfter}
 use Rattle.inlines.proofs.NodeLaws.{node-done, node-falls, node-here, node-other, nodes-down, nodes-none, nodes-turn}
-use Rattle.checks.proofs.WalkLaws.{Loop, loop-end, loop-out, loop-start}
+use Rattle.walks.proofs.WalkLaws.{Loop, loop-end, loop-out, loop-start}
 use borrow.Fn.Kinds.{In}
 use borrow.Fn.PlainCycle.{Measures, is, falls, and}
 use Rattle.inlines.proofs.nodes.validate_inline_nodes.Reads as validate-inline-nodes
@@ -17,7 +17,7 @@ use Rattle.inlines.proofs.nodes.validate_node.Reads as validate-node
 use Rattle.inlines.proofs.nodes.+validate_inline_nodes+validate_node.Lts-validate_node as validate-node-lts
 use Rattle.inlines.proofs.nodes.validate_inline.Reads as validate-inline-reads
 use Rattle.checks.proofs.single.validate_siblings.Reads as validate-siblings-reads
-use Rattle.checks.proofs.walk.skip.Reads as skip-reads
+use Rattle.walks.proofs.every.skip.Reads as skip-reads
 use Rattle.sheet.proofs.kinds.is_inline.Reads as is-inline-reads
 use Rattle.sheet.proofs.kinds.pick.Reads as pick-reads
 use Rattle.sheet.proofs.records.record_at.Reads as record-at-reads

@@ -1,6 +1,6 @@
 -- `replay::lists::listed` meets its contract.
 use mathlib.Core.Path.{refl, sym, _∙_}
-use Rattle.checks.proofs.WalkLaws.{start-of}
+use Rattle.walks.proofs.WalkLaws.{start-of}
 use Rattle.sheet.proofs.FormedLaws.{accepted}
 use borrow.Author.Needs.{needs}
 use Rattle.replay.proofs.lists.listed.Statement.{statement}
