@@ -4,11 +4,11 @@ use mathlib.Core.List.{List, [], _∷_, _++_, map}
 use Prim.Native.Nat.{ℕ, _+_}
 use Rattle.leaves.specs.Fence.{holdsFenceLine, isFence}
 use Rattle.leaves.specs.Lines.{hasBlankEdgeLine, holdsLineEnding, isBlank, isCrOfCrlf, lines, longer, startsWith}
-use Rattle.leaves.specs.Lists.{all, any, none, firstOr, lastOr}
+use Rattle.strings.specs.Lists.{all, any, none, firstOr, lastOr}
 use Rattle.leaves.specs.Names.{isAttributeName, isBlankIdentifier, isDirectiveName, isRun, runs}
-use Rattle.leaves.specs.Part.{partOf}
+use Rattle.strings.specs.Part.{partOf}
 use Rattle.leaves.specs.Pipe.{hasOddEscapedPipe, oddPipeAfter}
-use Rattle.leaves.specs.Same.{sameBytes}
+use Rattle.strings.specs.Same.{sameBytes}
 use Rattle.leaves.specs.Title.{isAlertTitle}
 use Rattle.leaves.specs.Trim.{trim, trimCons, trimEnd, trimStart}
 use Rattle.sheet.specs.Fields.{textOf}

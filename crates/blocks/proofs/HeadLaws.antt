@@ -5,7 +5,7 @@ use mathlib.Core.List.{List}
 use Prim.Native.Nat.{ℕ}
 use borrow.Author.Needs.{needs}
 use lib.Dec.{eqb, ltb}
-use Rattle.leaves.specs.Lists.{if_then_else_}
+use Rattle.strings.specs.Lists.{if_then_else_}
 use Rattle.leaves.specs.Fence.{holdsFenceLine}
 use Rattle.leaves.specs.Lines.{hasBlankEdgeLine}
 use Rattle.leaves.specs.Names.{isBlankIdentifier}

@@ -4,7 +4,7 @@ use Prim.Native.Nat.{ℕ, suc}
 use mathlib.Core.Bool.{Bool, true, false}
 use mathlib.Core.List.{List, [], _∷_, _++_}
 use lib.Dec.{eqb}
-use Rattle.leaves.specs.Lists.{if_then_else_}
+use Rattle.strings.specs.Lists.{if_then_else_}
 use Rattle.sheet.specs.Kinds.{isBlock, isInline, paragraph, heading, blockQuote, alert, list, codeBlock, htmlContainer, definition, footnoteDefinition, table, frontmatter, leafDirective, containerDirective, blankLine}
 use Rattle.sheet.specs.Forest.{Forest, none, tree, count, forestOf}
 use Rattle.report.specs.Report.{Entry, listIf, _⊕_}

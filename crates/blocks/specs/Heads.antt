@@ -3,11 +3,11 @@ use Prim.Native.Nat.{ℕ, suc}
 use mathlib.Core.Bool.{Bool, true, false, not, _&&_, _||_}
 use mathlib.Core.List.{List, [], _∷_, _++_}
 use lib.Dec.{eqb, ltb}
-use Rattle.leaves.specs.Lists.{if_then_else_}
+use Rattle.strings.specs.Lists.{if_then_else_}
 use Rattle.leaves.specs.Fence.{holdsFenceLine}
 use Rattle.leaves.specs.Lines.{hasBlankEdgeLine}
 use Rattle.leaves.specs.Names.{isBlankIdentifier}
-use Rattle.leaves.specs.Same.{sameBytes}
+use Rattle.strings.specs.Same.{sameBytes}
 use Rattle.leaves.specs.Title.{isAlertTitle}
 use Rattle.leaves.specs.declared.fence.FrontmatterKind.{FrontmatterKind}
 use Rattle.leaves.specs.declared.fence.FrontmatterKind.the-variants.{Yaml, Toml}

@@ -112,14 +112,8 @@ pub fn validate_frontmatter(
     requires { ⌜ length (now path) ≤ 64 ⌝ }
     ensures { λ r. ⌜ Lists tally r (now (report .entry)) (now (report .exit)) (validateFrontmatter (now (bytes .entry)) (now (path .entry)) span level a value) ⌝ }
 {
-    let out = list_if(
-        1 < level,
-        report,
-        rules::FRONTMATTER_INSIDE,
-        span,
-        path,
-        tally,
-    );
+    let inside = 1 < level;
+    let out = list_if(inside, report, rules::FRONTMATTER_INSIDE, span, path, tally);
     let fenced = holds_fence_line(text_of(bytes, value), frontmatter_kind(a));
     list_if(fenced, report, rules::FENCE_IN_FRONTMATTER, span, path, out)
 }

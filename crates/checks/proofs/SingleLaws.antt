@@ -8,7 +8,7 @@ use lib.Dec.{eqb}
 use Rattle.leaves.specs.Lines.{holdsLineEnding}
 use Rattle.leaves.specs.Math.{holdsBacktickDollar}
 use Rattle.leaves.specs.Names.{isDirectiveName}
-use Rattle.leaves.specs.Punctuation.{isAsciiPunctuation}
+use Rattle.strings.specs.Punctuation.{isAsciiPunctuation}
 use Rattle.sheet.specs.Fields.{textOf}
 use Rattle.sheet.specs.Kinds.{delete}
 use Rattle.report.specs.Report.{Entry, Lists, listIf}

@@ -8,12 +8,12 @@ use borrow.Author.Needs.{needs}
 use borrow.Author.Tests.{le-leb}
 use lib.Dec.{eqb}
 use lib.ListN.{length}
-use Rattle.leaves.specs.Lists.{firstOr, lastOr}
+use Rattle.strings.specs.Lists.{firstOr, lastOr}
 use Rattle.leaves.specs.Names.{isAttributeName}
-use Rattle.leaves.specs.Part.{partOf}
+use Rattle.strings.specs.Part.{partOf}
 use Rattle.leaves.specs.Pipe.{hasOddEscapedPipe, oddPipeAfter}
-use Rattle.leaves.specs.Scalars.{scalars, decode}
-use Rattle.leaves.specs.White.{isWhite, startsWithWhite, endsWithWhite}
+use Rattle.strings.specs.Scalars.{scalars, decode}
+use Rattle.strings.specs.White.{isWhite, startsWithWhite, endsWithWhite}
 use Rattle.sheet.specs.Fields.{textOf}
 use Rattle.sheet.specs.Kinds.{attribute, text, wikiLink}
 use Rattle.sheet.specs.declared.records.Rec.{Rec}

@@ -3,10 +3,10 @@ use Prim.Native.Nat.{ℕ}
 use mathlib.Core.Bool.{Bool, not, _&&_, _||_}
 use mathlib.Core.List.{List, [], _∷_}
 use lib.Dec.{eqb}
-use Rattle.leaves.specs.Lists.{if_then_else_}
+use Rattle.strings.specs.Lists.{if_then_else_}
 use Rattle.leaves.specs.Names.{isAttributeName}
 use Rattle.leaves.specs.Pipe.{hasOddEscapedPipe}
-use Rattle.leaves.specs.White.{startsWithWhite, endsWithWhite}
+use Rattle.strings.specs.White.{startsWithWhite, endsWithWhite}
 use Rattle.sheet.specs.Kinds.{among, attribute, text, emphasis, strong, delete, mark, code, link, autolink, linkReference, imageReference, html, softBreak, lineBreak, math, footnoteReference, wikiLink}
 use Rattle.sheet.specs.Fields.{textOf}
 use Rattle.sheet.specs.declared.records.Rec.{Rec}

@@ -8,13 +8,13 @@ use crate::values;
 use leaves::lines::holds_line_ending;
 use leaves::math::holds_backtick_dollar;
 use leaves::names::is_directive_name;
-use leaves::punctuation::is_ascii_punctuation;
 use report::entries::Tally;
 use report::entries::list_if;
 use sheet::fields::text_of;
 use sheet::kinds;
 use sheet::records::Span;
 use sheet::records::Text;
+use strings::punctuation::is_ascii_punctuation;
 
 // Rule 25: a bare destination (`a` is 0) is not empty.
 pub fn validate_destination(

@@ -18,11 +18,11 @@ ghost use Rattle.checks.specs.Values.{
 };
 use leaves::names::is_attribute_name;
 use leaves::pipe::has_odd_escaped_pipe;
-use leaves::white;
 use sheet::fields::text_of;
 use sheet::kinds;
 use sheet::records::Rec;
 use sheet::records::Text;
+use strings::white;
 
 pub fn is_empty(t: Text) -> bool
     ensures { λ r. ⌜ r ≡ isEmpty t ⌝ }

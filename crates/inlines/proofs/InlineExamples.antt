@@ -2,15 +2,15 @@
 use mathlib.Core.Path.{_≡_, refl}
 use mathlib.Core.List.{List, [], _∷_, map}
 use Prim.Native.Nat.{ℕ}
-use Rattle.leaves.specs.Lists.{all, any, firstOr, lastOr}
+use Rattle.strings.specs.Lists.{all, any, firstOr, lastOr}
 use Rattle.leaves.specs.Lines.{holdsLineEnding, longer, startsWith}
 use Rattle.leaves.specs.Math.{holdsBacktickDollar}
 use Rattle.leaves.specs.Names.{isDirectiveName, isRun, runs, isAttributeName}
-use Rattle.leaves.specs.Part.{partOf}
+use Rattle.strings.specs.Part.{partOf}
 use Rattle.leaves.specs.Pipe.{hasOddEscapedPipe, oddPipeAfter}
-use Rattle.leaves.specs.Scalars.{scalars, decode, emit, leadBits, trailBits}
-use Rattle.leaves.specs.Utf8.{follow, table}
-use Rattle.leaves.specs.White.{isWhite, startsWithWhite, endsWithWhite}
+use Rattle.strings.specs.Scalars.{scalars, decode, emit, leadBits, trailBits}
+use Rattle.strings.specs.Utf8.{follow, table}
+use Rattle.strings.specs.White.{isWhite, startsWithWhite, endsWithWhite}
 use Rattle.sheet.specs.Fields.{textOf}
 use Rattle.sheet.specs.Forest.{Forest, none, tree}
 use Rattle.sheet.specs.Kinds.{attribute, text, escape, emphasis, strong, delete, mark, code, link, autolink, image, linkReference, imageReference, softBreak, lineBreak, math, footnoteReference, inlineFootnote, wikiLink, textDirective}

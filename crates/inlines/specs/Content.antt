@@ -3,7 +3,7 @@ use Prim.Native.Nat.{ℕ}
 use mathlib.Core.Bool.{true, false, not, _&&_, _||_}
 use mathlib.Core.List.{List}
 use lib.Dec.{eqb}
-use Rattle.leaves.specs.Lists.{if_then_else_}
+use Rattle.strings.specs.Lists.{if_then_else_}
 use Rattle.sheet.specs.Kinds.{isInline, lineBreak}
 use Rattle.sheet.specs.Forest.{Forest, none, tree}
 use Rattle.sheet.specs.declared.records.Rec.{Rec}

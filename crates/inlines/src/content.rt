@@ -6,11 +6,11 @@ ghost use Rattle.sheet.specs.Sheet.{recordWords};
 ghost use Rattle.sheet.specs.Forest.{under};
 ghost use Rattle.inlines.specs.Content.{noContent, withInline, contentOf};
 use checks::values;
-use leaves::bytes::choose;
 use sheet::kinds;
 use sheet::records;
 use sheet::records::Rec;
 use sheet::records::Span;
+use strings::bytes::choose;
 use walks::every::skip;
 
 pub struct Content {

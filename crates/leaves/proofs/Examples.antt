@@ -3,12 +3,8 @@ use mathlib.Core.Path.{_≡_, refl}
 use mathlib.Core.Bool.{Bool, true, false}
 use mathlib.Core.List.{List, [], _∷_}
 use Prim.Native.Nat.{ℕ}
-use Rattle.leaves.specs.Lists.{all, any, none, firstOr, lastOr}
-use Rattle.leaves.specs.Part.{partOf}
-use Rattle.leaves.specs.Same.{sameBytes}
-use Rattle.leaves.specs.Utf8.{isUtf8, wellFormed, follow, table}
-use Rattle.leaves.specs.Scalars.{scalars, decode, emit, leadBits, trailBits}
-use Rattle.leaves.specs.White.{isWhite, startsWithWhite, endsWithWhite}
+use Rattle.strings.specs.Lists.{all, any, none, firstOr, lastOr}
+use Rattle.strings.specs.Same.{sameBytes}
 use Rattle.leaves.specs.Lines.{lines, longer, isCrOfCrlf, startsWith, isBlank, hasBlankEdgeLine, holdsLineEnding}
 use Rattle.leaves.specs.Trim.{trim, trimStart, trimEnd, trimCons}
 use Rattle.leaves.specs.Fence.{isFence, holdsFenceLine}
@@ -16,27 +12,8 @@ use Rattle.leaves.specs.Title.{isAlertTitle}
 use Rattle.leaves.specs.Names.{isDirectiveName, isRun, runs, isAttributeName, isBlankIdentifier}
 use Rattle.leaves.specs.Pipe.{hasOddEscapedPipe, oddPipeAfter}
 use Rattle.leaves.specs.Math.{holdsBacktickDollar}
-use Rattle.leaves.specs.Punctuation.{isAsciiPunctuation}
+use Rattle.strings.specs.Punctuation.{isAsciiPunctuation}
 use Rattle.leaves.specs.declared.fence.FrontmatterKind.the-variants.{Yaml, Toml}
-
--- ---- UTF-8: the euro sign and U+1F3AC; C0 80 is overlong, ED A0 80 a surrogate, F4 90 80 80 above 10FFFF; cut short; a stray byte
-well-formed : (isUtf8 (0xE2 ∷ 0x82 ∷ 0xAC ∷ []) ≡ true) × (isUtf8 (0xF0 ∷ 0x9F ∷ 0x8E ∷ 0xAC ∷ []) ≡ true) × (isUtf8 [] ≡ true)
-unfolding isUtf8 wellFormed follow table
-well-formed = (refl, refl, refl)
-
-ill-formed : (isUtf8 (0xC0 ∷ 0x80 ∷ []) ≡ false) × (isUtf8 (0xED ∷ 0xA0 ∷ 0x80 ∷ []) ≡ false) × (isUtf8 (0xF4 ∷ 0x90 ∷ 0x80 ∷ 0x80 ∷ []) ≡ false) × (isUtf8 (0xE2 ∷ 0x82 ∷ []) ≡ false) × (isUtf8 (0x61 ∷ 0x80 ∷ []) ≡ false)
-unfolding isUtf8 wellFormed follow table
-ill-formed = (refl, refl, refl, refl, refl)
-
--- a, é, €, U+1F3AC; and a sequence that is broken by an a, and one that is cut short
-decoded : (scalars (0x61 ∷ 0xC3 ∷ 0xA9 ∷ 0xE2 ∷ 0x82 ∷ 0xAC ∷ 0xF0 ∷ 0x9F ∷ 0x8E ∷ 0xAC ∷ []) ≡ 0x61 ∷ 0xE9 ∷ 0x20AC ∷ 0x1F3AC ∷ []) × (scalars (0xE2 ∷ 0x82 ∷ 0x61 ∷ 0xE2 ∷ []) ≡ 0xFFFD ∷ 0x61 ∷ 0xFFFD ∷ [])
-unfolding scalars decode emit leadBits trailBits follow table
-decoded = (refl, refl)
-
--- ---- white space: U+000B, 0085, 2028 and 2029 are white here, and not CommonMark's Unicode whitespace; U+200B is not white
-white : (startsWithWhite (0x0B ∷ 0x61 ∷ []) ≡ true) × (startsWithWhite (0xC2 ∷ 0x85 ∷ []) ≡ true) × (endsWithWhite (0x61 ∷ 0xE2 ∷ 0x80 ∷ 0xA8 ∷ []) ≡ true) × (endsWithWhite (0xE2 ∷ 0x80 ∷ 0xA9 ∷ []) ≡ true) × (endsWithWhite (0xE2 ∷ 0x80 ∷ 0x8B ∷ []) ≡ false) × (startsWithWhite [] ≡ false)
-unfolding startsWithWhite endsWithWhite isWhite firstOr lastOr scalars decode emit leadBits trailBits follow table
-white = (refl, refl, refl, refl, refl, refl)
 
 -- ---- lines: CRLF is one line ending, CR LF LF and CR CR are two; `a CRLF b`, `a LF`, nothing
 crlf : (lines (97 ∷ 13 ∷ 10 ∷ 98 ∷ []) ≡ (97 ∷ []) ∷ (98 ∷ []) ∷ []) × (lines (97 ∷ 13 ∷ 10 ∷ 10 ∷ []) ≡ (97 ∷ []) ∷ [] ∷ []) × (lines (97 ∷ 13 ∷ 13 ∷ []) ≡ (97 ∷ []) ∷ [] ∷ []) × (lines (97 ∷ 10 ∷ []) ≡ (97 ∷ []) ∷ []) × (lines [] ≡ [])
@@ -77,8 +54,3 @@ names = (refl, refl, refl, refl, refl, refl, refl, refl)
 others : (isBlankIdentifier (32 ∷ 9 ∷ 10 ∷ 13 ∷ []) ≡ true) × (isBlankIdentifier (0xC2 ∷ 0xA0 ∷ []) ≡ false) × (holdsBacktickDollar (97 ∷ 96 ∷ 36 ∷ []) ≡ true) × (holdsBacktickDollar (36 ∷ 96 ∷ []) ≡ false) × (isAsciiPunctuation 0x21 ≡ true) × (isAsciiPunctuation 0x2F ≡ true) × (isAsciiPunctuation 0x30 ≡ false) × (isAsciiPunctuation 0x7E ≡ true) × (isAsciiPunctuation 0x7F ≡ false)
 unfolding isBlankIdentifier all holdsBacktickDollar startsWith
 others = (refl, refl, refl, refl, refl, refl, refl, refl, refl)
-
--- a part that ends with the text, an empty one at its end, and one that is past it
-parts : (partOf (1 ∷ 2 ∷ 3 ∷ []) 1 2 ≡ 2 ∷ 3 ∷ []) × (partOf (1 ∷ 2 ∷ 3 ∷ []) 3 0 ≡ []) × (partOf (1 ∷ 2 ∷ 3 ∷ []) 2 2 ≡ []) × (sameBytes (1 ∷ 2 ∷ []) (1 ∷ []) ≡ false)
-unfolding partOf sameBytes
-parts = (refl, refl, refl, refl)

@@ -7,17 +7,17 @@ use native.Mathlib.Omega.{arith}
 use lib.Dec.{eqb, leb, eqb·suc-zero}
 use lib.ListN.{replicate}
 use borrow.Author.Tests.{eq-eqb, ne-eqb, eqb-true}
-use Rattle.leaves.specs.Bytes.{isBlankByte, isLineEndingByte}
-use Rattle.leaves.specs.Lists.{if_then_else_, any}
+use Rattle.strings.specs.Bytes.{isBlankByte, isLineEndingByte}
+use Rattle.strings.specs.Lists.{if_then_else_, any}
 use Rattle.leaves.specs.Lines.{longer, isCrOfCrlf, lines}
 use Rattle.leaves.specs.Fence.{fenceByte, isFence, holdsFenceLine}
-use Rattle.leaves.specs.Same.{sameBytes}
+use Rattle.strings.specs.Same.{sameBytes}
 use Rattle.leaves.specs.Scans.{fenceLeft, fenceFrom}
 use Rattle.leaves.specs.Trim.{trimCons, trimEnd}
 use Rattle.leaves.specs.declared.fence.FrontmatterKind.{FrontmatterKind}
 use Rattle.leaves.specs.declared.fence.FrontmatterKind.the-variants.{Yaml, Toml}
 use Rattle.leaves.proofs.LineLaws.{lines-skip, lines-end, lines-hold}
-use Rattle.leaves.proofs.Scan.{scan}
+use Rattle.strings.proofs.Scan.{scan}
 
 -- ---- one line
 abbrev lineLeft : ℕ → ℕ → List ℕ → ℕ

@@ -1,11 +1,6 @@
-pub mod Scan
 pub mod Tests
 pub mod Naming
 pub mod Titles
-pub mod Pairs
-pub mod Parts
 pub mod LineLaws
 pub mod FenceLaws
-pub mod Decoding
-pub mod WhiteLaws
 pub mod Examples

@@ -7,12 +7,12 @@ use native.Mathlib.Omega.{arith}
 use lib.Dec.{eqb}
 use lib.ListN.{length, getD, drop, drop-of-length-le}
 use borrow.Author.Tests.{eqb-true}
-use Rattle.leaves.specs.Bytes.{tab, lf, cr, space, isBlankByte, isLineEndingByte}
-use Rattle.leaves.specs.Lists.{if_then_else_, all, firstOr, lastOr}
+use Rattle.strings.specs.Bytes.{tab, lf, cr, space, isBlankByte, isLineEndingByte}
+use Rattle.strings.specs.Lists.{if_then_else_, all, firstOr, lastOr}
 use Rattle.leaves.specs.Lines.{startsWith, longer, isCrOfCrlf, lines, isBlank, hasBlankEdgeLine}
 use Rattle.leaves.specs.Scans.{lastBlank, Led}
-use Rattle.leaves.proofs.Scan.{At, next}
-use Rattle.leaves.proofs.Scan.{scan}
+use Rattle.strings.proofs.Scan.{At, next}
+use Rattle.strings.proofs.Scan.{scan}
 
 module _ (b : ℕ) (s : List ℕ) where
   pub lines-skip : isCrOfCrlf b s ≡ true → lines (b ∷ s) ≡ lines s

@@ -6,13 +6,13 @@ use Prim.Native.Nat.{ℕ, zero, suc, _<_}
 use native.Mathlib.Omega.{arith}
 use lib.Dec.{eqb}
 use lib.ListN.{length, drop, getD}
-use Rattle.leaves.specs.Bytes.{hyphen}
-use Rattle.leaves.specs.Lists.{if_then_else_, all}
+use Rattle.strings.specs.Bytes.{hyphen}
+use Rattle.strings.specs.Lists.{if_then_else_, all}
 use Rattle.leaves.specs.Lines.{longer}
 use Rattle.leaves.specs.Names.{runs, isRun, isDirectiveName, beginsRun, continuesRun, isAttributeName, beginsAttribute, continuesAttribute}
 use Rattle.leaves.specs.Scans.{nameFrom}
-use Rattle.leaves.proofs.Scan.{At}
-use Rattle.leaves.proofs.Scan.{scan}
+use Rattle.strings.proofs.Scan.{At}
+use Rattle.strings.proofs.Scan.{scan}
 use Rattle.leaves.proofs.Tests.{all-yes, all-no}
 
 -- runs of which the first has begun already, where `start` is false

@@ -4,13 +4,13 @@ use mathlib.Core.Bool.{Bool, true, false, not, _&&_, _||_, and-false}
 use mathlib.Core.List.{List, [], _∷_}
 use Prim.Native.Nat.{ℕ}
 use lib.Dec.{eqb}
-use Rattle.leaves.specs.Bytes.{pipe, backslash, dollar, backtick}
-use Rattle.leaves.specs.Lists.{any, all}
+use Rattle.strings.specs.Bytes.{pipe, backslash, dollar, backtick}
+use Rattle.strings.specs.Lists.{any, all}
 use Rattle.leaves.specs.Lines.{startsWith}
 use Rattle.leaves.specs.Math.{holdsBacktickDollar}
 use Rattle.leaves.specs.Pipe.{oddPipeAfter}
 use Rattle.leaves.specs.Scans.{tickFrom}
-use Rattle.leaves.proofs.Scan.{scan}
+use Rattle.strings.proofs.Scan.{scan}
 
 module _ (test : ℕ → Bool) (b : ℕ) {r : Bool} (e : r ≡ test b) where
   pub any-no : r ≡ false → (s : List ℕ) → any test (b ∷ s) ≡ any test s

@@ -7,12 +7,12 @@ use native.Mathlib.Omega.{arith}
 use lib.Dec.{eqb}
 use borrow.Author.Tests.{eq-eqb}
 use lib.ListN.{length, getD}
-use Rattle.leaves.specs.Bytes.{isBlankByte}
-use Rattle.leaves.specs.Lists.{lastOr, none}
-use Rattle.leaves.specs.Same.{sameBytes}
+use Rattle.strings.specs.Bytes.{isBlankByte}
+use Rattle.strings.specs.Lists.{lastOr, none}
+use Rattle.strings.specs.Same.{sameBytes}
 use Rattle.leaves.specs.Title.{isAlertTitle}
 use Rattle.leaves.specs.Trim.{trimCons, trimEnd, trimStart, trim}
-use Rattle.leaves.proofs.Scan.{scan}
+use Rattle.strings.proofs.Scan.{scan}
 
 same-self : (s : List ℕ) → sameBytes s s ≡ true
 unfolding sameBytes

@@ -2,10 +2,10 @@
 use Prim.Native.Nat.{ℕ}
 use mathlib.Core.Bool.{Bool}
 use mathlib.Core.List.{List, [], _∷_}
-use Rattle.leaves.specs.Bytes.{hyphen, plus}
-use Rattle.leaves.specs.Lists.{any}
+use Rattle.strings.specs.Bytes.{hyphen, plus}
+use Rattle.strings.specs.Lists.{any}
 use Rattle.leaves.specs.Lines.{lines}
-use Rattle.leaves.specs.Same.{sameBytes}
+use Rattle.strings.specs.Same.{sameBytes}
 use Rattle.leaves.specs.Trim.{trimEnd}
 use Rattle.leaves.specs.declared.fence.FrontmatterKind.{FrontmatterKind}
 use Rattle.leaves.specs.declared.fence.FrontmatterKind.the-variants.{Yaml, Toml}

@@ -1,10 +1,3 @@
-pub mod Lists
-pub mod Bytes
-pub mod Part
-pub mod Same
-pub mod Utf8
-pub mod Scalars
-pub mod White
 pub mod Lines
 pub mod Trim
 pub mod Fence
@@ -12,6 +5,4 @@ pub mod Title
 pub mod Names
 pub mod Pipe
 pub mod Math
-pub mod Punctuation
 pub mod Scans
-pub mod Owed

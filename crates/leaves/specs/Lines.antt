@@ -3,8 +3,8 @@ use Prim.Native.Nat.{ℕ}
 use mathlib.Core.Bool.{Bool, false, _&&_, _||_}
 use mathlib.Core.List.{List, [], _∷_}
 use lib.Dec.{eqb}
-use Rattle.leaves.specs.Bytes.{cr, lf, isBlankByte, isLineEndingByte}
-use Rattle.leaves.specs.Lists.{if_then_else_, all, any, firstOr, lastOr}
+use Rattle.strings.specs.Bytes.{cr, lf, isBlankByte, isLineEndingByte}
+use Rattle.strings.specs.Lists.{if_then_else_, all, any, firstOr, lastOr}
 
 -- Document 01: "A line ending is held where there is a CR or LF."
 unfoldable pub holdsLineEnding : List ℕ → Bool

@@ -3,7 +3,7 @@ use Prim.Native.Nat.{ℕ}
 use mathlib.Core.Bool.{Bool, false, _&&_, _||_}
 use mathlib.Core.List.{List, [], _∷_}
 use lib.Dec.{eqb}
-use Rattle.leaves.specs.Bytes.{backtick, dollar}
+use Rattle.strings.specs.Bytes.{backtick, dollar}
 use Rattle.leaves.specs.Lines.{startsWith}
 
 unfoldable pub holdsBacktickDollar : List ℕ → Bool

@@ -3,8 +3,8 @@ use Prim.Native.Nat.{ℕ}
 use mathlib.Core.Bool.{Bool, false, _&&_, _||_}
 use mathlib.Core.List.{List, [], _∷_}
 use lib.Dec.{eqb}
-use Rattle.leaves.specs.Bytes.{isLetter, isDigit, isBlankByte, isLineEndingByte, hyphen, underscore, colon}
-use Rattle.leaves.specs.Lists.{if_then_else_, all}
+use Rattle.strings.specs.Bytes.{isLetter, isDigit, isBlankByte, isLineEndingByte, hyphen, underscore, colon}
+use Rattle.strings.specs.Lists.{if_then_else_, all}
 use Rattle.leaves.specs.Lines.{longer}
 
 -- Rust's `name.split('-')`: what stands before, between and after the hyphens

@@ -3,7 +3,7 @@ use Prim.Native.Nat.{ℕ}
 use mathlib.Core.Bool.{Bool, false, not, _&&_, _||_}
 use mathlib.Core.List.{List, [], _∷_}
 use lib.Dec.{eqb}
-use Rattle.leaves.specs.Bytes.{backslash, pipe}
+use Rattle.strings.specs.Bytes.{backslash, pipe}
 
 -- the same of the bytes that come next; `odd`: the run of backslashes before them is odd
 unfoldable pub oddPipeAfter : Bool → List ℕ → Bool

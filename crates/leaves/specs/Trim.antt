@@ -1,8 +1,8 @@
 -- A text without the spaces and tabs at its ends. Rules 11 and 29.
 use Prim.Native.Nat.{ℕ}
 use mathlib.Core.List.{List, [], _∷_}
-use Rattle.leaves.specs.Bytes.{isBlankByte}
-use Rattle.leaves.specs.Lists.{if_then_else_}
+use Rattle.strings.specs.Bytes.{isBlankByte}
+use Rattle.strings.specs.Lists.{if_then_else_}
 
 -- b in front of what is left of the bytes after it: nothing where all are blank
 unfoldable pub trimCons : ℕ → List ℕ → List ℕ

@@ -1,12 +1,12 @@
 // Frontmatter's fence lines.
 ghost use mathlib.Core.Path.{_≡_};
 ghost use Rattle.leaves.specs.Fence.{fenceByte, holdsFenceLine};
-ghost use Rattle.leaves.specs.Lists.{if_then_else_};
+ghost use Rattle.strings.specs.Lists.{if_then_else_};
 ghost use Rattle.leaves.specs.Scans.{fenceFrom, fenceLeft};
-use crate::bytes;
-use crate::bytes::HYPHEN;
-use crate::bytes::PLUS;
 use crate::lines;
+use strings::bytes;
+use strings::bytes::HYPHEN;
+use strings::bytes::PLUS;
 
 pub enum FrontmatterKind {
     Yaml,

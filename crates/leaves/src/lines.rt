@@ -5,9 +5,9 @@ ghost use mathlib.Core.Bool.{true};
 ghost use lib.ListN.{length, getD, drop};
 ghost use Rattle.leaves.specs.Lines.{holdsLineEnding, isBlank, isCrOfCrlf, hasBlankEdgeLine};
 ghost use Rattle.leaves.specs.Scans.{lastBlank, Led};
-use crate::bytes;
-use crate::bytes::CR;
-use crate::bytes::LF;
+use strings::bytes;
+use strings::bytes::CR;
+use strings::bytes::LF;
 
 pub fn holds_line_ending(s: &[u8]) -> bool
     ensures { λ r. ⌜ r ≡ holdsLineEnding (now (s .entry)) ⌝ }

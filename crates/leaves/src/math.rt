@@ -1,8 +1,8 @@
 // Inline math in its code form.
 ghost use mathlib.Core.Path.{_≡_};
 ghost use Rattle.leaves.specs.Math.{holdsBacktickDollar};
-use crate::bytes::BACKTICK;
-use crate::bytes::DOLLAR;
+use strings::bytes::BACKTICK;
+use strings::bytes::DOLLAR;
 
 // Whether a `$` stands right after a backtick; `tick`: the byte before is one.
 pub fn holds_backtick_dollar(s: &[u8]) -> bool

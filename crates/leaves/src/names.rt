@@ -10,10 +10,10 @@ ghost use Rattle.leaves.specs.Names.{
   isTrimmedByte,
   isBlankIdentifier,
 };
-use crate::bytes;
-use crate::bytes::COLON;
-use crate::bytes::HYPHEN;
-use crate::bytes::UNDERSCORE;
+use strings::bytes;
+use strings::bytes::COLON;
+use strings::bytes::HYPHEN;
+use strings::bytes::UNDERSCORE;
 
 fn begins_run(b: u8) -> bool
     ensures { λ r. ⌜ r ≡ beginsRun b ⌝ }

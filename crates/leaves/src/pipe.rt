@@ -1,8 +1,8 @@
 // Pipes in the values of a table cell.
 ghost use mathlib.Core.Path.{_≡_};
 ghost use Rattle.leaves.specs.Pipe.{hasOddEscapedPipe};
-use crate::bytes::BACKSLASH;
-use crate::bytes::PIPE;
+use strings::bytes::BACKSLASH;
+use strings::bytes::PIPE;
 
 // Whether a `|` stands right after an odd run of backslashes; `odd` is of the run before the byte read.
 pub fn has_odd_escaped_pipe(s: &[u8]) -> bool

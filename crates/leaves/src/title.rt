@@ -1,7 +1,7 @@
 // An alert's title.
 ghost use mathlib.Core.Path.{_≡_};
 ghost use Rattle.leaves.specs.Title.{isAlertTitle};
-use crate::bytes;
+use strings::bytes;
 
 // Whether there is a title with no space and no tab at its ends.
 pub fn is_alert_title(s: &[u8]) -> bool

@@ -4,11 +4,11 @@ use crate::sheets::fill;
 use crate::tally::Tally;
 use crate::texts;
 use inlines::nodes::validate_inlines;
-use leaves::part::part;
+use refusal::judge;
+use refusal::judge::Judged;
 use report::entries;
 use sheet::records::RECORD_WORDS;
-use sheet::refusal;
-use sheet::refusal::Judged;
+use strings::part::part;
 
 // How many bytes stand before a record's words: how many words the sheet has, how many bytes its text, how many words the list.
 const HEAD: usize = 6;
@@ -22,7 +22,7 @@ fn listed(words: &[u32], text: &[u8], report: &mut [u32]) -> usize {
     if n < 1 {
         return 0;
     }
-    match refusal::accept(words, text) {
+    match judge::accept(words, text) {
         Judged::Accepted => {
             let path = [0u32; 1];
             let w = validate_inlines(words, text, report, &path, n, 1, 1, entries::none());

@@ -3,7 +3,7 @@ ghost use Prim.Native.Nat.{_≤_};
 use crate::read;
 use crate::tally::Tally;
 use crate::texts;
-use sheet::refusal::Judged;
+use refusal::judge::Judged;
 
 // How many bytes stand before a record's words: two counts, the number, and its record.
 const HEAD: usize = 7;
@@ -32,20 +32,20 @@ fn text_bytes_of(r: &[u8]) -> usize
 // The answer for a stored sheet, whose words are brought to `words`; none where they do not fit.
 fn judged(words: &mut [u32], r: &[u8]) -> Judged {
     let n = words_of(r);
-    fill(words, leaves::part::part(r, HEAD, n * 4));
-    let text = leaves::part::part(r, HEAD + n * 4, text_bytes_of(r));
+    fill(words, strings::part::part(r, HEAD, n * 4));
+    let text = strings::part::part(r, HEAD + n * 4, text_bytes_of(r));
     if words.len() < n {
         return Judged::Accepted;
     }
-    sheet::refusal::accept(&words[..n], text)
+    refusal::judge::accept(&words[..n], text)
 }
 
 // Both the number and the record of the answer are compared.
 fn replay_record(r: &[u8], tally: Tally) -> Tally {
     let mut words = [0u32; 800];
     let answer = judged(&mut words, r);
-    let number = sheet::refusal::number_of(answer) as usize;
-    let record = sheet::refusal::record_of(answer);
+    let number = refusal::judge::number_of(answer) as usize;
+    let record = refusal::judge::record_of(answer);
     let fits = words_of(r) <= 800;
     let expected = read::size(read::byte(r, 4));
     tally
@@ -58,9 +58,9 @@ pub fn replay(s: &[u8]) -> Tally {
     let mut tally = Tally::none();
     let mut at: usize = 0;
     while at < s.len() {
-        let head = leaves::part::part(s, at, HEAD);
+        let head = strings::part::part(s, at, HEAD);
         let n = HEAD + words_of(head) * 4 + text_bytes_of(head);
-        tally = replay_record(leaves::part::part(s, at, n), tally);
+        tally = replay_record(strings::part::part(s, at, n), tally);
         at = at + n;
     }
     texts::ended(at == s.len(), tally)

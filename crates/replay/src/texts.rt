@@ -13,9 +13,9 @@ fn flag(yes: bool, weight: u32) -> u32
 fn first_seven(s: &[u8]) -> u32
     ensures { λ r. ⌜ r ≤ 0x7F ⌝ }
 {
-    flag(leaves::utf8::is_utf8(s), 0x01)
-        + flag(leaves::white::starts_with_white(s), 0x02)
-        + flag(leaves::white::ends_with_white(s), 0x04)
+    flag(strings::utf8::is_utf8(s), 0x01)
+        + flag(strings::white::starts_with_white(s), 0x02)
+        + flag(strings::white::ends_with_white(s), 0x04)
         + flag(leaves::lines::holds_line_ending(s), 0x08)
         + flag(leaves::lines::is_blank(s), 0x10)
         + flag(leaves::lines::has_blank_edge_line(s), 0x20)
@@ -73,7 +73,7 @@ fn compare_bit(wanted: bool, same: bool, tally: Tally) -> Tally {
 fn replay_record(r: &[u8], tally: Tally) -> Tally {
     let n = read::size(read::byte(r, 0));
     let both = read::number(r, 1);
-    let text = leaves::part::part(r, 5, n);
+    let text = strings::part::part(r, 5, n);
     compare(
         both % 0x1_0000,
         both / 0x1_0000,
@@ -87,7 +87,7 @@ pub fn replay(s: &[u8]) -> Tally {
     let mut at: usize = 0;
     while at < s.len() {
         let n = read::size(read::byte(s, at)) + 5;
-        tally = replay_record(leaves::part::part(s, at, n), tally);
+        tally = replay_record(strings::part::part(s, at, n), tally);
         at = at + n;
     }
     ended(at == s.len(), tally)

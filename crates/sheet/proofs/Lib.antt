@@ -2,11 +2,4 @@ pub mod RecordLaws
 pub mod PlaceLaws
 pub mod Trees
 pub mod SiblingLaws
-pub mod RefusalLaws
-pub mod OpenLaws
-pub mod TagLaws
-pub mod AcceptLaws
-pub mod FormedLaws
 pub mod PlacedLaws
-pub mod ContainerLaws
-pub mod SheetExamples

@@ -9,8 +9,8 @@ use lib.Dec.{eqb, ltb, leb}
 use lib.ListN.{length, getD, List·getD-eq-default}
 use borrow.Author.Needs.{needs}
 use borrow.Author.Tests.{leb-true, leb-false, eq-eqb, ne-eqb}
-use Rattle.leaves.proofs.Decoding.{and-left, and-right}
-use Rattle.leaves.specs.Lists.{if_then_else_}
+use Rattle.strings.proofs.Decoding.{and-left, and-right}
+use Rattle.strings.specs.Lists.{if_then_else_}
 use Rattle.sheet.specs.Kinds.{htmlTag}
 use Rattle.sheet.specs.Places.{holdsTagsAndBlocks, holdsTagsAndInlines, places, placeOf, opened, joined, misplaced}
 use Rattle.sheet.specs.declared.places.Open.{Open}

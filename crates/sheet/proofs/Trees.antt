@@ -11,7 +11,7 @@ use lib.Dec.{ltb}
 use borrow.Author.Tests.{ltb-true, ltb-false, lt-ltb, le-ltb}
 use Rattle.sheet.specs.Forest.{Forest, none, tree, deeper, past, grow, forestAt, under, size, recordsIn, recordsFrom}
 use Rattle.sheet.specs.declared.records.Rec.{Rec}
-use Rattle.leaves.specs.Lists.{if_then_else_}
+use Rattle.strings.specs.Lists.{if_then_else_}
 
 module _ (l : ℕ) (r : Rec) (kids rest : Forest) where
   pub past-in : l < r .level → past l (tree r kids rest) ≡ past l rest

@@ -4,10 +4,10 @@ use mathlib.Core.Bool.{Bool, not, _&&_, _||_}
 use mathlib.Core.List.{List, [], _∷_}
 use lib.Dec.{eqb, ltb, leb}
 use lib.ListN.{length}
-use Rattle.leaves.specs.Bytes.{between}
-use Rattle.leaves.specs.Lists.{if_then_else_}
-use Rattle.leaves.specs.Part.{partOf}
-use Rattle.leaves.specs.Utf8.{isUtf8}
+use Rattle.strings.specs.Bytes.{between}
+use Rattle.strings.specs.Lists.{if_then_else_}
+use Rattle.strings.specs.Part.{partOf}
+use Rattle.strings.specs.Utf8.{isUtf8}
 use Rattle.sheet.specs.Kinds.{among, heading, alert, list, codeBlock, htmlContainer, definition, footnoteDefinition, table, frontmatter, leafDirective, containerDirective, item, htmlTag, attribute, text, escape, emphasis, strong, code, link, autolink, image, linkReference, imageReference, html, lineBreak, math, footnoteReference, wikiLink, textDirective, tag}
 use Rattle.sheet.specs.declared.records.Rec.{Rec}
 use Rattle.sheet.specs.declared.records.Span.{Span}

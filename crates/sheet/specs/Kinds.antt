@@ -3,7 +3,7 @@ use Prim.Native.Nat.{ℕ}
 use mathlib.Core.Bool.{Bool, false, _||_}
 use mathlib.Core.List.{List, [], _∷_}
 use lib.Dec.{eqb}
-use Rattle.leaves.specs.Bytes.{between}
+use Rattle.strings.specs.Bytes.{between}
 
 -- blocks
 abbrev pub paragraph : ℕ

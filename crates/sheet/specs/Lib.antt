@@ -4,6 +4,3 @@ pub mod Siblings
 pub mod Forest
 pub mod Places
 pub mod Fields
-pub mod Refusal
-pub mod Judging
-pub mod Formed

@@ -4,7 +4,7 @@ use mathlib.Core.Bool.{Bool, true, false, not, _&&_, _||_}
 use mathlib.Core.List.{List, [], _∷_}
 use lib.Dec.{eqb, ltb, leb}
 use lib.ListN.{getD}
-use Rattle.leaves.specs.Lists.{if_then_else_}
+use Rattle.strings.specs.Lists.{if_then_else_}
 use Rattle.sheet.specs.Kinds.{among, isBlock, paragraph, heading, blockQuote, alert, list, htmlContainer, footnoteDefinition, table, leafDirective, containerDirective, item, row, cell, htmlTag, attribute, emphasis, strong, delete, mark, link, image, linkReference, imageReference, inlineFootnote, textDirective}
 use Rattle.sheet.specs.Siblings.{gather}
 use Rattle.sheet.specs.declared.records.Rec.{Rec}

@@ -3,8 +3,8 @@ use mathlib.Core.List.{List}
 use Prim.Native.Nat.{ℕ, zero, suc, _+_}
 use lib.Dec.{eqb}
 use mathlib.Core.Bool.{Bool}
-use Rattle.leaves.specs.Bytes.{between}
-use Rattle.leaves.specs.Lists.{if_then_else_}
+use Rattle.strings.specs.Bytes.{between}
+use Rattle.strings.specs.Lists.{if_then_else_}
 use Rattle.sheet.specs.Sheet.{recordAt}
 use Rattle.sheet.specs.declared.records.Rec.{Rec}
 

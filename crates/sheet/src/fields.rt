@@ -45,7 +45,7 @@ use crate::kinds::pick;
 use crate::records::Rec;
 use crate::records::Span;
 use crate::records::Text;
-use leaves::bytes::between;
+use strings::bytes::between;
 
 // The most that A may be; 0 where it is not used.
 fn most_a(kind: u32) -> u32
@@ -200,7 +200,7 @@ pub fn bad_field(r: Rec) -> bool
 pub fn text_of(bytes: &[u8], t: Text) -> &[u8]
     ensures { λ r. ⌜ now r ≡ textOf (now (bytes .entry)) t ⌝ }
 {
-    leaves::part::part(bytes, t.start as usize, t.len as usize)
+    strings::part::part(bytes, t.start as usize, t.len as usize)
 }
 
 pub fn text_outside(bytes: &[u8], t: Text) -> bool
@@ -214,5 +214,5 @@ pub fn text_outside(bytes: &[u8], t: Text) -> bool
 pub fn text_ill_formed(bytes: &[u8], t: Text) -> bool
     ensures { λ r. ⌜ r ≡ textIllFormed (now (bytes .entry)) t ⌝ }
 {
-    !leaves::utf8::is_utf8(text_of(bytes, t))
+    !strings::utf8::is_utf8(text_of(bytes, t))
 }

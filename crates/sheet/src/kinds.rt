@@ -1,8 +1,8 @@
 // Kinds of records, as document 01 numbers them.
 ghost use mathlib.Core.Path.{_≡_};
-ghost use Rattle.leaves.specs.Lists.{if_then_else_};
+ghost use Rattle.strings.specs.Lists.{if_then_else_};
 ghost use Rattle.sheet.specs.Kinds.{isBlock, isInline, isKind};
-use leaves::bytes::between;
+use strings::bytes::between;
 
 pub const PARAGRAPH: u32 = 1;
 

@@ -1,6 +1,5 @@
-// The sheet: its records, where they may stand, and which sheets are refused.
+// The sheet: its records, their fields and where they may stand.
 pub mod fields;
 pub mod kinds;
 pub mod places;
 pub mod records;
-pub mod refusal;

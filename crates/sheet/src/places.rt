@@ -4,7 +4,7 @@ ghost use mathlib.Core.Bool.{false};
 ghost use mathlib.Core.List.{[], _∷_};
 ghost use lib.Dec.{eqb};
 ghost use lib.ListN.{getD};
-ghost use Rattle.leaves.specs.Lists.{if_then_else_};
+ghost use Rattle.strings.specs.Lists.{if_then_else_};
 ghost use Rattle.sheet.specs.Kinds.{
   among,
   paragraph,

@@ -9,9 +9,9 @@ use borrow.Author.Needs.{needs}
 use borrow.Author.Tests.{ltb-true, ltb-false}
 use lib.Dec.{ltb}
 use lib.ListN.{length}
-use Rattle.leaves.specs.Lists.{if_then_else_}
+use Rattle.strings.specs.Lists.{if_then_else_}
 use Rattle.sheet.specs.Sheet.{recordAt, recordsOf}
-use Rattle.sheet.specs.Formed.{Sound}
+use Rattle.refusal.specs.Formed.{Sound}
 use Rattle.sheet.specs.Forest.{Forest, none, tree, deeper, past, forestAt, under, size}
 use Rattle.report.specs.Report.{Entry, Lists, listIf, _⊕_}
 use Rattle.sheet.specs.declared.records.Rec.{Rec}

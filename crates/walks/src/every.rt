@@ -2,7 +2,7 @@
 ghost use mathlib.Core.Path.{_≡_};
 ghost use Prim.Native.Nat.{_+_, _*_, _<_, _≤_};
 ghost use lib.ListN.{length};
-ghost use Rattle.leaves.specs.Lists.{if_then_else_};
+ghost use Rattle.strings.specs.Lists.{if_then_else_};
 ghost use Rattle.sheet.specs.Sheet.{recordWords};
 ghost use Rattle.sheet.specs.Forest.{under, size};
 ghost use Rattle.walks.specs.Every.{validateCellValues, validateDirectiveAttributes, validateLinkText, validateOneLine};

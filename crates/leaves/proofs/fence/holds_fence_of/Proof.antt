@@ -1,7 +1,7 @@
 -- `leaves::fence::holds_fence_of` meets its contract.
 use Rattle.leaves.proofs.FenceLaws.{fence-laws}
 use Prim.Native.Nat.{_-_}
-use Rattle.leaves.proofs.Scan.{At}
+use Rattle.strings.proofs.Scan.{At}
 use Rattle.leaves.specs.Scans.{fenceFrom}
 use lib.ListN.{length}
 use Rattle.leaves.proofs.fence.holds_fence_of.Statement.{statement}

@@ -1,10 +1,10 @@
 -- `leaves::lines::holds_line_ending` meets its contract.
 use Rattle.leaves.proofs.Tests.{tests}
 use Prim.Native.Nat.{_-_}
-use Rattle.leaves.proofs.Scan.{At}
-use Rattle.leaves.specs.Bytes.{isLineEndingByte}
+use Rattle.strings.proofs.Scan.{At}
+use Rattle.strings.specs.Bytes.{isLineEndingByte}
 use Rattle.leaves.specs.Lines.{holdsLineEnding}
-use Rattle.leaves.specs.Lists.{any}
+use Rattle.strings.specs.Lists.{any}
 use lib.ListN.{length}
 use Rattle.leaves.proofs.lines.holds_line_ending.Statement.{statement}
 use Rattle.leaves.proofs.lines.holds_line_ending.Tie as tie

@@ -1,10 +1,10 @@
 -- `leaves::lines::is_blank` meets its contract.
 use Rattle.leaves.proofs.Tests.{tests}
 use Prim.Native.Nat.{_-_}
-use Rattle.leaves.proofs.Scan.{At}
-use Rattle.leaves.specs.Bytes.{isBlankByte}
+use Rattle.strings.proofs.Scan.{At}
+use Rattle.strings.specs.Bytes.{isBlankByte}
 use Rattle.leaves.specs.Lines.{isBlank}
-use Rattle.leaves.specs.Lists.{all}
+use Rattle.strings.specs.Lists.{all}
 use lib.ListN.{length}
 use Rattle.leaves.proofs.lines.is_blank.Statement.{statement}
 use Rattle.leaves.proofs.lines.is_blank.Tie as tie

@@ -1,7 +1,7 @@
 -- `leaves::lines::last_line_is_blank` meets its contract.
 use Prim.Native.Nat.{_-_}
 use Rattle.leaves.proofs.LineLaws.{line-laws}
-use Rattle.leaves.proofs.Scan.{At}
+use Rattle.strings.proofs.Scan.{At}
 use Rattle.leaves.specs.Scans.{lastBlank}
 use lib.ListN.{drop, length}
 use mathlib.Core.Bool.{true}

@@ -1,7 +1,7 @@
 -- `leaves::math::holds_backtick_dollar` meets its contract.
 use Rattle.leaves.proofs.Tests.{tests}
 use Prim.Native.Nat.{_-_}
-use Rattle.leaves.proofs.Scan.{At}
+use Rattle.strings.proofs.Scan.{At}
 use Rattle.leaves.specs.Math.{holdsBacktickDollar}
 use Rattle.leaves.specs.Scans.{tickFrom}
 use lib.ListN.{length}

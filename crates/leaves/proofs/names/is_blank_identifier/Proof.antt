@@ -1,8 +1,8 @@
 -- `leaves::names::is_blank_identifier` meets its contract.
 use Rattle.leaves.proofs.Tests.{tests}
 use Prim.Native.Nat.{_-_}
-use Rattle.leaves.proofs.Scan.{At}
-use Rattle.leaves.specs.Lists.{all}
+use Rattle.strings.proofs.Scan.{At}
+use Rattle.strings.specs.Lists.{all}
 use Rattle.leaves.specs.Names.{isBlankIdentifier, isTrimmedByte}
 use lib.ListN.{length}
 use Rattle.leaves.proofs.names.is_blank_identifier.Statement.{statement}

@@ -1,7 +1,7 @@
 -- `leaves::names::is_directive_name` meets its contract.
 use Prim.Native.Nat.{_-_}
 use Rattle.leaves.proofs.Naming.{directive, naming}
-use Rattle.leaves.proofs.Scan.{At}
+use Rattle.strings.proofs.Scan.{At}
 use Rattle.leaves.specs.Names.{isDirectiveName}
 use Rattle.leaves.specs.Scans.{nameFrom}
 use lib.ListN.{length}

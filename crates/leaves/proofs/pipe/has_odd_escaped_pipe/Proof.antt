@@ -1,7 +1,7 @@
 -- `leaves::pipe::has_odd_escaped_pipe` meets its contract.
 use Rattle.leaves.proofs.Tests.{tests}
 use Prim.Native.Nat.{_-_}
-use Rattle.leaves.proofs.Scan.{At}
+use Rattle.strings.proofs.Scan.{At}
 use Rattle.leaves.specs.Pipe.{hasOddEscapedPipe, oddPipeAfter}
 use lib.ListN.{length}
 use Rattle.leaves.proofs.pipe.has_odd_escaped_pipe.Statement.{statement}

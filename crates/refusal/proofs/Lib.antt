@@ -1,0 +1,7 @@
+pub mod RefusalLaws
+pub mod OpenLaws
+pub mod TagLaws
+pub mod AcceptLaws
+pub mod FormedLaws
+pub mod ContainerLaws
+pub mod SheetExamples

@@ -1,0 +1,49 @@
+-- `refusal::judge::judge_records` meets its contract.
+use Prim.Native.Nat.{_-_}
+use Rattle.refusal.proofs.OpenLaws.{Judging, judging-passed, judging-turn, records-judged}
+use Rattle.sheet.specs.Places.{joined}
+use Rattle.refusal.specs.Refusal.{judge}
+use borrow.Author.Needs.{needs}
+use borrow.Author.Tests.{not-false}
+use Rattle.refusal.proofs.judge.judge_records.Statement.{statement}
+use Rattle.refusal.proofs.judge.judge_records.Tie as tie
+
+abbrev Inv-loop : tie.InvT-loop
+Inv-loop sheet bytes n open₀ before₀ i₀ «open» before i = Judging sheet bytes n i before «open»
+
+abbrev μ-loop : tie.MeasureT-loop
+μ-loop sheet bytes n open₀ before₀ i₀ «open» before i = n - i
+
+joined-requires : tie.Need-joined-requires Inv-loop μ-loop
+joined-requires c κs = (judging-passed _ _ _ _ _ _ (search needs) (c .before .before .before .before .before .before .before .loop .inv) (c .before .before .judge .ensures) (c .before .before .before .before .before .record-at .ensures) (c .before .before .before .before .slot-of .ensures .is) (c .before .is-accepted .ensures) (search records-judged)) .place
+
+loop-again : tie.Need-loop-again Inv-loop μ-loop
+loop-again c = judging-turn _ _ _ _ _ _ (search needs) (c .before .before .before .before .before .before .before .before .before .before .loop .inv) (c .before .before .before .before .before .judge .ensures) (c .before .before .before .before .before .before .before .before .record-at .ensures) (c .before .before .before .before .before .before .before .slot-of .ensures .is) (c .before .before .before .before .is-accepted .ensures) (not-false _ (c .before .before .before .if1 .left)) (c .opened2 .ensures) (c .before .parent-group .ensures) (c .before .before .joined .ensures)
+
+pub judge-records-spec : {M : Type 1} → statement M
+judge-records-spec =
+    tie.close
+    (tie.spec
+    Inv-loop
+    μ-loop
+    (λ c κs. search records-judged)
+    (λ c. search records-judged)
+    (λ c κs. search records-judged)
+    (λ c κs. search records-judged)
+    (λ c. search records-judged)
+    (λ c. search records-judged)
+    (λ c κs. search records-judged)
+    (λ c κs. search records-judged)
+    (λ c. search records-judged)
+    joined-requires
+    (λ c. search records-judged)
+    (λ c. search records-judged)
+    (λ c κs. search records-judged)
+    (λ c κs. search records-judged)
+    (λ c. search records-judged)
+    (λ c. search records-judged)
+    (λ c. search records-judged)
+    (λ c. search records-judged)
+    (λ c. search records-judged)
+    loop-again
+    (λ c. search records-judged))

@@ -1,0 +1,16 @@
+-- `refusal::judge::judge_texts` meets its contract.
+use Rattle.refusal.proofs.RefusalLaws.{judging}
+use Rattle.refusal.proofs.judge.judge_texts.Statement.{statement}
+use Rattle.refusal.proofs.judge.judge_texts.Tie as tie
+
+pub judge-texts-spec : {M : Type 1} → statement M
+judge-texts-spec =
+    tie.close
+    (tie.spec
+    (λ c κs. search judging)
+    (λ c κs. search judging)
+    (λ c. search judging)
+    (λ c κs. search judging)
+    (λ c κs. search judging)
+    (λ c. search judging)
+    (λ c. search judging))

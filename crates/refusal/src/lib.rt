@@ -1,0 +1,2 @@
+// Which sheets are refused.
+pub mod judge;
