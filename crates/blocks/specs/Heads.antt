@@ -11,7 +11,7 @@ use Rattle.strings.specs.Same.{sameBytes}
 use Rattle.leaves.specs.Title.{isAlertTitle}
 use Rattle.leaves.specs.declared.fence.FrontmatterKind.{FrontmatterKind}
 use Rattle.leaves.specs.declared.fence.FrontmatterKind.the-variants.{Yaml, Toml}
-use Rattle.sheet.specs.Kinds.{isBlock, paragraph, list, codeBlock, definition, footnoteDefinition, blankLine}
+use Rattle.sheet.specs.Kinds.{paragraph, list, codeBlock, definition, footnoteDefinition, blankLine}
 use Rattle.sheet.specs.Fields.{textOf}
 use Rattle.sheet.specs.Forest.{Forest, none, tree, count}
 use Rattle.report.specs.Report.{Entry, listIf, _⊕_}
@@ -21,7 +21,6 @@ use Rattle.sheet.specs.declared.records.Text.{Text}
 use Rattle.checks.specs.Rules
 use Rattle.checks.specs.Single.{validateDestination}
 use Rattle.checks.specs.Values.{isEmpty}
-use Rattle.inlines.specs.Inlines.{noInline}
 use Rattle.blocks.specs.declared.heads.Before.{Before}
 
 -- ---- one block
@@ -87,24 +86,14 @@ validateTakenBlock path span before kind a b =
     listIf (eqb (before .kind) list && eqb kind list && eqb (writtenMarker (before .a) (before .b)) (writtenMarker a b)) Rules.adjacentLists span path
     ⊕ listIf (eqb kind codeBlock && eqb a 1 && takesIndentedCode (before .kind) (before .a)) Rules.indentedCodeTaken span path
 
--- ---- the blocks of a footnote definition or an item
+-- ---- the blocks of a footnote definition or an item: all that stands under either (document 01: "blocks under the sheet, quote, alert, item and footnote definition")
 
--- no block stands here
-unfoldable pub noBlock : Forest → Bool
-noBlock none = true
-noBlock (tree r kids rest) = not (isBlock (r .kind)) && noBlock rest
-
--- 4 at the first blank line that is the first block, or that is the last; k is how many blocks stand before
+-- 4 at a blank line that is the first block, else at one that is the last; k is how many stand before
 unfoldable pub blankLineAt : List ℕ → ℕ → Forest → List Entry
 blankLineAt path k none = []
 blankLineAt path k (tree r kids rest) =
     let later = blankLineAt path (suc k) rest in
-    let passed = blankLineAt path k rest in
-    if not (isBlock (r .kind))
-    then passed
-    else if eqb (r .kind) blankLine && (eqb k 0 || noBlock rest)
-    then listIf true Rules.blankLineInFootnote (r .span) (path ++ k ∷ [])
-    else later
+    if eqb (r .kind) blankLine && (eqb k 0 || eqb (count rest) 0) then listIf true Rules.blankLineInFootnote (r .span) (path ++ k ∷ []) else later
 
 -- a footnote definition, up to its blocks: 3, then 4. Document 01: "rule 4 reports once though both ends are blank".
 unfoldable pub validateFootnoteDefinition : List ℕ → Span → Text → Forest → List Entry
@@ -119,21 +108,17 @@ validateItemNumber path span ordered present number =
 unfoldable pub validateItemBlankLines : List ℕ → Bool → Bool → ℕ → Forest → List Entry
 validateItemBlankLines path tight last k none = []
 validateItemBlankLines path tight last k (tree r kids rest) =
-    let later = validateItemBlankLines path tight last (suc k) rest in
-    let passed = validateItemBlankLines path tight last k rest in
-    if not (isBlock (r .kind))
-    then passed
-    else (listIf (eqb (r .kind) blankLine && tight) Rules.blankLineInTightList (r .span) (path ++ k ∷ [])
+    listIf (eqb (r .kind) blankLine && tight) Rules.blankLineInTightList (r .span) (path ++ k ∷ [])
     ⊕ listIf (eqb (r .kind) blankLine && not tight && eqb k 0) Rules.blankLineFirst (r .span) (path ++ k ∷ [])
-    ⊕ listIf (eqb (r .kind) blankLine && not tight && not (eqb k 0) && last && noBlock rest) Rules.blankLineLast (r .span) (path ++ k ∷ [])
-    ⊕ later)
+    ⊕ listIf (eqb (r .kind) blankLine && not tight && not (eqb k 0) && last && eqb (count rest) 0) Rules.blankLineLast (r .span) (path ++ k ∷ [])
+    ⊕ validateItemBlankLines path tight last (suc k) rest
 
--- the first block that is no definition is a paragraph that holds an inline
+-- the first block that is no definition is a paragraph with a child
 unfoldable pub opensWithParagraph : Forest → Bool
 opensWithParagraph none = false
 opensWithParagraph (tree r kids rest) =
     let later = opensWithParagraph rest in
-    if not (isBlock (r .kind)) || eqb (r .kind) definition then later else eqb (r .kind) paragraph && not (noInline kids)
+    if eqb (r .kind) definition then later else eqb (r .kind) paragraph && not (eqb (count kids) 0)
 
 -- `validate_task_item`: 14, where the item has a checkbox (A is not 0)
 unfoldable pub validateTaskItem : List ℕ → Span → ℕ → Forest → List Entry
@@ -144,7 +129,7 @@ validateTaskItem path span checked kids = listIf (not (eqb checked 0) && not (op
 -- how many blocks that are no blank lines
 unfoldable pub countFull : Forest → ℕ
 countFull none = 0
-countFull (tree r kids rest) = if isBlock (r .kind) && not (eqb (r .kind) blankLine) then suc (countFull rest) else countFull rest
+countFull (tree r kids rest) = if eqb (r .kind) blankLine then countFull rest else suc (countFull rest)
 
 -- one item, of at most one block beside blank lines
 unfoldable pub holdsOneBlock : Forest → Bool

@@ -1,7 +1,7 @@
 -- `inlines::content::gather` meets its contract.
 use Prim.Native.Nat.{_-_}
-use Rattle.inlines.proofs.ContentLaws.{Gathering}
-use Rattle.inlines.proofs.ContentLaws.{gathering}
+use borrow.Author.Needs.{needs}
+use Rattle.inlines.proofs.ContentLaws.{Gathering, gather-turn, gathering}
 use Rattle.inlines.proofs.content.gather.Statement.{statement}
 use Rattle.inlines.proofs.content.gather.Tie as tie
 
@@ -10,6 +10,9 @@ Inv-loop sheet bytes n from level outer a c₀ i₀ c i = Gathering bytes outer 
 
 abbrev μ-loop : tie.MeasureT-loop
 μ-loop sheet bytes n from level outer a c₀ i₀ c i = n - i
+
+loop-again : tie.Need-loop-again Inv-loop μ-loop
+loop-again c = gather-turn _ _ _ _ _ _ _ (c .before .before .before .before .before .before .loop .inv) (search needs) (c .before .before .before .before .record-at .ensures) (c .before .before .if1 .left) (c .before .with-inline .ensures) (c .skip .ensures)
 
 pub gather-spec : {M : Type 1} → statement M
 gather-spec =
@@ -25,5 +28,5 @@ gather-spec =
     (λ c. search gathering)
     (λ c κs. search gathering)
     (λ c. search gathering)
-    (λ c. search gathering)
+    loop-again
     (λ c. search gathering))
