@@ -42,7 +42,7 @@ validateCodeBlock bytes path span a b value info =
 unfoldable pub frontmatterKind : ℕ → FrontmatterKind
 frontmatterKind a = if eqb a 1 then Toml else Yaml
 
--- `validate_frontmatter`: 28, 29. Its depth is above 0 where its level is above 1 (document 01, stop 12 beside rule 28: "frontmatter whose level exceeds 1").
+-- `validate_frontmatter`: 28, 29. validate.rs asks for a depth above 0, the containers around it; on an accepted sheet that is a level above 1, since what holds a block is a container. No proof says so yet.
 unfoldable pub validateFrontmatter : List ℕ → List ℕ → Span → ℕ → ℕ → Text → List Entry
 validateFrontmatter bytes path span level a value =
     listIf (ltb 1 level) Rules.frontmatterInside span path ⊕ listIf (holdsFenceLine (frontmatterKind a) (textOf bytes value)) Rules.fenceInFrontmatter span path
