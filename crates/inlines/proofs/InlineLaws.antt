@@ -16,7 +16,7 @@ use Rattle.report.proofs.ReportLaws.{lists-none, lists-then}
 use Rattle.inlines.specs.Content.{contentOf}
 use Rattle.checks.specs.Single.{validateDestination, validateIdentifier, validateText, validateEscape, validateCodeInline, validateMathInline, validateDirectiveName}
 use Rattle.walks.specs.Every.{validateDirectiveAttributes, validateLinkText}
-use Rattle.inlines.specs.Inlines.{noInline, finalBreak, validateTextDirective, validateEmphasisContainer, validateInline}
+use Rattle.inlines.specs.Inlines.{noInline, finalBreak, validateTextDirective, validateEmphasisContainer, validateInlineValues, validateInline}
 use Rattle.checks.specs.Rules
 use Rattle.checks.specs.Values.{isEmphasisContainer}
 use Rattle.walks.specs.Walk.{Done}
@@ -48,8 +48,13 @@ module _ {w : List ℕ} {n from level : ℕ} {s t : Tally} {x y z : List ℕ} {r
 
 pub ruleset parts = (break-law, footnote-law, emphasis-law, then-walked, directive-law, needs)
 
--- ---- the kinds of which nothing is asked, in the shape that a `match` gives for its `_`
-pub of-others : (bytes path : List ℕ) (r : Rec) (kids : Forest) {s : Tally} {x : List ℕ} {f : Bool} → f ≡ isEmphasisContainer (r .kind) → f ≡ false → ((((((((((((Unit {0} × (r .kind ≡ text → ⊥)) × (r .kind ≡ link → ⊥)) × (r .kind ≡ image → ⊥)) × (r .kind ≡ linkReference → ⊥)) × (r .kind ≡ imageReference → ⊥)) × (r .kind ≡ escape → ⊥)) × (r .kind ≡ textDirective → ⊥)) × (r .kind ≡ footnoteReference → ⊥)) × (r .kind ≡ inlineFootnote → ⊥)) × (r .kind ≡ wikiLink → ⊥)) × (r .kind ≡ code → ⊥)) × (r .kind ≡ math → ⊥)) → Lists s s x x (validateInline bytes path r kids)
+-- ---- the kinds that no arm names, in the shape that a `match` gives for its `_`
+pub of-no-values : (bytes path : List ℕ) (r : Rec) {s : Tally} {x : List ℕ} → ((((((((Unit {0} × (r .kind ≡ text → ⊥)) × (r .kind ≡ image → ⊥)) × (r .kind ≡ imageReference → ⊥)) × (r .kind ≡ escape → ⊥)) × (r .kind ≡ footnoteReference → ⊥)) × (r .kind ≡ wikiLink → ⊥)) × (r .kind ≡ code → ⊥)) × (r .kind ≡ math → ⊥)) → Lists s s x x (validateInlineValues bytes path r)
+unfolding validateInlineValues
+of-no-values bytes path r none-of =
+    rw (ne-eqb (r .kind) text (none-of .0 .0 .0 .0 .0 .0 .0 .1), ne-eqb (r .kind) image (none-of .0 .0 .0 .0 .0 .0 .1), ne-eqb (r .kind) imageReference (none-of .0 .0 .0 .0 .0 .1), ne-eqb (r .kind) escape (none-of .0 .0 .0 .0 .1), ne-eqb (r .kind) footnoteReference (none-of .0 .0 .0 .1), ne-eqb (r .kind) wikiLink (none-of .0 .0 .1), ne-eqb (r .kind) code (none-of .0 .1), ne-eqb (r .kind) math (none-of .1)) lists-none
+
+pub of-others : (bytes path : List ℕ) (r : Rec) (kids : Forest) {s t : Tally} {x y : List ℕ} {f : Bool} → f ≡ isEmphasisContainer (r .kind) → f ≡ false → ((((Unit {0} × (r .kind ≡ link → ⊥)) × (r .kind ≡ linkReference → ⊥)) × (r .kind ≡ textDirective → ⊥)) × (r .kind ≡ inlineFootnote → ⊥)) → Lists s t x y (validateInlineValues bytes path r) → Lists s t x y (validateInline bytes path r kids)
 unfolding validateInline
-of-others bytes path r kids e f none-of =
-    rw (← e, f, ne-eqb (r .kind) text (none-of .0 .0 .0 .0 .0 .0 .0 .0 .0 .0 .0 .1), ne-eqb (r .kind) link (none-of .0 .0 .0 .0 .0 .0 .0 .0 .0 .0 .1), ne-eqb (r .kind) image (none-of .0 .0 .0 .0 .0 .0 .0 .0 .0 .1), ne-eqb (r .kind) linkReference (none-of .0 .0 .0 .0 .0 .0 .0 .0 .1), ne-eqb (r .kind) imageReference (none-of .0 .0 .0 .0 .0 .0 .0 .1), ne-eqb (r .kind) escape (none-of .0 .0 .0 .0 .0 .0 .1), ne-eqb (r .kind) textDirective (none-of .0 .0 .0 .0 .0 .1), ne-eqb (r .kind) footnoteReference (none-of .0 .0 .0 .0 .1), ne-eqb (r .kind) inlineFootnote (none-of .0 .0 .0 .1), ne-eqb (r .kind) wikiLink (none-of .0 .0 .1), ne-eqb (r .kind) code (none-of .0 .1), ne-eqb (r .kind) math (none-of .1)) lists-none
+of-others bytes path r kids e f none-of l =
+    rw (← e, f, ne-eqb (r .kind) link (none-of .0 .0 .0 .1), ne-eqb (r .kind) linkReference (none-of .0 .0 .1), ne-eqb (r .kind) textDirective (none-of .0 .1), ne-eqb (r .kind) inlineFootnote (none-of .1)) l

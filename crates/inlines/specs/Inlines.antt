@@ -72,30 +72,20 @@ validateEmphasisContainer bytes path span kind a kids =
     ⊕ listIf (holdsJoined kind a kids) Rules.joinedEmphasis span path
     ⊕ finalBreak path kids
 
--- The match of `validate_inline_nodes` on one inline, up to the walk of its children.
+-- The match of `validate_inline_nodes` on one inline, for the kinds that are asked for their own values alone.
 -- Shortcodes, tags, autolinks and character references have only messages that are dropped; raw HTML and breaks have none.
-unfoldable pub validateInline : List ℕ → List ℕ → Rec → Forest → List Entry
-validateInline bytes path r kids =
-    if isEmphasisContainer (r .kind)
-    then validateEmphasisContainer bytes path (r .span) (r .kind) (r .a) kids
-    else if eqb (r .kind) text
+unfoldable pub validateInlineValues : List ℕ → List ℕ → Rec → List Entry
+validateInlineValues bytes path r =
+    if eqb (r .kind) text
     then validateText bytes path (r .span) (r .first)
-    else if eqb (r .kind) link
-    then validateDestination path (r .span) (r .a) (r .first) ⊕ validateLinkText path kids
     else if eqb (r .kind) image
     then validateDestination path (r .span) (r .a) (r .first)
-    else if eqb (r .kind) linkReference
-    then validateIdentifier path Rules.emptyLinkReference (r .span) (r .first) ⊕ validateLinkText path kids
     else if eqb (r .kind) imageReference
     then validateIdentifier path Rules.emptyImageReference (r .span) (r .first)
     else if eqb (r .kind) escape
     then validateEscape path (r .span) (r .a)
-    else if eqb (r .kind) textDirective
-    then validateTextDirective bytes path (r .span) (r .first) kids
     else if eqb (r .kind) footnoteReference
     then validateIdentifier path Rules.emptyFootnoteReference (r .span) (r .first)
-    else if eqb (r .kind) inlineFootnote
-    then listIf (noInline kids) Rules.emptyInlineFootnote (r .span) path
     else if eqb (r .kind) wikiLink
     then validateIdentifier path Rules.emptyWikiLink (r .span) (r .first)
     else if eqb (r .kind) code
@@ -103,6 +93,21 @@ validateInline bytes path r kids =
     else if eqb (r .kind) math
     then validateMathInline bytes path (r .span) (r .a) (r .b) (r .first)
     else []
+
+-- The whole of that match, up to the walk of the inline's children: the kinds that are asked for what they hold, and those above.
+unfoldable pub validateInline : List ℕ → List ℕ → Rec → Forest → List Entry
+validateInline bytes path r kids =
+    if isEmphasisContainer (r .kind)
+    then validateEmphasisContainer bytes path (r .span) (r .kind) (r .a) kids
+    else if eqb (r .kind) link
+    then validateDestination path (r .span) (r .a) (r .first) ⊕ validateLinkText path kids
+    else if eqb (r .kind) linkReference
+    then validateIdentifier path Rules.emptyLinkReference (r .span) (r .first) ⊕ validateLinkText path kids
+    else if eqb (r .kind) textDirective
+    then validateTextDirective bytes path (r .span) (r .first) kids
+    else if eqb (r .kind) inlineFootnote
+    then listIf (noInline kids) Rules.emptyInlineFootnote (r .span) path
+    else validateInlineValues bytes path r
 
 -- an inline with the one before it, then itself, then what its children list. Every kind that has children walks them last.
 unfoldable pub validateNode : List ℕ → List ℕ → ℕ → Rec → Forest → List Entry → List Entry

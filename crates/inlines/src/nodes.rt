@@ -1,11 +1,12 @@
 // The walk of inlines: each by its kind, with the one before it and with its children.
-ghost use Prim.Native.Nat.{_+_};
+ghost use Prim.Native.Nat.{_+_, _≤_};
+ghost use lib.ListN.{length};
 ghost use Rattle.sheet.specs.Sheet.{recordAt};
 ghost use Rattle.sheet.specs.Forest.{under};
 ghost use Rattle.report.specs.Report.{Lists, listIf, _⊕_};
 ghost use Rattle.checks.specs.Single.{validateDestination, validateIdentifier};
 ghost use Rattle.walks.specs.Every.{validateLinkText};
-ghost use Rattle.inlines.specs.Inlines.{noInline, validateTextDirective, validateEmphasisContainer, validateInline, validateInlineNodesAfter, validateInlines, validateNode, finalBreak};
+ghost use Rattle.inlines.specs.Inlines.{noInline, validateTextDirective, validateEmphasisContainer, validateInlineValues, validateInline, validateInlineNodesAfter, validateInlines, validateNode, finalBreak};
 ghost use Rattle.checks.specs.Rules;
 ghost use Rattle.walks.specs.Walk.{Start, Done};
 ghost use Rattle.inlines.specs.Here.{Here};
@@ -158,6 +159,42 @@ fn validate_inline_footnote(
     )
 }
 
+// What an inline reports that is asked for its own values alone.
+fn validate_inline_values(
+    bytes: &[u8],
+    report: &mut [u32],
+    path: &[u32],
+    r: Rec,
+    tally: Tally,
+) -> Tally
+    requires { ⌜ length (now path) ≤ 64 ⌝ }
+    ensures { λ q. ⌜ Lists tally q (now (report .entry)) (now (report .exit)) (validateInlineValues (now (bytes .entry)) (now (path .entry)) r) ⌝ }
+{
+    let kind = r.kind;
+    match kind {
+        kinds::TEXT => single::validate_text(bytes, report, path, r.span, r.first, tally),
+        kinds::IMAGE => single::validate_destination(report, path, r.span, r.a, r.first, tally),
+        kinds::IMAGE_REFERENCE => {
+            let rule = rules::EMPTY_IMAGE_REFERENCE;
+            single::validate_identifier(report, path, rule, r.span, r.first, tally)
+        }
+        kinds::ESCAPE => single::validate_escape(report, path, r.span, r.a, tally),
+        kinds::FOOTNOTE_REFERENCE => {
+            let rule = rules::EMPTY_FOOTNOTE_REFERENCE;
+            single::validate_identifier(report, path, rule, r.span, r.first, tally)
+        }
+        kinds::WIKI_LINK => {
+            let rule = rules::EMPTY_WIKI_LINK;
+            single::validate_identifier(report, path, rule, r.span, r.first, tally)
+        }
+        kinds::CODE => single::validate_code_inline(bytes, report, path, r.span, r.first, tally),
+        kinds::MATH => {
+            single::validate_math_inline(bytes, report, path, r.span, r.a, r.b, r.first, tally)
+        }
+        _ => tally,
+    }
+}
+
 // What one inline reports of itself, before its children, which start at record `from`.
 fn validate_inline(
     sheet: &[u32],
@@ -177,52 +214,15 @@ fn validate_inline(
         return validate_emphasis_container(sheet, bytes, report, path, n, from, r, tally);
     }
     match kind {
-        kinds::TEXT => single::validate_text(bytes, report, path, r.span, r.first, tally),
         kinds::LINK => validate_link(sheet, report, path, n, from, r, tally),
-        kinds::IMAGE => single::validate_destination(report, path, r.span, r.a, r.first, tally),
         kinds::LINK_REFERENCE => validate_link_reference(sheet, report, path, n, from, r, tally),
-        kinds::IMAGE_REFERENCE => {
-            single::validate_identifier(
-                report,
-                path,
-                rules::EMPTY_IMAGE_REFERENCE,
-                r.span,
-                r.first,
-                tally,
-            )
-        }
-        kinds::ESCAPE => single::validate_escape(report, path, r.span, r.a, tally),
         kinds::TEXT_DIRECTIVE => {
             validate_text_directive(sheet, bytes, report, path, n, from, r, tally)
-        }
-        kinds::FOOTNOTE_REFERENCE => {
-            single::validate_identifier(
-                report,
-                path,
-                rules::EMPTY_FOOTNOTE_REFERENCE,
-                r.span,
-                r.first,
-                tally,
-            )
         }
         kinds::INLINE_FOOTNOTE => {
             validate_inline_footnote(sheet, bytes, report, path, n, from, r, tally)
         }
-        kinds::WIKI_LINK => {
-            single::validate_identifier(
-                report,
-                path,
-                rules::EMPTY_WIKI_LINK,
-                r.span,
-                r.first,
-                tally,
-            )
-        }
-        kinds::CODE => single::validate_code_inline(bytes, report, path, r.span, r.first, tally),
-        kinds::MATH => {
-            single::validate_math_inline(bytes, report, path, r.span, r.a, r.b, r.first, tally)
-        }
-        _ => tally,
+        _ => validate_inline_values(bytes, report, path, r, tally),
     }
 }
 
