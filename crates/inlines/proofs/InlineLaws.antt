@@ -13,16 +13,16 @@ use Rattle.sheet.specs.declared.records.Span.{Span}
 use Rattle.sheet.specs.declared.records.Text.{Text}
 use Rattle.report.specs.declared.entries.Tally.{Tally}
 use Rattle.report.proofs.ReportLaws.{lists-none, lists-then}
-use Rattle.inlines.specs.Content.{contentOf}
+use Rattle.contents.specs.Content.{contentOf}
 use Rattle.checks.specs.Single.{validateDestination, validateIdentifier, validateText, validateEscape, validateCodeInline, validateMathInline, validateDirectiveName}
 use Rattle.walks.specs.Every.{validateDirectiveAttributes, validateLinkText}
 use Rattle.inlines.specs.Inlines.{noInline, finalBreak, validateTextDirective, validateEmphasisContainer, validateInlineValues, validateInline}
 use Rattle.checks.specs.Rules
 use Rattle.checks.specs.Values.{isEmphasisContainer}
 use Rattle.walks.specs.Walk.{Done}
-use Rattle.inlines.specs.declared.content.Content.{Content}
+use Rattle.contents.specs.declared.content.Content.{Content}
 use Rattle.walks.specs.declared.every.Walked.{Walked}
-use Rattle.inlines.proofs.ContentLaws.{says-none, says-empty, says-starts, says-ends, says-joined, says-last}
+use Rattle.contents.proofs.ContentLaws.{says-none, says-empty, says-starts, says-ends, says-joined, says-last}
 
 -- ---- by what was gathered of the children
 module _ (bytes path : List ℕ) (outer a : ℕ) (f : Forest) {s t : Tally} {x y : List ℕ} {c : Content} (is : c ≡ contentOf bytes outer a f) where

@@ -1,4 +1,3 @@
-pub mod ContentLaws
 pub mod InlineLaws
 pub mod NodeLaws
 pub mod InlineExamples

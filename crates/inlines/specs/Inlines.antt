@@ -1,68 +1,25 @@
--- The walk of inlines of validate.rs: for each of its functions a definition of the same name, which gives the list of its entries in its order. What it calls is in `Single` of `checks` and `Every` of `walks`.
+-- The walk of inlines of validate.rs: for each of its functions a definition of the same name, which gives the list of its entries in its order. What it calls is in `Single` of `checks`, `Every` of `walks` and `Beside` of `contents`.
 -- Inlines are the trees of a forest; trees of another sort (attributes, tags, blocks) are passed over. `path` is that of the enclosing block or cell.
 use Prim.Native.Nat.{ℕ}
-use mathlib.Core.Bool.{Bool, true, false, not, _&&_, _||_}
+use mathlib.Core.Bool.{not, _&&_, _||_}
 use mathlib.Core.List.{List, []}
 use lib.Dec.{eqb}
 use Rattle.strings.specs.Lists.{if_then_else_}
-use Rattle.sheet.specs.Kinds.{isInline, text, escape, code, link, image, linkReference, imageReference, lineBreak, math, footnoteReference, inlineFootnote, wikiLink, textDirective}
+use Rattle.sheet.specs.Kinds.{isInline, text, escape, code, link, image, linkReference, imageReference, math, footnoteReference, inlineFootnote, wikiLink, textDirective}
 use Rattle.sheet.specs.Forest.{Forest, none, tree}
 use Rattle.report.specs.Report.{Entry, listIf, _⊕_}
 use Rattle.sheet.specs.declared.records.Rec.{Rec}
 use Rattle.sheet.specs.declared.records.Span.{Span}
 use Rattle.sheet.specs.declared.records.Text.{Text}
 use Rattle.checks.specs.Rules
-use Rattle.checks.specs.Values.{isEmptyText, isEmphasisContainer, startsWhite, endsWhite, isJoined}
+use Rattle.checks.specs.Values.{isEmphasisContainer}
 use Rattle.checks.specs.Single.{validateDestination, validateIdentifier, validateText, validateEscape, validateCodeInline, validateMathInline, validateDirectiveName, validateSiblings}
 use Rattle.walks.specs.Every.{validateDirectiveAttributes, validateLinkText}
-
--- ---- inlines side by side
-
--- no inline stands here
-unfoldable pub noInline : Forest → Bool
-noInline none = true
-noInline (tree r kids rest) = not (isInline (r .kind)) && noInline rest
-
--- `inlines.iter().all(is_empty_text)`
-unfoldable pub allEmpty : Forest → Bool
-allEmpty none = true
-allEmpty (tree r kids rest) = (not (isInline (r .kind)) || isEmptyText r) && allEmpty rest
-
--- `starts_with_whitespace`: the first inline that is no empty text starts with white space
-unfoldable pub startsWithWhitespace : List ℕ → Forest → Bool
-startsWithWhitespace bytes none = false
-startsWithWhitespace bytes (tree r kids rest) =
-    let later = startsWithWhitespace bytes rest in
-    if not (isInline (r .kind)) || isEmptyText r then later else startsWhite bytes r
-
--- `ends_with_whitespace`: the last inline that is no empty text ends with white space; `last` is that of the inlines before
-unfoldable pub endsWithWhitespaceAfter : List ℕ → Bool → Forest → Bool
-endsWithWhitespaceAfter bytes last none = last
-endsWithWhitespaceAfter bytes last (tree r kids rest) = endsWithWhitespaceAfter bytes (if not (isInline (r .kind)) || isEmptyText r then last else endsWhite bytes r) rest
-
-unfoldable pub endsWithWhitespace : List ℕ → Forest → Bool
-endsWithWhitespace bytes f = endsWithWhitespaceAfter bytes false f
-
--- an only child of `outer` that is written with the same delimiter
-unfoldable pub holdsJoined : ℕ → ℕ → Forest → Bool
-holdsJoined outer a none = false
-holdsJoined outer a (tree r kids rest) =
-    let later = holdsJoined outer a rest in
-    if isInline (r .kind) then isJoined outer a (r .kind) (r .a) && noInline rest else later
-
--- ---- the walk
+unfoldable pub use Rattle.contents.specs.Beside.{noInline, allEmpty, startsWithWhitespace, endsWithWhitespaceAfter, endsWithWhitespace, holdsJoined, finalBreakAfter, finalBreak}
 
 -- `validate_text_directive`, up to the walk of its label: 54, then 55
 unfoldable pub validateTextDirective : List ℕ → List ℕ → Span → Text → Forest → List Entry
 validateTextDirective bytes path span name kids = validateDirectiveName bytes path span name ⊕ validateDirectiveAttributes bytes path kids
-
--- the first part of `validate_inlines`: 30, where the last inline is a line break; `last` is what the inlines before give
-unfoldable pub finalBreakAfter : List ℕ → List Entry → Forest → List Entry
-finalBreakAfter path last none = last
-finalBreakAfter path last (tree r kids rest) = finalBreakAfter path (if isInline (r .kind) then listIf (eqb (r .kind) lineBreak) Rules.finalHardBreak (r .span) path else last) rest
-
-unfoldable pub finalBreak : List ℕ → Forest → List Entry
-finalBreak path f = finalBreakAfter path [] f
 
 -- `validate_emphasis_container`, up to the walk of its children: 39, else 40; then 41; and 30
 unfoldable pub validateEmphasisContainer : List ℕ → List ℕ → Span → ℕ → ℕ → Forest → List Entry

@@ -1,3 +1,2 @@
 pub mod Inlines
-pub mod Content
 pub mod Here

@@ -1,3 +1,2 @@
 // The inline walk.
-pub mod content;
 pub mod nodes;

@@ -10,10 +10,10 @@ ghost use Rattle.inlines.specs.Inlines.{noInline, validateTextDirective,
 ghost use Rattle.checks.specs.Rules;
 ghost use Rattle.walks.specs.Walk.{Start, Done};
 ghost use Rattle.inlines.specs.Here.{Here};
-use crate::content::gather;
 use checks::rules;
 use checks::single;
 use checks::values;
+use contents::content::gather;
 use report::entries::Tally;
 use report::entries::list_if;
 use sheet::kinds;

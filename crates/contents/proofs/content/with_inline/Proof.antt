@@ -1,7 +1,7 @@
--- `inlines::content::with_inline` meets its contract.
-use Rattle.inlines.proofs.ContentLaws.{gathering}
-use Rattle.inlines.proofs.content.with_inline.Statement.{statement}
-use Rattle.inlines.proofs.content.with_inline.Tie as tie
+-- `contents::content::with_inline` meets its contract.
+use Rattle.contents.proofs.ContentLaws.{gathering}
+use Rattle.contents.proofs.content.with_inline.Statement.{statement}
+use Rattle.contents.proofs.content.with_inline.Tie as tie
 
 pub with-inline-spec : {M : Type 1} → statement M
 with-inline-spec =

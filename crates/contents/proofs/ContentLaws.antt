@@ -1,4 +1,4 @@
--- What was gathered is what the definitions of the inline half ask.
+-- What was gathered is what the definitions of `Beside` ask.
 use mathlib.Core.Path.{_≡_, refl, ap, sym, _∙_}
 use mathlib.Core.Bool.{Bool, true, false, not, _&&_, _||_, and-assoc, and-true, and-false, or-true, or-false, Bool·not-not}
 use mathlib.Core.List.{List}
@@ -14,11 +14,11 @@ use Rattle.sheet.specs.Forest.{Forest, none, tree, under, size}
 use Rattle.report.specs.Report.{listIf}
 use Rattle.sheet.specs.declared.records.Rec.{Rec}
 use Rattle.sheet.proofs.Trees.{under-in, under-out, under-end}
-use Rattle.inlines.specs.Content.{noContent, withInline, contentAfter, contentOf}
-use Rattle.inlines.specs.Inlines.{noInline, allEmpty, startsWithWhitespace, endsWithWhitespaceAfter, endsWithWhitespace, holdsJoined, finalBreakAfter, finalBreak}
+use Rattle.contents.specs.Content.{noContent, withInline, contentAfter, contentOf}
+use Rattle.contents.specs.Beside.{noInline, allEmpty, startsWithWhitespace, endsWithWhitespaceAfter, endsWithWhitespace, holdsJoined, finalBreakAfter, finalBreak}
 use Rattle.checks.specs.Rules
 use Rattle.checks.specs.Values.{isEmptyText, startsWhite, endsWhite, isJoined}
-use Rattle.inlines.specs.declared.content.Content.{Content}
+use Rattle.contents.specs.declared.content.Content.{Content}
 use Rattle.walks.proofs.WalkLaws.{Skipping, skip-start, skip-tree, skip-down, behindKids}
 
 -- ---- one inline more, or a record of another sort

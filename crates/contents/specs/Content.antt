@@ -1,4 +1,4 @@
--- What the code gathers in one pass over inlines side by side, for the rules that ask of all of them. No promise to a caller cites it: `ContentLaws` says that it is what the definitions of `Inlines` ask.
+-- What the code gathers in one pass over inlines side by side, for the rules that ask of all of them. No promise to a caller cites it: `ContentLaws` says that it is what the definitions of `Beside` ask.
 use Prim.Native.Nat.{ℕ}
 use mathlib.Core.Bool.{true, false, not, _&&_, _||_}
 use mathlib.Core.List.{List}
@@ -8,7 +8,7 @@ use Rattle.sheet.specs.Kinds.{isInline, lineBreak}
 use Rattle.sheet.specs.Forest.{Forest, none, tree}
 use Rattle.sheet.specs.declared.records.Rec.{Rec}
 use Rattle.checks.specs.Values.{isEmptyText, startsWhite, endsWhite, isJoined}
-use Rattle.inlines.specs.declared.content.Content.{Content}
+use Rattle.contents.specs.declared.content.Content.{Content}
 
 -- what no inline gives
 abbrev pub noContent : Content

@@ -4,7 +4,7 @@ ghost use Prim.Native.Nat.{_*_, _≤_};
 ghost use lib.ListN.{length};
 ghost use Rattle.sheet.specs.Sheet.{recordWords};
 ghost use Rattle.sheet.specs.Forest.{under};
-ghost use Rattle.inlines.specs.Content.{noContent, withInline, contentOf};
+ghost use Rattle.contents.specs.Content.{noContent, withInline, contentOf};
 use checks::values;
 use sheet::kinds;
 use sheet::records;

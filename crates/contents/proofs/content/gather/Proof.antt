@@ -1,9 +1,9 @@
--- `inlines::content::gather` meets its contract.
+-- `contents::content::gather` meets its contract.
 use Prim.Native.Nat.{_-_}
 use borrow.Author.Needs.{needs}
-use Rattle.inlines.proofs.ContentLaws.{Gathering, gather-turn, gathering}
-use Rattle.inlines.proofs.content.gather.Statement.{statement}
-use Rattle.inlines.proofs.content.gather.Tie as tie
+use Rattle.contents.proofs.ContentLaws.{Gathering, gather-turn, gathering}
+use Rattle.contents.proofs.content.gather.Statement.{statement}
+use Rattle.contents.proofs.content.gather.Tie as tie
 
 abbrev Inv-loop : tie.InvT-loop
 Inv-loop sheet bytes n from level outer a c₀ i₀ c i = Gathering bytes outer a sheet n «from» level i c
