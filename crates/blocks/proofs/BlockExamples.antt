@@ -2,15 +2,15 @@
 use mathlib.Core.Path.{_≡_, refl}
 use mathlib.Core.List.{List, [], _∷_, _++_, map}
 use Prim.Native.Nat.{ℕ, _+_}
-use Rattle.leaves.specs.Fence.{holdsFenceLine, isFence}
-use Rattle.leaves.specs.Lines.{hasBlankEdgeLine, holdsLineEnding, isBlank, isCrOfCrlf, lines, longer, startsWith}
+use Rattle.multiline.specs.Fence.{holdsFenceLine, isFence}
+use Rattle.multiline.specs.Lines.{hasBlankEdgeLine, holdsLineEnding, isBlank, isCrOfCrlf, lines, longer, startsWith}
 use Rattle.strings.specs.Lists.{all, any, none, firstOr, lastOr}
 use Rattle.leaves.specs.Names.{isAttributeName, isBlankIdentifier, isDirectiveName, isRun, runs}
 use Rattle.strings.specs.Part.{partOf}
 use Rattle.leaves.specs.Pipe.{hasOddEscapedPipe, oddPipeAfter}
 use Rattle.strings.specs.Same.{sameBytes}
 use Rattle.leaves.specs.Title.{isAlertTitle}
-use Rattle.leaves.specs.Trim.{trim, trimCons, trimEnd, trimStart}
+use Rattle.multiline.specs.Trim.{trim, trimCons, trimEnd, trimStart}
 use Rattle.sheet.specs.Fields.{textOf}
 use Rattle.sheet.specs.Forest.{count, deeper, forestAt, forestOf, grow, past}
 use Rattle.sheet.specs.Kinds.{paragraph, heading, blockQuote, alert, list, codeBlock, htmlContainer, definition, footnoteDefinition, table, frontmatter, leafDirective, containerDirective, blankLine, item, row, cell, htmlTag, text, code, softBreak}

@@ -6,11 +6,11 @@ use Prim.Native.Nat.{ℕ}
 use borrow.Author.Needs.{needs}
 use lib.Dec.{eqb, ltb}
 use Rattle.strings.specs.Lists.{if_then_else_}
-use Rattle.leaves.specs.Fence.{holdsFenceLine}
-use Rattle.leaves.specs.Lines.{hasBlankEdgeLine}
+use Rattle.multiline.specs.Fence.{holdsFenceLine}
+use Rattle.multiline.specs.Lines.{hasBlankEdgeLine}
 use Rattle.leaves.specs.Names.{isBlankIdentifier}
 use Rattle.leaves.specs.Title.{isAlertTitle}
-use Rattle.leaves.specs.declared.fence.FrontmatterKind.{FrontmatterKind}
+use Rattle.multiline.specs.declared.fence.FrontmatterKind.{FrontmatterKind}
 use Rattle.sheet.specs.Fields.{textOf}
 use Rattle.sheet.specs.Kinds.{list, codeBlock}
 use Rattle.report.specs.Report.{Lists, listIf}

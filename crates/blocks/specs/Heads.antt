@@ -4,13 +4,13 @@ use mathlib.Core.Bool.{Bool, true, false, not, _&&_, _||_}
 use mathlib.Core.List.{List, [], _∷_, _++_}
 use lib.Dec.{eqb, ltb}
 use Rattle.strings.specs.Lists.{if_then_else_}
-use Rattle.leaves.specs.Fence.{holdsFenceLine}
-use Rattle.leaves.specs.Lines.{hasBlankEdgeLine}
+use Rattle.multiline.specs.Fence.{holdsFenceLine}
+use Rattle.multiline.specs.Lines.{hasBlankEdgeLine}
 use Rattle.leaves.specs.Names.{isBlankIdentifier}
 use Rattle.strings.specs.Same.{sameBytes}
 use Rattle.leaves.specs.Title.{isAlertTitle}
-use Rattle.leaves.specs.declared.fence.FrontmatterKind.{FrontmatterKind}
-use Rattle.leaves.specs.declared.fence.FrontmatterKind.the-variants.{Yaml, Toml}
+use Rattle.multiline.specs.declared.fence.FrontmatterKind.{FrontmatterKind}
+use Rattle.multiline.specs.declared.fence.FrontmatterKind.the-variants.{Yaml, Toml}
 use Rattle.sheet.specs.Kinds.{paragraph, list, codeBlock, definition, footnoteDefinition, blankLine}
 use Rattle.sheet.specs.Fields.{textOf}
 use Rattle.sheet.specs.Forest.{Forest, none, tree, count}

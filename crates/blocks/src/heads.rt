@@ -17,11 +17,11 @@ ghost use Rattle.blocks.specs.Heads.{
 use checks::rules;
 use checks::single;
 use checks::values::is_empty;
-use leaves::fence::FrontmatterKind;
-use leaves::fence::holds_fence_line;
-use leaves::lines::has_blank_edge_line;
 use leaves::names::is_blank_identifier;
 use leaves::title::is_alert_title;
+use multiline::fence::FrontmatterKind;
+use multiline::fence::holds_fence_line;
+use multiline::lines::has_blank_edge_line;
 use report::entries::Tally;
 use report::entries::list_if;
 use sheet::fields::text_of;

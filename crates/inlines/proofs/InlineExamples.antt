@@ -3,7 +3,7 @@ use mathlib.Core.Path.{_≡_, refl}
 use mathlib.Core.List.{List, [], _∷_, map}
 use Prim.Native.Nat.{ℕ}
 use Rattle.strings.specs.Lists.{all, any, firstOr, lastOr}
-use Rattle.leaves.specs.Lines.{holdsLineEnding, longer, startsWith}
+use Rattle.multiline.specs.Lines.{holdsLineEnding, longer, startsWith}
 use Rattle.leaves.specs.Math.{holdsBacktickDollar}
 use Rattle.leaves.specs.Names.{isDirectiveName, isRun, runs, isAttributeName}
 use Rattle.strings.specs.Part.{partOf}

@@ -8,12 +8,12 @@ use lib.Dec.{eqb}
 use lib.ListN.{length, drop, getD}
 use Rattle.strings.specs.Bytes.{hyphen}
 use Rattle.strings.specs.Lists.{if_then_else_, all}
-use Rattle.leaves.specs.Lines.{longer}
+use Rattle.multiline.specs.Lines.{longer}
 use Rattle.leaves.specs.Names.{runs, isRun, isDirectiveName, beginsRun, continuesRun, isAttributeName, beginsAttribute, continuesAttribute}
 use Rattle.leaves.specs.Scans.{nameFrom}
 use Rattle.strings.proofs.Scan.{At}
 use Rattle.strings.proofs.Scan.{scan}
-use Rattle.leaves.proofs.Tests.{all-yes, all-no}
+use Rattle.multiline.proofs.Tests.{all-yes, all-no}
 
 -- runs of which the first has begun already, where `start` is false
 abbrev runsFrom : Bool → List (List ℕ) → Bool

@@ -1,33 +1,16 @@
--- The definitions of `specs`, a byte at a time: where the byte decides, and where what is left does. r is what a function answered of the byte.
-use mathlib.Core.Path.{_≡_, refl, sym, ap, _∙_}
-use mathlib.Core.Bool.{Bool, true, false, not, _&&_, _||_, and-false}
+-- The definitions of `specs`, a byte at a time: where the byte decides, and where what is left does.
+use mathlib.Core.Path.{_≡_}
+use mathlib.Core.Bool.{Bool, true, false, not, _&&_, and-false}
 use mathlib.Core.List.{List, [], _∷_}
 use Prim.Native.Nat.{ℕ}
 use lib.Dec.{eqb}
 use Rattle.strings.specs.Bytes.{pipe, backslash, dollar, backtick}
-use Rattle.strings.specs.Lists.{any, all}
-use Rattle.leaves.specs.Lines.{startsWith}
+use Rattle.multiline.specs.Lines.{startsWith}
 use Rattle.leaves.specs.Math.{holdsBacktickDollar}
 use Rattle.leaves.specs.Pipe.{oddPipeAfter}
 use Rattle.leaves.specs.Scans.{tickFrom}
 use Rattle.strings.proofs.Scan.{scan}
-
-module _ (test : ℕ → Bool) (b : ℕ) {r : Bool} (e : r ≡ test b) where
-  pub any-no : r ≡ false → (s : List ℕ) → any test (b ∷ s) ≡ any test s
-  unfolding any
-  any-no n s = rw (← e, n)
-
-  pub any-yes : r ≡ true → (s : List ℕ) → true ≡ any test (b ∷ s)
-  unfolding any
-  any-yes y s = rw (← e, y)
-
-  pub all-yes : r ≡ true → (s : List ℕ) → all test (b ∷ s) ≡ all test s
-  unfolding all
-  all-yes y s = rw (← e, y)
-
-  pub all-no : r ≡ false → (s : List ℕ) → false ≡ all test (b ∷ s)
-  unfolding all
-  all-no n s = rw (← e, n)
+use Rattle.multiline.proofs.Tests.{any-no, any-yes, all-yes, all-no}
 
 pub pipe-yes : (odd : Bool) (b : ℕ) (s : List ℕ) → (eqb b pipe && odd) ≡ true → true ≡ oddPipeAfter odd (b ∷ s)
 unfolding oddPipeAfter

@@ -11,7 +11,7 @@ use Rattle.strings.specs.Bytes.{isBlankByte}
 use Rattle.strings.specs.Lists.{lastOr, none}
 use Rattle.strings.specs.Same.{sameBytes}
 use Rattle.leaves.specs.Title.{isAlertTitle}
-use Rattle.leaves.specs.Trim.{trimCons, trimEnd, trimStart, trim}
+use Rattle.multiline.specs.Trim.{trimCons, trimEnd, trimStart, trim}
 use Rattle.strings.proofs.Scan.{scan}
 
 same-self : (s : List ℕ) → sameBytes s s ≡ true

@@ -1,6 +1,3 @@
-pub mod Lines
-pub mod Trim
-pub mod Fence
 pub mod Title
 pub mod Names
 pub mod Pipe

@@ -4,7 +4,7 @@ use mathlib.Core.Bool.{Bool, false, _&&_, _||_}
 use mathlib.Core.List.{List, [], _∷_}
 use lib.Dec.{eqb}
 use Rattle.strings.specs.Bytes.{backtick, dollar}
-use Rattle.leaves.specs.Lines.{startsWith}
+use Rattle.multiline.specs.Lines.{startsWith}
 
 unfoldable pub holdsBacktickDollar : List ℕ → Bool
 holdsBacktickDollar [] = false

@@ -5,7 +5,7 @@ use mathlib.Core.List.{List, [], _∷_}
 use lib.Dec.{eqb}
 use Rattle.strings.specs.Bytes.{isLetter, isDigit, isBlankByte, isLineEndingByte, hyphen, underscore, colon}
 use Rattle.strings.specs.Lists.{if_then_else_, all}
-use Rattle.leaves.specs.Lines.{longer}
+use Rattle.multiline.specs.Lines.{longer}
 
 -- Rust's `name.split('-')`: what stands before, between and after the hyphens
 unfoldable pub runs : List ℕ → List (List ℕ)

@@ -1,45 +1,13 @@
 -- How the code reads a text, a byte at a time. The proofs equate each of these with a definition of another file, and no promise to a caller cites them.
-use mathlib.Core.Path.{_≡_}
-use Prim.Native.Nat.{ℕ, _-_, _<_, _≤_}
-use mathlib.Core.Bool.{Bool, true, false, not, _&&_, _||_}
+use Prim.Native.Nat.{ℕ}
+use mathlib.Core.Bool.{Bool, not, _&&_, _||_}
 use mathlib.Core.List.{List, [], _∷_}
-use lib.Dec.{eqb, leb}
-use lib.ListN.{length, getD, drop}
-use Rattle.strings.specs.Bytes.{hyphen, dollar, isBlankByte, isLineEndingByte}
-use Rattle.strings.specs.Lists.{if_then_else_, firstOr, lastOr}
-use Rattle.leaves.specs.Lines.{isCrOfCrlf, startsWith, lines, isBlank}
+use lib.Dec.{eqb}
+use Rattle.strings.specs.Bytes.{hyphen, dollar}
+use Rattle.strings.specs.Lists.{if_then_else_}
+use Rattle.multiline.specs.Lines.{startsWith}
 use Rattle.leaves.specs.Math.{holdsBacktickDollar}
 use Rattle.leaves.specs.Names.{beginsRun, continuesRun}
-
--- the last line is blank, where the line being read is `blank` so far and the last that has a byte or an ending is `last`
-unfoldable pub lastBlank : Bool → Bool → List ℕ → Bool
-lastBlank last blank [] = last
-lastBlank last blank (b ∷ s) =
-    let held = blank && isBlankByte b in
-    lastBlank
-    (if isCrOfCrlf b s then last else if isLineEndingByte b then blank else held)
-    (if isCrOfCrlf b s then blank else isLineEndingByte b || held)
-    s
-
--- only spaces and tabs stand before `at`, and none at it: the first and the last line are as blank from there on
-pub record Led (s : List ℕ) (at : ℕ) : Type 0 where
-  pub within : at ≤ length s
-  pub first : isBlank (firstOr [] (lines s)) ≡ isBlank (firstOr [] (lines (drop at s)))
-  pub last : isBlank (lastOr [] (lines s)) ≡ lastBlank true true (drop at s)
-  pub solid : at < length s → isBlankByte (getD s at 0) ≡ false
-
--- how many bytes of a fence are still to come in the line, after b; 4: the line is no fence
-unfoldable pub fenceLeft : ℕ → ℕ → ℕ → ℕ
-fenceLeft c left b = if eqb left 0 then (if isBlankByte b then 0 else 4) else if eqb b c && leb left 3 then left - 1 else 4
-
--- a line from here on is a fence, where `left` bytes of one are to come in the line being read
-unfoldable pub fenceFrom : ℕ → ℕ → List ℕ → Bool
-fenceFrom c left [] = eqb left 0
-fenceFrom c left (b ∷ s) =
-    let skips = fenceFrom c left s in
-    let ends = fenceFrom c 3 s in
-    let holds = fenceFrom c (fenceLeft c left b) s in
-    if isCrOfCrlf b s then skips else if isLineEndingByte b then eqb left 0 || ends else holds
 
 -- what is left is a directive's name, where a run has to start here (`start`) or one has begun
 unfoldable pub nameFrom : Bool → List ℕ → Bool

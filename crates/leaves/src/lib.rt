@@ -1,6 +1,4 @@
-// The byte facts that the rules stand on: lines, fences, titles, names, pipes, math. Each module's definitions are in the file of specs/ that bears its name.
-pub mod fence;
-pub mod lines;
+// The byte facts that the rules stand on: titles, names, pipes, math. Each module's definitions are in the file of specs/ that bears its name.
 pub mod math;
 pub mod names;
 pub mod pipe;

@@ -1,7 +1,7 @@
 // Texts with the answers of each function that takes one.
 use crate::read;
 use crate::tally::Tally;
-use leaves::fence::FrontmatterKind;
+use multiline::fence::FrontmatterKind;
 ghost use Prim.Native.Nat.{_≤_};
 
 fn flag(yes: bool, weight: u32) -> u32
@@ -16,11 +16,11 @@ fn first_seven(s: &[u8]) -> u32
     flag(strings::utf8::is_utf8(s), 0x01)
         + flag(strings::white::starts_with_white(s), 0x02)
         + flag(strings::white::ends_with_white(s), 0x04)
-        + flag(leaves::lines::holds_line_ending(s), 0x08)
-        + flag(leaves::lines::is_blank(s), 0x10)
-        + flag(leaves::lines::has_blank_edge_line(s), 0x20)
+        + flag(multiline::lines::holds_line_ending(s), 0x08)
+        + flag(multiline::lines::is_blank(s), 0x10)
+        + flag(multiline::lines::has_blank_edge_line(s), 0x20)
         + flag(
-            leaves::fence::holds_fence_line(s, FrontmatterKind::Yaml),
+            multiline::fence::holds_fence_line(s, FrontmatterKind::Yaml),
             0x40,
         )
 }
@@ -29,7 +29,7 @@ fn last_seven(s: &[u8]) -> u32
     ensures { λ r. ⌜ r ≤ 0x7F ⌝ }
 {
     flag(
-        leaves::fence::holds_fence_line(s, FrontmatterKind::Toml),
+        multiline::fence::holds_fence_line(s, FrontmatterKind::Toml),
         0x01,
     )
         + flag(leaves::title::is_alert_title(s), 0x02)

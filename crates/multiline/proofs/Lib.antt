@@ -1,0 +1,4 @@
+pub mod Tests
+pub mod LineLaws
+pub mod FenceLaws
+pub mod LineExamples

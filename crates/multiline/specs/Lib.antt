@@ -1,0 +1,4 @@
+pub mod Lines
+pub mod Trim
+pub mod Fence
+pub mod Scans
