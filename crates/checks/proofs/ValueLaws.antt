@@ -12,8 +12,8 @@ use Rattle.strings.specs.Lists.{firstOr, lastOr}
 use Rattle.leaves.specs.Names.{isAttributeName}
 use Rattle.strings.specs.Part.{partOf}
 use Rattle.leaves.specs.Pipe.{hasOddEscapedPipe, oddPipeAfter}
-use Rattle.strings.specs.Scalars.{scalars, decode}
-use Rattle.strings.specs.White.{isWhite, startsWithWhite, endsWithWhite}
+use Rattle.unicode.specs.Scalars.{scalars, decode}
+use Rattle.unicode.specs.White.{isWhite, startsWithWhite, endsWithWhite}
 use Rattle.sheet.specs.Fields.{textOf}
 use Rattle.sheet.specs.Kinds.{attribute, text, wikiLink}
 use Rattle.sheet.specs.declared.records.Rec.{Rec}

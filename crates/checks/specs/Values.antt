@@ -6,7 +6,7 @@ use lib.Dec.{eqb}
 use Rattle.strings.specs.Lists.{if_then_else_}
 use Rattle.leaves.specs.Names.{isAttributeName}
 use Rattle.leaves.specs.Pipe.{hasOddEscapedPipe}
-use Rattle.strings.specs.White.{startsWithWhite, endsWithWhite}
+use Rattle.unicode.specs.White.{startsWithWhite, endsWithWhite}
 use Rattle.sheet.specs.Kinds.{among, attribute, text, emphasis, strong, delete, mark, code, link, autolink, linkReference, imageReference, html, softBreak, lineBreak, math, footnoteReference, wikiLink}
 use Rattle.sheet.specs.Fields.{textOf}
 use Rattle.sheet.specs.declared.records.Rec.{Rec}

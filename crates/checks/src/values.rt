@@ -22,7 +22,7 @@ use sheet::fields::text_of;
 use sheet::kinds;
 use sheet::records::Rec;
 use sheet::records::Text;
-use strings::white;
+use unicode::white;
 
 pub fn is_empty(t: Text) -> bool
     ensures { λ r. ⌜ r ≡ isEmpty t ⌝ }

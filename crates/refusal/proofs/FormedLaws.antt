@@ -10,7 +10,7 @@ use borrow.Author.Tests.{not-true, not-false, lt-ltb, le-ltb, ltb-true, ltb-fals
 use lib.Dec.{eqb, ltb, leb}
 use lib.ListN.{length}
 use Rattle.strings.specs.Lists.{if_then_else_}
-use Rattle.strings.specs.Utf8.{isUtf8}
+use Rattle.unicode.specs.Utf8.{isUtf8}
 use Rattle.sheet.specs.Kinds.{htmlContainer, htmlTag}
 use Rattle.sheet.specs.Sheet.{recordAt, recordWords, recordsOf}
 use Rattle.sheet.specs.Forest.{Forest, none, tree, forestAt, forestOf, under, size, countKind}

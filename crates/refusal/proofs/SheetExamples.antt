@@ -4,7 +4,7 @@ use mathlib.Core.List.{List, [], _∷_, _++_}
 use Prim.Native.Nat.{ℕ, zero, suc, _+_, _*_}
 use lib.ListN.{length, take}
 use Rattle.strings.specs.Part.{partOf}
-use Rattle.strings.specs.Utf8.{isUtf8, wellFormed, follow}
+use Rattle.unicode.specs.Utf8.{isUtf8, wellFormed, follow}
 use Rattle.sheet.specs.Kinds.{paragraph, heading, thematicBreak, blockQuote, alert, list, codeBlock, htmlBlock, htmlContainer, definition, footnoteDefinition, table, mathBlock, frontmatter, leafDirective, containerDirective, blankLine, item, row, cell, htmlTag, attribute, text, escape, characterReference, emphasis, strong, delete, mark, shortcode, code, link, autolink, image, linkReference, imageReference, html, softBreak, lineBreak, math, footnoteReference, inlineFootnote, wikiLink, textDirective, tag}
 use Rattle.sheet.specs.Sheet.{recordAt}
 use Rattle.sheet.specs.Siblings.{gather}
@@ -17,7 +17,7 @@ use Rattle.refusal.specs.declared.judge.Judged.the-variants.{Accepted, O
 
 -- the answer; a declaration that unfolds this unfolds all that the answer computes with
 computed : List ℕ → List ℕ → Judged
-unfolding judgeSheet orElse judgeFrom judgeAt judge judgeTexts levelBefore badLevel tagsFrom lacksTags recordAt deeper past grow forestAt countKind misplaced openAt gather opened joined parentGroup otherGroup childGroup places placeOf badField badNumber mostA mostB mostC isSurrogate badSpan hasFirst hasSecond badText textOutside textIllFormed textOf partOf isUtf8 wellFormed follow Rattle.strings.specs.Utf8.table
+unfolding judgeSheet orElse judgeFrom judgeAt judge judgeTexts levelBefore badLevel tagsFrom lacksTags recordAt deeper past grow forestAt countKind misplaced openAt gather opened joined parentGroup otherGroup childGroup places placeOf badField badNumber mostA mostB mostC isSurrogate badSpan hasFirst hasSecond badText textOutside textIllFormed textOf partOf isUtf8 wellFormed follow Rattle.unicode.specs.Utf8.table
 computed w bytes = judgeSheet w bytes
 
 -- ---- records, a word at a time: kind, level; span; A, B, C; texts

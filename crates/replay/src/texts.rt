@@ -13,9 +13,9 @@ fn flag(yes: bool, weight: u32) -> u32
 fn first_seven(s: &[u8]) -> u32
     ensures { λ r. ⌜ r ≤ 0x7F ⌝ }
 {
-    flag(strings::utf8::is_utf8(s), 0x01)
-        + flag(strings::white::starts_with_white(s), 0x02)
-        + flag(strings::white::ends_with_white(s), 0x04)
+    flag(unicode::utf8::is_utf8(s), 0x01)
+        + flag(unicode::white::starts_with_white(s), 0x02)
+        + flag(unicode::white::ends_with_white(s), 0x04)
         + flag(multiline::lines::holds_line_ending(s), 0x08)
         + flag(multiline::lines::is_blank(s), 0x10)
         + flag(multiline::lines::has_blank_edge_line(s), 0x20)

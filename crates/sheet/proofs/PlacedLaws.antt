@@ -6,7 +6,7 @@ use Prim.Native.Nat.{ℕ, zero, suc, _+_, _<_, _≤_}
 use native.Mathlib.Omega.{arith}
 use borrow.Author.Tests.{not-true, not-false, ltb-true, ltb-false, leb-true, leb-false, lt-leb, eq-eqb, ne-eqb, eqb-true, eqb-false}
 use lib.Dec.{eqb, ltb, leb}
-use Rattle.strings.proofs.Decoding.{allBelow, each, and-left, and-right}
+use Rattle.unicode.proofs.Decoding.{allBelow, each, and-left, and-right}
 use Rattle.strings.specs.Bytes.{between}
 use Rattle.strings.specs.Lists.{if_then_else_}
 use Rattle.sheet.specs.Kinds.{isBlock, isInline, isKind, item, row, cell, htmlTag, attribute}

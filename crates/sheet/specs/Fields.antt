@@ -7,7 +7,7 @@ use lib.ListN.{length}
 use Rattle.strings.specs.Bytes.{between}
 use Rattle.strings.specs.Lists.{if_then_else_}
 use Rattle.strings.specs.Part.{partOf}
-use Rattle.strings.specs.Utf8.{isUtf8}
+use Rattle.unicode.specs.Utf8.{isUtf8}
 use Rattle.sheet.specs.Kinds.{among, heading, alert, list, codeBlock, htmlContainer, definition, footnoteDefinition, table, frontmatter, leafDirective, containerDirective, item, htmlTag, attribute, text, escape, emphasis, strong, code, link, autolink, image, linkReference, imageReference, html, lineBreak, math, footnoteReference, wikiLink, textDirective, tag}
 use Rattle.sheet.specs.declared.records.Rec.{Rec}
 use Rattle.sheet.specs.declared.records.Span.{Span}

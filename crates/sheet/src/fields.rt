@@ -214,5 +214,5 @@ pub fn text_outside(bytes: &[u8], t: Text) -> bool
 pub fn text_ill_formed(bytes: &[u8], t: Text) -> bool
     ensures { λ r. ⌜ r ≡ textIllFormed (now (bytes .entry)) t ⌝ }
 {
-    !strings::utf8::is_utf8(text_of(bytes, t))
+    !unicode::utf8::is_utf8(text_of(bytes, t))
 }

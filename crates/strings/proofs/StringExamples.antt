@@ -1,33 +1,9 @@
 -- Cases of the papers, computed from the definitions. Bytes stand as numbers; a comment has the text.
 use mathlib.Core.Path.{_≡_, refl}
-use mathlib.Core.Bool.{Bool, true, false}
-use mathlib.Core.List.{List, [], _∷_}
-use Prim.Native.Nat.{ℕ}
-use Rattle.strings.specs.Lists.{firstOr, lastOr}
+use mathlib.Core.Bool.{false}
+use mathlib.Core.List.{[], _∷_}
 use Rattle.strings.specs.Part.{partOf}
 use Rattle.strings.specs.Same.{sameBytes}
-use Rattle.strings.specs.Utf8.{isUtf8, wellFormed, follow, table}
-use Rattle.strings.specs.Scalars.{scalars, decode, emit, leadBits, trailBits}
-use Rattle.strings.specs.White.{isWhite, startsWithWhite, endsWithWhite}
-
--- ---- UTF-8: the euro sign and U+1F3AC; C0 80 is overlong, ED A0 80 a surrogate, F4 90 80 80 above 10FFFF; cut short; a stray byte
-well-formed : (isUtf8 (0xE2 ∷ 0x82 ∷ 0xAC ∷ []) ≡ true) × (isUtf8 (0xF0 ∷ 0x9F ∷ 0x8E ∷ 0xAC ∷ []) ≡ true) × (isUtf8 [] ≡ true)
-unfolding isUtf8 wellFormed follow table
-well-formed = (refl, refl, refl)
-
-ill-formed : (isUtf8 (0xC0 ∷ 0x80 ∷ []) ≡ false) × (isUtf8 (0xED ∷ 0xA0 ∷ 0x80 ∷ []) ≡ false) × (isUtf8 (0xF4 ∷ 0x90 ∷ 0x80 ∷ 0x80 ∷ []) ≡ false) × (isUtf8 (0xE2 ∷ 0x82 ∷ []) ≡ false) × (isUtf8 (0x61 ∷ 0x80 ∷ []) ≡ false)
-unfolding isUtf8 wellFormed follow table
-ill-formed = (refl, refl, refl, refl, refl)
-
--- a, é, €, U+1F3AC; and a sequence that is broken by an a, and one that is cut short
-decoded : (scalars (0x61 ∷ 0xC3 ∷ 0xA9 ∷ 0xE2 ∷ 0x82 ∷ 0xAC ∷ 0xF0 ∷ 0x9F ∷ 0x8E ∷ 0xAC ∷ []) ≡ 0x61 ∷ 0xE9 ∷ 0x20AC ∷ 0x1F3AC ∷ []) × (scalars (0xE2 ∷ 0x82 ∷ 0x61 ∷ 0xE2 ∷ []) ≡ 0xFFFD ∷ 0x61 ∷ 0xFFFD ∷ [])
-unfolding scalars decode emit leadBits trailBits follow table
-decoded = (refl, refl)
-
--- ---- white space: U+000B, 0085, 2028 and 2029 are white here, and not CommonMark's Unicode whitespace; U+200B is not white
-white : (startsWithWhite (0x0B ∷ 0x61 ∷ []) ≡ true) × (startsWithWhite (0xC2 ∷ 0x85 ∷ []) ≡ true) × (endsWithWhite (0x61 ∷ 0xE2 ∷ 0x80 ∷ 0xA8 ∷ []) ≡ true) × (endsWithWhite (0xE2 ∷ 0x80 ∷ 0xA9 ∷ []) ≡ true) × (endsWithWhite (0xE2 ∷ 0x80 ∷ 0x8B ∷ []) ≡ false) × (startsWithWhite [] ≡ false)
-unfolding startsWithWhite endsWithWhite isWhite firstOr lastOr scalars decode emit leadBits trailBits follow table
-white = (refl, refl, refl, refl, refl, refl)
 
 -- a part that ends with the text, an empty one at its end, and one that is past it
 parts : (partOf (1 ∷ 2 ∷ 3 ∷ []) 1 2 ≡ 2 ∷ 3 ∷ []) × (partOf (1 ∷ 2 ∷ 3 ∷ []) 3 0 ≡ []) × (partOf (1 ∷ 2 ∷ 3 ∷ []) 2 2 ≡ []) × (sameBytes (1 ∷ 2 ∷ []) (1 ∷ []) ≡ false)

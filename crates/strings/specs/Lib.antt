@@ -2,9 +2,4 @@ pub mod Lists
 pub mod Bytes
 pub mod Part
 pub mod Same
-pub mod Utf8
-pub mod Scalars
-pub mod White
 pub mod Punctuation
-pub mod Scans
-pub mod Owed

@@ -1,0 +1,198 @@
+-- UTF-8 as the code reads it: what is owed of a sequence, and the value of its bits so far.
+use mathlib.Core.Path.{_≡_, refl, sym, ap, _∙_}
+use mathlib.Core.Bool.{Bool, true, false, not, _&&_, _||_, true≢false, false≢true, and-false}
+use mathlib.Core.List.{List, [], _∷_, _++_}
+use Prim.Native.Nat.{ℕ, zero, suc, _+_, _-_, _*_, _%_, _<_, _≤_}
+use native.Mathlib.Omega.{arith}
+use lib.Dec.{eqb, leb, ltb, eqb·suc-zero}
+use lib.ListN.{length, replicate, take, drop, getD, take-append-drop}
+use borrow.Author.Tests.{lt-ltb, le-ltb, le-leb, lt-leb, leb-true, leb-false, ltb-true, ltb-false, eq-eqb, ne-eqb, eqb-true, eqb-false, not-true, not-false}
+use Rattle.strings.specs.Bytes.{between}
+use Rattle.strings.specs.Lists.{if_then_else_, none, firstOr, lastOr}
+use Rattle.unicode.specs.Utf8.{Range, _to_, within, trail, nothing, table, follow, wellFormed}
+use Rattle.unicode.specs.Scalars.{replacement, leadBits, trailBits, emit, decode, scalars}
+use Rattle.unicode.specs.Scans.{breaks, owedAfter, valueAfter, room, Begins}
+use Rattle.unicode.specs.Owed.{columns}
+use Rattle.unicode.specs.White.{isWhite, startsWithWhite, endsWithWhite}
+use Rattle.strings.proofs.Scan.{next}
+use Rattle.strings.proofs.Scan.{scan}
+
+-- ---- a rule of all bytes, by one computed test
+unfoldable pub allBelow : (ℕ → Bool) → ℕ → Bool
+allBelow test zero = true
+allBelow test (suc n) = let later = allBelow test n in test n && later
+
+pub and-left : (t u : Bool) → (t && u) ≡ true → t ≡ true
+and-left true u e = refl
+and-left false u e = e
+
+pub and-right : (t u : Bool) → (t && u) ≡ true → u ≡ true
+and-right true u e = e
+and-right false u e = absurd (false≢true e)
+
+pub each : (test : ℕ → Bool) (n : ℕ) → allBelow test n ≡ true → (b : ℕ) → b < n → test b ≡ true
+unfolding allBelow
+each test zero e b h = absurd (omega arith)
+each test (suc n) e b h = go (eqb b n) refl (each test n (and-right (test n) (allBelow test n) e) b)
+  where
+    go : (t : Bool) → eqb b n ≡ t → (b < n → test b ≡ true) → test b ≡ true
+    go true p rest = rw (eqb-true b n p) (and-left (test n) (allBelow test n) e)
+    go false p rest = rest (omega (arith, eqb-false b n p))
+
+-- ---- what follows a first byte
+same-ranges : List Range → List Range → Bool
+same-ranges [] [] = true
+same-ranges [] (r ∷ q) = false
+same-ranges (r ∷ p) [] = false
+same-ranges (r ∷ p) (s ∷ q) = eqb (r .low) (s .low) && eqb (r .high) (s .high) && same-ranges p q
+
+ranges : (p q : List Range) → same-ranges p q ≡ true → p ≡ q
+unfolding same-ranges
+ranges [] [] e = refl
+ranges [] (r ∷ q) e = absurd (false≢true e)
+ranges (r ∷ p) [] e = absurd (false≢true e)
+ranges (r ∷ p) (s ∷ q) e =
+    let ab : (eqb (r .low) (s .low) && eqb (r .high) (s .high)) ≡ true = and-left _ (same-ranges p q) e in
+    let a : r .low ≡ s .low = eqb-true _ _ (and-left (eqb (r .low) (s .low)) (eqb (r .high) (s .high)) ab) in
+    let b : r .high ≡ s .high = eqb-true _ _ (and-right (eqb (r .low) (s .low)) (eqb (r .high) (s .high)) ab) in
+    let c : p ≡ q = ranges p q (and-right (eqb (r .low) (s .low) && eqb (r .high) (s .high)) (same-ranges p q) e) in
+    λ i. record { low = a i; high = b i } ∷ c i
+
+row-test : (ℕ → Bool) → List Range → ℕ → Bool
+row-test these cs b = not (these b) || same-ranges cs (follow table b)
+
+-- these bytes are followed by the columns cs, by a test of all bytes
+follows : (these : ℕ → Bool) (cs : List Range) → allBelow (row-test these cs) 256 ≡ true → (b : ℕ) → b < 256 → these b ≡ true → cs ≡ follow table b
+unfolding row-test
+follows these cs e b h p = ranges cs (follow table b) (rw p at (each (row-test these cs) 256 e b h))
+
+module _ (b : ℕ) where
+  pub from-to : (low high : ℕ) → low ≤ b → b ≤ high → between low high b ≡ true
+  from-to low high p q = rw (le-leb low b p, le-leb b high q)
+
+  pub follow-ascii : b < 0x80 → [] ≡ follow table b
+  unfolding allBelow row-test same-ranges follow table
+  follow-ascii h = follows (between 0 0x7F) [] refl b (omega arith) (from-to 0 0x7F (omega arith) (omega arith))
+
+  pub follow-stray : 0x80 ≤ b → b < 0xC2 → nothing ∷ [] ≡ follow table b
+  unfolding allBelow row-test same-ranges follow table
+  follow-stray g h = follows (between 0x80 0xC1) (nothing ∷ []) refl b (omega arith) (from-to 0x80 0xC1 g (omega arith))
+
+  pub follow-two : 0xC2 ≤ b → b < 0xE0 → trail ∷ [] ≡ follow table b
+  unfolding allBelow row-test same-ranges follow table
+  follow-two g h = follows (between 0xC2 0xDF) (trail ∷ []) refl b (omega arith) (from-to 0xC2 0xDF g (omega arith))
+
+  pub follow-e0 : b ≡ 0xE0 → 0xA0 to 0xBF ∷ trail ∷ [] ≡ follow table b
+  unfolding follow table
+  follow-e0 e = rw e
+
+  pub follow-ed : b ≡ 0xED → 0x80 to 0x9F ∷ trail ∷ [] ≡ follow table b
+  unfolding follow table
+  follow-ed e = rw e
+
+  pub follow-three : 0xE0 ≤ b → b < 0xF0 → (b ≡ 0xE0 → ⊥) → (b ≡ 0xED → ⊥) → trail ∷ trail ∷ [] ≡ follow table b
+  unfolding allBelow row-test same-ranges follow table
+  follow-three g h p q = follows (λ x. between 0xE0 0xEF x && not (eqb x 0xE0) && not (eqb x 0xED)) (trail ∷ trail ∷ []) refl b (omega arith) (rw (from-to 0xE0 0xEF g (omega arith), ne-eqb b 0xE0 p, ne-eqb b 0xED q))
+
+  pub follow-f0 : b ≡ 0xF0 → 0x90 to 0xBF ∷ trail ∷ trail ∷ [] ≡ follow table b
+  unfolding follow table
+  follow-f0 e = rw e
+
+  pub follow-four : 0xF0 ≤ b → (b ≡ 0xF0 → ⊥) → b < 0xF4 → trail ∷ trail ∷ trail ∷ [] ≡ follow table b
+  unfolding allBelow row-test same-ranges follow table
+  follow-four g p h = follows (λ x. between 0xF0 0xF3 x && not (eqb x 0xF0)) (trail ∷ trail ∷ trail ∷ []) refl b (omega arith) (rw (from-to 0xF0 0xF3 g (omega arith), ne-eqb b 0xF0 p))
+
+  pub follow-f4 : b ≡ 0xF4 → 0x80 to 0x8F ∷ trail ∷ trail ∷ [] ≡ follow table b
+  unfolding follow table
+  follow-f4 e = rw e
+
+  pub follow-high : b < 256 → 0xF4 ≤ b → (b ≡ 0xF4 → ⊥) → nothing ∷ [] ≡ follow table b
+  unfolding allBelow row-test same-ranges follow table
+  follow-high h g p = follows (λ x. between 0xF4 0xFF x && not (eqb x 0xF4)) (nothing ∷ []) refl b h (rw (from-to 0xF4 0xFF g (omega arith), ne-eqb b 0xF4 p))
+
+-- ---- what is owed
+test-not : (a b : ℕ) → ltb a b ≡ not (leb b a)
+test-not a b = go (leb b a) refl
+  where
+    go : (t : Bool) → leb b a ≡ t → ltb a b ≡ not t
+    go true e = le-ltb a b (leb-true b a e)
+    go false e = lt-ltb a b (leb-false b a e)
+
+pub outside : (low high b : ℕ) → (ltb b low || ltb high b) ≡ not (between low high b)
+outside low high b = rw (test-not b low, test-not high b) (go (leb low b) (leb b high))
+  where
+    go : (t u : Bool) → (not t || not u) ≡ not (t && u)
+    go true u = refl
+    go false u = refl
+
+columns-trail : (n : ℕ) → columns n 0x80 0xBF ≡ replicate n trail
+columns-trail zero = refl
+columns-trail (suc n) = refl
+
+module _ (more low high b : ℕ) where
+  pub breaks-none : more ≡ 0 → false ≡ breaks (columns more low high) b
+  unfolding breaks
+  breaks-none e = rw e
+
+  pub breaks-some : (more ≡ 0 → ⊥) → (ltb b low || ltb high b) ≡ breaks (columns more low high) b
+  unfolding breaks
+  breaks-some = go more
+    where
+      go : (m : ℕ) → (m ≡ 0 → ⊥) → (ltb b low || ltb high b) ≡ breaks (columns m low high) b
+      go zero h = absurd (h refl)
+      go (suc m) h = outside low high b
+
+  pub owed-whole : {o : List Range} → more ≡ 0 → o ≡ follow table b → o ≡ owedAfter (columns more low high) b
+  unfolding owedAfter
+  owed-whole e f = f ∙ rw e
+
+  pub owed-broken : {o : List Range} → (more ≡ 0 → ⊥) → (ltb b low || ltb high b) ≡ true → o ≡ follow table b → o ≡ owedAfter (columns more low high) b
+  unfolding owedAfter
+  owed-broken {o} h y f = go more h
+    where
+      go : (m : ℕ) → (m ≡ 0 → ⊥) → o ≡ owedAfter (columns m low high) b
+      go zero h = absurd (h refl)
+      go (suc m) h = f ∙ rw (not-true (between low high b) (sym (outside low high b) ∙ y))
+
+  pub owed-next : (more ≡ 0 → ⊥) → (ltb b low || ltb high b) ≡ false → columns (more - 1) 0x80 0xBF ≡ owedAfter (columns more low high) b
+  unfolding owedAfter
+  owed-next h n = go more h
+    where
+      go : (m : ℕ) → (m ≡ 0 → ⊥) → columns (m - 1) 0x80 0xBF ≡ owedAfter (columns m low high) b
+      go zero h = absurd (h refl)
+      go (suc m) h =
+          let d : suc m - 1 ≡ m = omega arith in
+          rw (not-false (between low high b) (sym (outside low high b) ∙ n), d) (columns-trail m)
+
+  pub whole : none (columns more low high) ≡ eqb more 0
+  unfolding none
+  whole = go more
+    where
+      go : (m : ℕ) → none (columns m low high) ≡ eqb m 0
+      go zero = refl
+      go (suc m) = sym (eqb·suc-zero m)
+
+-- ---- well-formed bytes
+module _ (o : List Range) (b : ℕ) (s : List ℕ) {r : Bool} (e : r ≡ breaks o b) where
+  pub utf8-no : r ≡ true → false ≡ wellFormed o (b ∷ s)
+  unfolding breaks wellFormed
+  utf8-no y = go o (sym e ∙ y)
+    where
+      go : (p : List Range) → breaks p b ≡ true → false ≡ wellFormed p (b ∷ s)
+      go [] h = absurd (false≢true h)
+      go (x ∷ p) h = rw (not-true (within x b) h)
+
+  pub utf8-yes : {o′ : List Range} → r ≡ false → o′ ≡ owedAfter o b → wellFormed o (b ∷ s) ≡ wellFormed o′ s
+  unfolding breaks wellFormed owedAfter
+  utf8-yes n f = rw f (go o (sym e ∙ n))
+    where
+      go : (p : List Range) → breaks p b ≡ false → wellFormed p (b ∷ s) ≡ wellFormed (owedAfter p b) s
+      go [] h = refl
+      go (x ∷ p) h = rw (not-false (within x b) h)
+
+pub utf8-end : (more low high : ℕ) → eqb more 0 ≡ wellFormed (columns more low high) []
+unfolding wellFormed
+utf8-end zero low high = refl
+utf8-end (suc n) low high = eqb·suc-zero n
+
+pub ruleset decoding = (follow-ascii, follow-stray, follow-two, follow-e0, follow-ed, follow-three, follow-f0, follow-four, follow-f4, follow-high, breaks-none, breaks-some, owed-whole, owed-broken, owed-next, utf8-no, utf8-yes, utf8-end, scan)

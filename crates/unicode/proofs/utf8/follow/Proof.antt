@@ -1,0 +1,16 @@
+-- `unicode::utf8::follow` meets its contract.
+use Rattle.unicode.proofs.Decoding.{decoding}
+use Rattle.unicode.proofs.utf8.follow.Statement.{statement}
+use Rattle.unicode.proofs.utf8.follow.Tie as tie
+
+pub follow-spec : {M : Type 1} → statement M
+follow-spec =
+    tie.close
+    (tie.spec
+    (λ c. search decoding)
+    (λ c. search decoding)
+    (λ c. search decoding)
+    (λ c κs. search decoding)
+    (λ c. search decoding)
+    (λ c κs. search decoding)
+    (λ c. search decoding))

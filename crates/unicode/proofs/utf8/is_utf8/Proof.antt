@@ -1,0 +1,35 @@
+-- `unicode::utf8::is_utf8` meets its contract.
+use Rattle.unicode.proofs.Decoding.{decoding}
+use Prim.Native.Nat.{_-_}
+use Rattle.strings.proofs.Scan.{At}
+use Rattle.unicode.specs.Owed.{owedOf}
+use Rattle.unicode.specs.Utf8.{isUtf8, wellFormed}
+use lib.ListN.{length}
+use Rattle.unicode.proofs.utf8.is_utf8.Statement.{statement}
+use Rattle.unicode.proofs.utf8.is_utf8.Tie as tie
+
+abbrev Inv-loop : tie.InvT-loop
+Inv-loop s owed₀ i₀ owed i = At (isUtf8 s) (wellFormed (owedOf owed)) s i
+
+abbrev μ-loop : tie.MeasureT-loop
+μ-loop s owed₀ i₀ owed i = length s - i
+
+loop-holds : tie.Need-loop-holds Inv-loop μ-loop
+unfolding isUtf8
+loop-holds c = search decoding
+
+pub is-utf8-spec : {M : Type 1} → statement M
+is-utf8-spec =
+    tie.close
+    (tie.spec
+    Inv-loop
+    μ-loop
+    loop-holds
+    (λ c. search decoding)
+    (λ c κs. search decoding)
+    (λ c. search decoding)
+    (λ c κs. search decoding)
+    (λ c. search decoding)
+    (λ c. search decoding)
+    (λ c. search decoding)
+    (λ c. search decoding))

@@ -1,0 +1,13 @@
+-- `unicode::white::lead_bits` meets its contract.
+use Rattle.unicode.proofs.WhiteLaws.{white-laws}
+use Rattle.unicode.proofs.white.lead_bits.Statement.{statement}
+use Rattle.unicode.proofs.white.lead_bits.Tie as tie
+
+pub lead-bits-spec : {M : Type 1} → statement M
+lead-bits-spec =
+    tie.close
+    (tie.spec
+    (λ c. search white-laws)
+    (λ c. search white-laws)
+    (λ c. search white-laws)
+    (λ c. search white-laws))

@@ -1,0 +1,5 @@
+pub mod Utf8
+pub mod Scalars
+pub mod White
+pub mod Scans
+pub mod Owed
