@@ -17,7 +17,7 @@ use Rattle.sheet.specs.Kinds.{paragraph, heading, blockQuote, alert, list, code
 use Rattle.report.specs.Report.{Entry, listIf, _⊕_}
 use Rattle.sheet.specs.Sheet.{recordAt}
 use Rattle.checks.specs.Single.{validateCodeInline, validateDestination, validateDirectiveName, validateSiblings, validateText}
-use Rattle.checks.specs.Values.{isBadAttribute, isUnwritable}
+use Rattle.facts.specs.Values.{isBadAttribute, isUnwritable}
 use Rattle.walks.specs.Every.{eachRecord, validateCellValues, validateDirectiveAttributes, validateOneLine}
 use Rattle.inlines.specs.Inlines.{allEmpty, finalBreak, finalBreakAfter, noInline, validateInline, validateInlineValues, validateInlineNodes, validateInlineNodesAfter, validateInlines, validateNode}
 use Rattle.blocks.specs.Heads.{blankLineAt, countFull, frontmatterKind, holdsOneBlock, opensWithParagraph, takesIndentedCode, validateAlert, validateCodeBlock, validateDefinition, validateFootnoteDefinition, validateFrontmatter, validateHeading, validateHtmlContainer, validateItemBlankLines, validateItemNumber, validateList, validateTakenBlock, validateTaskItem, writtenMarker}

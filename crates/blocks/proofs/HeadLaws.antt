@@ -20,7 +20,7 @@ use Rattle.report.specs.declared.entries.Tally.{Tally}
 use Rattle.report.proofs.ReportLaws.{lists-then}
 use Rattle.checks.specs.Rules
 use Rattle.checks.specs.Single.{validateDestination}
-use Rattle.checks.specs.Values.{isEmpty}
+use Rattle.facts.specs.Values.{isEmpty}
 use Rattle.blocks.specs.Heads.{frontmatterKind, takesIndentedCode, validateAlert, validateCodeBlock, validateDefinition, validateFrontmatter, validateHeading, validateTakenBlock, writtenMarker}
 use Rattle.blocks.specs.declared.heads.Before.{Before}
 

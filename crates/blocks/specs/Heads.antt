@@ -20,7 +20,7 @@ use Rattle.sheet.specs.declared.records.Span.{Span}
 use Rattle.sheet.specs.declared.records.Text.{Text}
 use Rattle.checks.specs.Rules
 use Rattle.checks.specs.Single.{validateDestination}
-use Rattle.checks.specs.Values.{isEmpty}
+use Rattle.facts.specs.Values.{isEmpty}
 use Rattle.blocks.specs.declared.heads.Before.{Before}
 
 -- ---- one block

@@ -16,7 +16,7 @@ ghost use Rattle.blocks.specs.Heads.{
 };
 use checks::rules;
 use checks::single;
-use checks::values::is_empty;
+use facts::values::is_empty;
 use leaves::names::is_blank_identifier;
 use leaves::title::is_alert_title;
 use multiline::fence::FrontmatterKind;

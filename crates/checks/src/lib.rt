@@ -1,4 +1,3 @@
 // What both walks ask of one record.
 pub mod rules;
 pub mod single;
-pub mod values;

@@ -4,7 +4,7 @@ ghost use lib.ListN.{length};
 ghost use Rattle.report.specs.Report.{Lists};
 ghost use Rattle.checks.specs.Single.{validateDestination, validateIdentifier, validateText, validateEscape, validateCodeInline, validateMathInline, validateDirectiveName, validateSiblings};
 use crate::rules;
-use crate::values;
+use facts::values;
 use leaves::math::holds_backtick_dollar;
 use leaves::names::is_directive_name;
 use multiline::lines::holds_line_ending;

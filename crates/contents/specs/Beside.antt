@@ -9,7 +9,7 @@ use Rattle.sheet.specs.Kinds.{isInline, lineBreak}
 use Rattle.sheet.specs.Forest.{Forest, none, tree}
 use Rattle.report.specs.Report.{Entry, listIf}
 use Rattle.checks.specs.Rules
-use Rattle.checks.specs.Values.{isEmptyText, startsWhite, endsWhite, isJoined}
+use Rattle.facts.specs.Values.{isEmptyText, startsWhite, endsWhite, isJoined}
 
 -- no inline stands here
 unfoldable pub noInline : Forest → Bool

@@ -5,7 +5,7 @@ ghost use lib.ListN.{length};
 ghost use Rattle.sheet.specs.Sheet.{recordWords};
 ghost use Rattle.sheet.specs.Forest.{under};
 ghost use Rattle.contents.specs.Content.{noContent, withInline, contentOf};
-use checks::values;
+use facts::values;
 use sheet::kinds;
 use sheet::records;
 use sheet::records::Rec;

@@ -18,7 +18,7 @@ use Rattle.checks.specs.Single.{validateDestination, validateIdentifier, valida
 use Rattle.walks.specs.Every.{validateDirectiveAttributes, validateLinkText}
 use Rattle.inlines.specs.Inlines.{noInline, finalBreak, validateTextDirective, validateEmphasisContainer, validateInlineValues, validateInline}
 use Rattle.checks.specs.Rules
-use Rattle.checks.specs.Values.{isEmphasisContainer}
+use Rattle.facts.specs.Values.{isEmphasisContainer}
 use Rattle.walks.specs.Walk.{Done}
 use Rattle.contents.specs.declared.content.Content.{Content}
 use Rattle.walks.specs.declared.every.Walked.{Walked}

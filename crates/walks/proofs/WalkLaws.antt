@@ -20,7 +20,7 @@ use Rattle.report.specs.declared.entries.Tally.{Tally}
 use Rattle.sheet.proofs.Trees.{past-in, past-out, deeper-in, deeper-out, past-at, under-in, under-out, under-end, under-fits, size-step, size-out, size-end}
 use Rattle.report.proofs.ReportLaws.{join-assoc, none-join, lists-none, lists-then}
 use Rattle.walks.specs.Every.{eachRecord, validateDirectiveAttributes, validateLinkText}
-use Rattle.checks.specs.Values.{isBadAttribute, isLink}
+use Rattle.facts.specs.Values.{isBadAttribute, isLink}
 use Rattle.checks.specs.Rules
 use Rattle.walks.specs.Walk.{Start, Done}
 

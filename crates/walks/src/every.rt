@@ -8,7 +8,7 @@ ghost use Rattle.sheet.specs.Forest.{under, size};
 ghost use Rattle.walks.specs.Every.{validateCellValues, validateDirectiveAttributes, validateLinkText, validateOneLine};
 ghost use Rattle.walks.specs.Walk.{Start, Done};
 use checks::rules;
-use checks::values;
+use facts::values;
 use report::entries;
 use report::entries::Tally;
 use sheet::records;

@@ -2,7 +2,7 @@
 use Prim.Native.Nat.{_-_}
 use Rattle.walks.proofs.WalkLaws.{Loop, each-none, each-turn, faultIn, loop-end, loop-out, loop-start}
 use Rattle.walks.specs.Every.{eachRecord, validateCellValues}
-use Rattle.checks.specs.Values.{isUnwritable}
+use Rattle.facts.specs.Values.{isUnwritable}
 use Rattle.checks.specs.Rules
 use Rattle.sheet.specs.Forest.{under}
 use borrow.Author.Needs.{needs}

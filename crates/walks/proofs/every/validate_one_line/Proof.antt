@@ -2,7 +2,7 @@
 use Prim.Native.Nat.{_-_}
 use Rattle.walks.proofs.WalkLaws.{Loop, each-none, each-turn, faultIn, loop-end, loop-out, loop-start}
 use Rattle.walks.specs.Every.{eachRecord, validateOneLine}
-use Rattle.checks.specs.Values.{isBreak}
+use Rattle.facts.specs.Values.{isBreak}
 use Rattle.sheet.specs.Forest.{under}
 use borrow.Author.Needs.{needs}
 use Rattle.walks.proofs.every.validate_one_line.Statement.{statement}

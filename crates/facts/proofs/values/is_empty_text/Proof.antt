@@ -1,7 +1,7 @@
--- `checks::values::is_empty_text` meets its contract.
+-- `facts::values::is_empty_text` meets its contract.
 use borrow.Author.Needs.{needs}
-use Rattle.checks.proofs.values.is_empty_text.Statement.{statement}
-use Rattle.checks.proofs.values.is_empty_text.Tie as tie
+use Rattle.facts.proofs.values.is_empty_text.Statement.{statement}
+use Rattle.facts.proofs.values.is_empty_text.Tie as tie
 
 returns : tie.Need-returns
 returns c = cc

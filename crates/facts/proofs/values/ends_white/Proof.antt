@@ -1,7 +1,7 @@
--- `checks::values::ends_white` meets its contract.
-use Rattle.checks.proofs.ValueLaws.{values}
-use Rattle.checks.proofs.values.ends_white.Statement.{statement}
-use Rattle.checks.proofs.values.ends_white.Tie as tie
+-- `facts::values::ends_white` meets its contract.
+use Rattle.facts.proofs.ValueLaws.{values}
+use Rattle.facts.proofs.values.ends_white.Statement.{statement}
+use Rattle.facts.proofs.values.ends_white.Tie as tie
 
 pub ends-white-spec : {M : Type 1} → statement M
 ends-white-spec =

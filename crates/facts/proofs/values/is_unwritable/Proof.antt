@@ -1,7 +1,7 @@
--- `checks::values::is_unwritable` meets its contract.
-use Rattle.checks.proofs.ValueLaws.{values}
-use Rattle.checks.proofs.values.is_unwritable.Statement.{statement}
-use Rattle.checks.proofs.values.is_unwritable.Tie as tie
+-- `facts::values::is_unwritable` meets its contract.
+use Rattle.facts.proofs.ValueLaws.{values}
+use Rattle.facts.proofs.values.is_unwritable.Statement.{statement}
+use Rattle.facts.proofs.values.is_unwritable.Tie as tie
 
 pub is-unwritable-spec : {M : Type 1} → statement M
 is-unwritable-spec =

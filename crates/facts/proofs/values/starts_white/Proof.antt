@@ -1,7 +1,7 @@
--- `checks::values::starts_white` meets its contract.
-use Rattle.checks.proofs.ValueLaws.{values}
-use Rattle.checks.proofs.values.starts_white.Statement.{statement}
-use Rattle.checks.proofs.values.starts_white.Tie as tie
+-- `facts::values::starts_white` meets its contract.
+use Rattle.facts.proofs.ValueLaws.{values}
+use Rattle.facts.proofs.values.starts_white.Statement.{statement}
+use Rattle.facts.proofs.values.starts_white.Tie as tie
 
 pub starts-white-spec : {M : Type 1} → statement M
 starts-white-spec =

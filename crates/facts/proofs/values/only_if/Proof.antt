@@ -1,7 +1,7 @@
--- `checks::values::only_if` meets its contract.
+-- `facts::values::only_if` meets its contract.
 use borrow.Author.Needs.{needs}
-use Rattle.checks.proofs.values.only_if.Statement.{statement}
-use Rattle.checks.proofs.values.only_if.Tie as tie
+use Rattle.facts.proofs.values.only_if.Statement.{statement}
+use Rattle.facts.proofs.values.only_if.Tie as tie
 
 returns-2 : tie.Need-returns-2
 returns-2 c = cc

@@ -1,6 +1,6 @@
 // What the inline walk asks of one record: its kind and its own values.
 ghost use mathlib.Core.Path.{_≡_};
-ghost use Rattle.checks.specs.Values.{
+ghost use Rattle.facts.specs.Values.{
   isEmpty,
   isEmptyText,
   isBreak,
