@@ -11,7 +11,7 @@ use Rattle.leaves.specs.Pipe.{hasOddEscapedPipe, oddPipeAfter}
 use Rattle.strings.specs.Same.{sameBytes}
 use Rattle.leaves.specs.Title.{isAlertTitle}
 use Rattle.multiline.specs.Trim.{trim, trimCons, trimEnd, trimStart}
-use Rattle.sheet.specs.Fields.{textOf}
+use Rattle.form.specs.Fields.{textOf}
 use Rattle.sheet.specs.Forest.{count, deeper, forestAt, forestOf, grow, past}
 use Rattle.sheet.specs.Kinds.{paragraph, heading, blockQuote, alert, list, codeBlock, htmlContainer, definition, footnoteDefinition, table, frontmatter, leafDirective, containerDirective, blankLine, item, row, cell, htmlTag, text, code, softBreak}
 use Rattle.report.specs.Report.{Entry, listIf, _⊕_}

@@ -11,7 +11,7 @@ use Rattle.multiline.specs.Lines.{hasBlankEdgeLine}
 use Rattle.leaves.specs.Names.{isBlankIdentifier}
 use Rattle.leaves.specs.Title.{isAlertTitle}
 use Rattle.multiline.specs.declared.fence.FrontmatterKind.{FrontmatterKind}
-use Rattle.sheet.specs.Fields.{textOf}
+use Rattle.form.specs.Fields.{textOf}
 use Rattle.sheet.specs.Kinds.{list, codeBlock}
 use Rattle.report.specs.Report.{Lists, listIf}
 use Rattle.sheet.specs.declared.records.Span.{Span}

@@ -12,7 +12,7 @@ use Rattle.leaves.specs.Title.{isAlertTitle}
 use Rattle.multiline.specs.declared.fence.FrontmatterKind.{FrontmatterKind}
 use Rattle.multiline.specs.declared.fence.FrontmatterKind.the-variants.{Yaml, Toml}
 use Rattle.sheet.specs.Kinds.{paragraph, list, codeBlock, definition, footnoteDefinition, blankLine}
-use Rattle.sheet.specs.Fields.{textOf}
+use Rattle.form.specs.Fields.{textOf}
 use Rattle.sheet.specs.Forest.{Forest, none, tree, count}
 use Rattle.report.specs.Report.{Entry, listIf, _⊕_}
 use Rattle.sheet.specs.declared.records.Rec.{Rec}

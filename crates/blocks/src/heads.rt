@@ -17,6 +17,7 @@ ghost use Rattle.blocks.specs.Heads.{
 use checks::rules;
 use checks::single;
 use facts::values::is_empty;
+use form::fields::text_of;
 use leaves::names::is_blank_identifier;
 use leaves::title::is_alert_title;
 use multiline::fence::FrontmatterKind;
@@ -24,7 +25,6 @@ use multiline::fence::holds_fence_line;
 use multiline::lines::has_blank_edge_line;
 use report::entries::Tally;
 use report::entries::list_if;
-use sheet::fields::text_of;
 use sheet::kinds;
 use sheet::records::Span;
 use sheet::records::Text;

@@ -9,7 +9,7 @@ use Rattle.multiline.specs.Lines.{holdsLineEnding}
 use Rattle.leaves.specs.Math.{holdsBacktickDollar}
 use Rattle.leaves.specs.Names.{isDirectiveName}
 use Rattle.strings.specs.Punctuation.{isAsciiPunctuation}
-use Rattle.sheet.specs.Fields.{textOf}
+use Rattle.form.specs.Fields.{textOf}
 use Rattle.sheet.specs.Kinds.{delete}
 use Rattle.report.specs.Report.{Entry, Lists, listIf}
 use Rattle.sheet.specs.declared.records.Span.{Span}

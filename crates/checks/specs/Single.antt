@@ -8,7 +8,7 @@ use Rattle.leaves.specs.Math.{holdsBacktickDollar}
 use Rattle.leaves.specs.Names.{isDirectiveName}
 use Rattle.strings.specs.Punctuation.{isAsciiPunctuation}
 use Rattle.sheet.specs.Kinds.{delete}
-use Rattle.sheet.specs.Fields.{textOf}
+use Rattle.form.specs.Fields.{textOf}
 use Rattle.report.specs.Report.{Entry, listIf, _⊕_}
 use Rattle.sheet.specs.declared.records.Span.{Span}
 use Rattle.sheet.specs.declared.records.Text.{Text}

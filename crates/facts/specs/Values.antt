@@ -8,7 +8,7 @@ use Rattle.leaves.specs.Names.{isAttributeName}
 use Rattle.leaves.specs.Pipe.{hasOddEscapedPipe}
 use Rattle.unicode.specs.White.{startsWithWhite, endsWithWhite}
 use Rattle.sheet.specs.Kinds.{among, attribute, text, emphasis, strong, delete, mark, code, link, autolink, linkReference, imageReference, html, softBreak, lineBreak, math, footnoteReference, wikiLink}
-use Rattle.sheet.specs.Fields.{textOf}
+use Rattle.form.specs.Fields.{textOf}
 use Rattle.sheet.specs.declared.records.Rec.{Rec}
 use Rattle.sheet.specs.declared.records.Text.{Text}
 

@@ -16,9 +16,9 @@ ghost use Rattle.facts.specs.Values.{
   isBadAttribute,
   onlyIf,
 };
+use form::fields::text_of;
 use leaves::names::is_attribute_name;
 use leaves::pipe::has_odd_escaped_pipe;
-use sheet::fields::text_of;
 use sheet::kinds;
 use sheet::records::Rec;
 use sheet::records::Text;

@@ -15,7 +15,7 @@ use Rattle.sheet.specs.Kinds.{htmlContainer, htmlTag}
 use Rattle.sheet.specs.Sheet.{recordAt, recordWords, recordsOf}
 use Rattle.sheet.specs.Forest.{Forest, none, tree, forestAt, forestOf, under, size, countKind}
 use Rattle.sheet.specs.Places.{holdsBlocks, parentGroup, opened, joined, misplaced, openAt}
-use Rattle.sheet.specs.Fields.{textOf, textOutside, textIllFormed}
+use Rattle.form.specs.Fields.{textOf, textOutside, textIllFormed}
 use Rattle.refusal.specs.Refusal.{mostRecords, mostBytes, isAccepted, orElse, levelBefore, judgeFrom, tagsFrom, lacksTags, judgeSheet}
 use Rattle.refusal.specs.Judging.{Placed}
 use Rattle.refusal.specs.Formed.{Named, Head, Formed, Sound}

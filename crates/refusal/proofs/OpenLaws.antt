@@ -15,7 +15,7 @@ use Rattle.strings.specs.Lists.{if_then_else_}
 use Rattle.sheet.specs.Kinds.{isKind}
 use Rattle.sheet.specs.Sheet.{recordAt, recordWords}
 use Rattle.sheet.specs.Places.{holdsBlocks, parentGroup, opened, joined, misplaced, openAt}
-use Rattle.sheet.specs.Fields.{badField, textOutside, textIllFormed}
+use Rattle.form.specs.Fields.{badField, textOutside, textIllFormed}
 use Rattle.refusal.specs.Refusal.{numberOf, isAccepted, orElse, levelBefore, badLevel, judgeTexts, judge, judgeAt, judgeFrom}
 use Rattle.refusal.specs.Judging.{slotOf, Slot}
 use Rattle.sheet.specs.declared.records.Rec.{Rec}

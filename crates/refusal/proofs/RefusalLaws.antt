@@ -10,7 +10,7 @@ use lib.Dec.{eqb, ltb, leb}
 use Rattle.strings.specs.Lists.{if_then_else_}
 use Rattle.sheet.specs.Kinds.{isKind}
 use Rattle.sheet.specs.Places.{misplaced}
-use Rattle.sheet.specs.Fields.{badField, textOutside, textIllFormed}
+use Rattle.form.specs.Fields.{badField, textOutside, textIllFormed}
 use Rattle.refusal.specs.Refusal.{badLevel, judgeTexts, judge}
 use Rattle.sheet.specs.declared.records.Rec.{Rec}
 use Rattle.sheet.specs.declared.places.Open.{Open}

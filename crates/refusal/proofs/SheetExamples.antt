@@ -10,7 +10,7 @@ use Rattle.sheet.specs.Sheet.{recordAt}
 use Rattle.sheet.specs.Siblings.{gather}
 use Rattle.sheet.specs.Forest.{deeper, past, grow, forestAt, countKind}
 use Rattle.sheet.specs.Places.{parentGroup, otherGroup, childGroup, places, placeOf, opened, joined, misplaced, openAt}
-use Rattle.sheet.specs.Fields.{mostA, mostB, mostC, hasFirst, hasSecond, badText, badSpan, isSurrogate, badNumber, badField, textOf, textOutside, textIllFormed}
+use Rattle.form.specs.Fields.{mostA, mostB, mostC, hasFirst, hasSecond, badText, badSpan, isSurrogate, badNumber, badField, textOf, textOutside, textIllFormed}
 use Rattle.refusal.specs.Refusal.{numberOf, recordOf, levelBefore, badLevel, judgeTexts, judge, judgeAt, orElse, judgeFrom, lacksTags, tagsFrom, judgeSheet}
 use Rattle.refusal.specs.declared.judge.Judged.{Judged}
 use Rattle.refusal.specs.declared.judge.Judged.the-variants.{Accepted, OddSheet, LongSheet, LongText, UnknownKind, BadLevel, Misplaced, BadField, TextOutside, NotUtf8, TagsMissing}

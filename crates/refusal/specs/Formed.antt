@@ -10,7 +10,7 @@ use Rattle.sheet.specs.Kinds.{isKind, htmlContainer, htmlTag}
 use Rattle.sheet.specs.Sheet.{recordAt, recordsOf, recordWords}
 use Rattle.sheet.specs.Forest.{Forest, none, tree, forestOf, countKind}
 use Rattle.sheet.specs.Places.{holdsBlocks, parentGroup, opened, joined, misplaced}
-use Rattle.sheet.specs.Fields.{badField, textOf}
+use Rattle.form.specs.Fields.{badField, textOf}
 use Rattle.sheet.specs.declared.records.Rec.{Rec}
 use Rattle.sheet.specs.declared.records.Text.{Text}
 use Rattle.sheet.specs.declared.places.Open.{Open}

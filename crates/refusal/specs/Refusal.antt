@@ -9,7 +9,7 @@ use Rattle.sheet.specs.Kinds.{isKind, htmlContainer, htmlTag}
 use Rattle.sheet.specs.Sheet.{recordWords, recordsOf, recordAt}
 use Rattle.sheet.specs.Forest.{under, countKind}
 use Rattle.sheet.specs.Places.{misplaced, openAt}
-use Rattle.sheet.specs.Fields.{badField, textOutside, textIllFormed}
+use Rattle.form.specs.Fields.{badField, textOutside, textIllFormed}
 use Rattle.sheet.specs.declared.records.Rec.{Rec}
 use Rattle.sheet.specs.declared.places.Open.{Open}
 use Rattle.refusal.specs.declared.judge.Judged.{Judged}

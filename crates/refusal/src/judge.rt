@@ -5,7 +5,7 @@ ghost use lib.ListN.{length};
 ghost use Rattle.sheet.specs.Sheet.{recordWords};
 ghost use Rattle.refusal.specs.Refusal.{numberOf, recordOf, mostRecords, isAccepted, badLevel, judgeTexts, judge, judgeFrom, lacksTags, tagsFrom, judgeSheet};
 ghost use Rattle.refusal.specs.Judging.{Slot, Containers, tagUnder};
-use sheet::fields;
+use form::fields;
 use sheet::kinds;
 use sheet::places;
 use sheet::places::Open;

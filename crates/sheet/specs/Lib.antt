@@ -3,4 +3,3 @@ pub mod Sheet
 pub mod Siblings
 pub mod Forest
 pub mod Places
-pub mod Fields

@@ -1,5 +1,4 @@
-// The sheet: its records, their fields and where they may stand.
-pub mod fields;
+// The sheet: its records, and where they may stand.
 pub mod kinds;
 pub mod places;
 pub mod records;

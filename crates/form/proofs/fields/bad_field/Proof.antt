@@ -1,0 +1,21 @@
+-- `form::fields::bad_field` meets its contract.
+use Rattle.form.specs.Fields.{badField}
+use borrow.Author.Needs.{needs}
+use Rattle.form.proofs.fields.bad_field.Statement.{statement}
+use Rattle.form.proofs.fields.bad_field.Tie as tie
+
+returns : tie.Need-returns
+unfolding badField
+returns c = cc
+
+pub bad-field-spec : {M : Type 1} → statement M
+bad-field-spec =
+    tie.close
+    (tie.spec
+    (λ c κs. search needs)
+    (λ c κs. search needs)
+    (λ c κs. search needs)
+    (λ c κs. search needs)
+    (λ c κs. search needs)
+    (λ c κs. search needs)
+    returns)

@@ -1,0 +1,14 @@
+-- `form::fields::bad_span` meets its contract.
+use Rattle.form.specs.Fields.{badSpan}
+use Rattle.form.proofs.fields.bad_span.Statement.{statement}
+use Rattle.form.proofs.fields.bad_span.Tie as tie
+
+returns : tie.Need-returns
+unfolding badSpan
+returns c = cc
+
+pub bad-span-spec : {M : Type 1} → statement M
+bad-span-spec =
+    tie.close
+    (tie.spec
+    returns)

@@ -1,0 +1,218 @@
+// The fields of a record, and the texts that it names.
+ghost use mathlib.Core.Path.{_≡_};
+ghost use mathlib.Core.List.{[], _∷_};
+ghost use Rattle.sheet.specs.Kinds.{
+  among,
+  codeBlock,
+  definition,
+  footnoteDefinition,
+  frontmatter,
+  leafDirective,
+  containerDirective,
+  htmlTag,
+  attribute,
+  text,
+  code,
+  link,
+  autolink,
+  image,
+  linkReference,
+  imageReference,
+  html,
+  math,
+  footnoteReference,
+  wikiLink,
+  textDirective,
+  tag,
+};
+ghost use Rattle.form.specs.Fields.{
+  mostA,
+  mostB,
+  mostC,
+  hasFirst,
+  hasSecond,
+  badText,
+  badSpan,
+  isSurrogate,
+  badNumber,
+  badField,
+  textOf,
+  textOutside,
+  textIllFormed,
+};
+use sheet::kinds;
+use sheet::kinds::pick;
+use sheet::records::Rec;
+use sheet::records::Span;
+use sheet::records::Text;
+use strings::bytes::between;
+
+// The most that A may be; 0 where it is not used.
+fn most_a(kind: u32) -> u32
+    ensures { λ r. ⌜ r ≡ mostA kind ⌝ }
+{
+    let flagged = (kind == kinds::ALERT)
+        | (kind == kinds::LIST)
+        | (kind == kinds::CODE_BLOCK)
+        | (kind == kinds::HTML_CONTAINER)
+        | (kind == kinds::FRONTMATTER)
+        | (kind == kinds::EMPHASIS)
+        | (kind == kinds::STRONG)
+        | (kind == kinds::LINE_BREAK)
+        | (kind == kinds::MATH);
+    let threefold = (kind == kinds::DEFINITION)
+        | (kind == kinds::ITEM)
+        | (kind == kinds::LINK)
+        | (kind == kinds::IMAGE);
+    let most = pick(kind == kinds::ESCAPE, 0x10FFFF, 0);
+    let most = pick(kind == kinds::TABLE, 0xFFFF_FFFF, most);
+    let most = pick(threefold, 2, most);
+    let most = pick(flagged, 1, most);
+    pick(kind == kinds::HEADING, 255, most)
+}
+
+fn most_b(kind: u32, a: u32) -> u32
+    ensures { λ r. ⌜ r ≡ mostB kind a ⌝ }
+{
+    let most = pick((kind == kinds::MATH) & (a == 0), 255, 0);
+    let most = pick((kind == kinds::CODE_BLOCK) | (kind == kinds::ITEM), 1, most);
+    pick(kind == kinds::LIST, 4, most)
+}
+
+fn most_c(kind: u32, b: u32) -> u32
+    ensures { λ r. ⌜ r ≡ mostC kind b ⌝ }
+{
+    let most = pick((kind == kinds::ITEM) & (b == 1), 0xFFFF_FFFF, 0);
+    pick(kind == kinds::LIST, 1, most)
+}
+
+fn names_value(kind: u32) -> bool
+    ensures { λ r. ⌜ r ≡ among kind (codeBlock ∷ frontmatter ∷ text ∷ code ∷ html ∷ math ∷ []) ⌝ }
+{
+    (kind == kinds::CODE_BLOCK)
+        | (kind == kinds::FRONTMATTER)
+        | (kind == kinds::TEXT)
+        | (kind == kinds::CODE)
+        | (kind == kinds::HTML)
+        | (kind == kinds::MATH)
+}
+
+fn names_identifier(kind: u32) -> bool
+    ensures { λ r. ⌜ r ≡ among kind (definition ∷ footnoteDefinition ∷ linkReference ∷ imageReference ∷ footnoteReference ∷ []) ⌝ }
+{
+    (kind == kinds::DEFINITION)
+        | (kind == kinds::FOOTNOTE_DEFINITION)
+        | (kind == kinds::LINK_REFERENCE)
+        | (kind == kinds::IMAGE_REFERENCE)
+        | (kind == kinds::FOOTNOTE_REFERENCE)
+}
+
+fn names_name(kind: u32) -> bool
+    ensures { λ r. ⌜ r ≡ among kind (leafDirective ∷ containerDirective ∷ textDirective ∷ htmlTag ∷ attribute ∷ tag ∷ []) ⌝ }
+{
+    (kind == kinds::LEAF_DIRECTIVE)
+        | (kind == kinds::CONTAINER_DIRECTIVE)
+        | (kind == kinds::TEXT_DIRECTIVE)
+        | (kind == kinds::HTML_TAG)
+        | (kind == kinds::ATTRIBUTE)
+        | (kind == kinds::TAG)
+}
+
+fn names_link(kind: u32) -> bool
+    ensures { λ r. ⌜ r ≡ among kind (link ∷ image ∷ autolink ∷ wikiLink ∷ []) ⌝ }
+{
+    (kind == kinds::LINK)
+        | (kind == kinds::IMAGE)
+        | (kind == kinds::AUTOLINK)
+        | (kind == kinds::WIKI_LINK)
+}
+
+// Whether the record has a first text; an alert has one where its A is 1.
+fn has_first(kind: u32, a: u32) -> bool
+    ensures { λ r. ⌜ r ≡ hasFirst kind a ⌝ }
+{
+    ((kind == kinds::ALERT) & (a == 1))
+        | names_value(kind)
+        | names_identifier(kind)
+        | names_name(kind)
+        | names_link(kind)
+}
+
+fn names_second(kind: u32) -> bool
+    ensures { λ r. ⌜ r ≡ among kind (definition ∷ htmlTag ∷ linkReference ∷ imageReference ∷ footnoteReference ∷ wikiLink ∷ []) ⌝ }
+{
+    (kind == kinds::DEFINITION)
+        | (kind == kinds::HTML_TAG)
+        | (kind == kinds::LINK_REFERENCE)
+        | (kind == kinds::IMAGE_REFERENCE)
+        | (kind == kinds::FOOTNOTE_REFERENCE)
+        | (kind == kinds::WIKI_LINK)
+}
+
+// Whether the record has a second text; a code block has one where its B is 1.
+fn has_second(kind: u32, b: u32) -> bool
+    ensures { λ r. ⌜ r ≡ hasSecond kind b ⌝ }
+{
+    ((kind == kinds::CODE_BLOCK) & (b == 1)) | names_second(kind)
+}
+
+// An absent text is 0, 0.
+fn bad_text(has: bool, t: Text) -> bool
+    ensures { λ r. ⌜ r ≡ badText has t ⌝ }
+{
+    !has & !((t.start == 0) & (t.len == 0))
+}
+
+fn bad_span(kind: u32, s: Span) -> bool
+    ensures { λ r. ⌜ r ≡ badSpan kind s ⌝ }
+{
+    (1 < s.flag)
+        | ((s.flag == 0) & !((s.start == 0) & (s.end == 0)))
+        | ((kind == kinds::ATTRIBUTE) & !(s.flag == 0))
+}
+
+fn is_surrogate(kind: u32, a: u32) -> bool
+    ensures { λ r. ⌜ r ≡ isSurrogate kind a ⌝ }
+{
+    (kind == kinds::ESCAPE) & between(0xD800, 0xDFFF, a)
+}
+
+fn bad_number(r: Rec) -> bool
+    ensures { λ q. ⌜ q ≡ badNumber r ⌝ }
+{
+    (most_a(r.kind) < r.a)
+        | (most_b(r.kind, r.a) < r.b)
+        | (most_c(r.kind, r.b) < r.c)
+        | is_surrogate(r.kind, r.a)
+}
+
+// Whether a value is out of range or an unused word is not 0.
+pub fn bad_field(r: Rec) -> bool
+    ensures { λ q. ⌜ q ≡ badField r ⌝ }
+{
+    bad_number(r)
+        | bad_span(r.kind, r.span)
+        | bad_text(has_first(r.kind, r.a), r.first)
+        | bad_text(has_second(r.kind, r.b), r.second)
+}
+
+// The part of the sheet's text that a record names.
+pub fn text_of(bytes: &[u8], t: Text) -> &[u8]
+    ensures { λ r. ⌜ now r ≡ textOf (now (bytes .entry)) t ⌝ }
+{
+    strings::part::part(bytes, t.start as usize, t.len as usize)
+}
+
+pub fn text_outside(bytes: &[u8], t: Text) -> bool
+    ensures { λ r. ⌜ r ≡ textOutside (now (bytes .entry)) t ⌝ }
+{
+    let start = t.start as usize;
+    let len = t.len as usize;
+    bytes.len() < start + len
+}
+
+pub fn text_ill_formed(bytes: &[u8], t: Text) -> bool
+    ensures { λ r. ⌜ r ≡ textIllFormed (now (bytes .entry)) t ⌝ }
+{
+    !unicode::utf8::is_utf8(text_of(bytes, t))
+}
