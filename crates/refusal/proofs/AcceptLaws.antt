@@ -11,7 +11,7 @@ use lib.Dec.{eqb, ltb, leb}
 use lib.ListN.{length}
 use Rattle.strings.specs.Lists.{if_then_else_}
 use Rattle.sheet.specs.Sheet.{recordAt, recordWords, recordsOf}
-use Rattle.sheet.specs.Places.{openAt}
+use Rattle.standing.specs.Places.{openAt}
 use Rattle.refusal.specs.Refusal.{mostRecords, mostBytes, isAccepted, orElse, levelBefore, judge, judgeAt, judgeFrom, tagsFrom, lacksTags, judgeSheet}
 use Rattle.refusal.specs.Judging.{Placed, Containers}
 use Rattle.refusal.specs.declared.judge.Judged.{Judged}

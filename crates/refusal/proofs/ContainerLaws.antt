@@ -9,11 +9,11 @@ use lib.Dec.{eqb, ltb, leb}
 use Rattle.strings.specs.Lists.{if_then_else_}
 use Rattle.sheet.specs.Kinds.{htmlContainer, htmlTag}
 use Rattle.sheet.specs.Forest.{Forest, none, tree, countKind}
-use Rattle.sheet.specs.Places.{holdsTagsAndBlocks, holdsTagsAndInlines, placeOf, parentGroup, opened, joined, misplaced}
+use Rattle.standing.specs.Places.{holdsTagsAndBlocks, holdsTagsAndInlines, placeOf, parentGroup, opened, joined, misplaced}
 use Rattle.refusal.specs.Formed.{Head, Formed}
 use Rattle.sheet.specs.declared.records.Rec.{Rec}
-use Rattle.sheet.specs.declared.places.Open.{Open}
-use Rattle.sheet.proofs.PlaceLaws.{or-left, or-right}
+use Rattle.standing.specs.declared.places.Open.{Open}
+use Rattle.standing.proofs.PlaceLaws.{or-left, or-right}
 use Rattle.refusal.proofs.TagLaws.{container-group, container-tag, nothing-under}
 
 pub record Tagged (f : Forest) : Type 0 where

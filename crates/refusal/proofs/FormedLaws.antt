@@ -14,17 +14,17 @@ use Rattle.unicode.specs.Utf8.{isUtf8}
 use Rattle.sheet.specs.Kinds.{htmlContainer, htmlTag}
 use Rattle.sheet.specs.Sheet.{recordAt, recordWords, recordsOf}
 use Rattle.sheet.specs.Forest.{Forest, none, tree, forestAt, forestOf, under, size, countKind}
-use Rattle.sheet.specs.Places.{holdsBlocks, parentGroup, opened, joined, misplaced, openAt}
+use Rattle.standing.specs.Places.{holdsBlocks, parentGroup, opened, joined, misplaced, openAt}
 use Rattle.form.specs.Fields.{textOf, textOutside, textIllFormed}
 use Rattle.refusal.specs.Refusal.{mostRecords, mostBytes, isAccepted, orElse, levelBefore, judgeFrom, tagsFrom, lacksTags, judgeSheet}
 use Rattle.refusal.specs.Judging.{Placed}
 use Rattle.refusal.specs.Formed.{Named, Head, Formed, Sound}
 use Rattle.sheet.specs.declared.records.Rec.{Rec}
 use Rattle.sheet.specs.declared.records.Text.{Text}
-use Rattle.sheet.specs.declared.places.Open.{Open}
+use Rattle.standing.specs.declared.places.Open.{Open}
 use Rattle.refusal.specs.declared.judge.Judged.{Judged}
 use Rattle.refusal.specs.declared.judge.Judged.the-variants.{Accepted, TagsMissing}
-use Rattle.sheet.proofs.PlaceLaws.{or-left, or-right}
+use Rattle.standing.proofs.PlaceLaws.{or-left, or-right}
 use Rattle.refusal.proofs.OpenLaws.{Passed, Deep, deep, open-kid, open-same, open-past}
 use Rattle.sheet.proofs.SiblingLaws.{level-past}
 use Rattle.sheet.specs.Siblings.{gather}

@@ -14,17 +14,17 @@ use lib.Seq.{getD-set-same, getD-set-other}
 use Rattle.strings.specs.Lists.{if_then_else_}
 use Rattle.sheet.specs.Kinds.{isKind}
 use Rattle.sheet.specs.Sheet.{recordAt, recordWords}
-use Rattle.sheet.specs.Places.{holdsBlocks, parentGroup, opened, joined, misplaced, openAt}
+use Rattle.standing.specs.Places.{holdsBlocks, parentGroup, opened, joined, misplaced, openAt}
 use Rattle.form.specs.Fields.{badField, textOutside, textIllFormed}
 use Rattle.refusal.specs.Refusal.{numberOf, isAccepted, orElse, levelBefore, badLevel, judgeTexts, judge, judgeAt, judgeFrom}
 use Rattle.refusal.specs.Judging.{slotOf, Slot}
 use Rattle.sheet.specs.declared.records.Rec.{Rec}
-use Rattle.sheet.specs.declared.places.Open.{Open}
+use Rattle.standing.specs.declared.places.Open.{Open}
 use Rattle.refusal.specs.declared.judge.Judged.{Judged}
 use Rattle.refusal.specs.declared.judge.Judged.the-variants.{Accepted, OddSheet, LongSheet, LongText, UnknownKind, BadLevel, Misplaced, BadField, TextOutside, NotUtf8, TagsMissing}
 use Rattle.sheet.specs.Siblings.{gather}
 use Rattle.sheet.specs.Forest.{under, size}
-use Rattle.sheet.proofs.PlaceLaws.{or-left, or-right}
+use Rattle.standing.proofs.PlaceLaws.{or-left, or-right}
 use Rattle.sheet.proofs.SiblingLaws.{gather-kid, gather-next, gather-deeper, gather-past}
 
 -- ---- answers

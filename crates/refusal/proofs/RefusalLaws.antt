@@ -9,11 +9,11 @@ use borrow.Author.Tests.{not-true, not-false}
 use lib.Dec.{eqb, ltb, leb}
 use Rattle.strings.specs.Lists.{if_then_else_}
 use Rattle.sheet.specs.Kinds.{isKind}
-use Rattle.sheet.specs.Places.{misplaced}
+use Rattle.standing.specs.Places.{misplaced}
 use Rattle.form.specs.Fields.{badField, textOutside, textIllFormed}
 use Rattle.refusal.specs.Refusal.{badLevel, judgeTexts, judge}
 use Rattle.sheet.specs.declared.records.Rec.{Rec}
-use Rattle.sheet.specs.declared.places.Open.{Open}
+use Rattle.standing.specs.declared.places.Open.{Open}
 use Rattle.refusal.specs.declared.judge.Judged.{Judged}
 use Rattle.refusal.specs.declared.judge.Judged.the-variants.{Accepted, UnknownKind, BadLevel, Misplaced, BadField, TextOutside, NotUtf8}
 

@@ -9,7 +9,7 @@ use Rattle.sheet.specs.Kinds.{paragraph, heading, thematicBreak, blockQuote, al
 use Rattle.sheet.specs.Sheet.{recordAt}
 use Rattle.sheet.specs.Siblings.{gather}
 use Rattle.sheet.specs.Forest.{deeper, past, grow, forestAt, countKind}
-use Rattle.sheet.specs.Places.{parentGroup, otherGroup, childGroup, places, placeOf, opened, joined, misplaced, openAt}
+use Rattle.standing.specs.Places.{parentGroup, otherGroup, childGroup, places, placeOf, opened, joined, misplaced, openAt}
 use Rattle.form.specs.Fields.{mostA, mostB, mostC, hasFirst, hasSecond, badText, badSpan, isSurrogate, badNumber, badField, textOf, textOutside, textIllFormed}
 use Rattle.refusal.specs.Refusal.{numberOf, recordOf, levelBefore, badLevel, judgeTexts, judge, judgeAt, orElse, judgeFrom, lacksTags, tagsFrom, judgeSheet}
 use Rattle.refusal.specs.declared.judge.Judged.{Judged}

@@ -14,14 +14,14 @@ use Rattle.strings.specs.Lists.{if_then_else_}
 use Rattle.sheet.specs.Kinds.{htmlContainer, htmlTag}
 use Rattle.sheet.specs.Sheet.{recordAt, recordWords}
 use Rattle.sheet.specs.Forest.{Forest, none, tree, under, size, countKind}
-use Rattle.sheet.specs.Places.{parentGroup, otherGroup, childGroup, places, placeOf, opened, joined, misplaced, openAt}
+use Rattle.standing.specs.Places.{parentGroup, otherGroup, childGroup, places, placeOf, opened, joined, misplaced, openAt}
 use Rattle.refusal.specs.Refusal.{isAccepted, orElse, levelBefore, badLevel, judge, judgeAt, judgeFrom, lacksTags, tagsFrom}
 use Rattle.refusal.specs.Judging.{Placed, tagUnder}
 use Rattle.sheet.specs.declared.records.Rec.{Rec}
-use Rattle.sheet.specs.declared.places.Open.{Open}
+use Rattle.standing.specs.declared.places.Open.{Open}
 use Rattle.refusal.specs.declared.judge.Judged.{Judged}
 use Rattle.refusal.specs.declared.judge.Judged.the-variants.{Accepted, TagsMissing}
-use Rattle.sheet.proofs.PlaceLaws.{or-left, or-right}
+use Rattle.standing.proofs.PlaceLaws.{or-left, or-right}
 use Rattle.refusal.proofs.OpenLaws.{or-first, or-second, Passed, passed, Deep, deep, open-kid, open-same}
 use Rattle.sheet.proofs.Trees.{under-end, under-out, under-in}
 

@@ -9,11 +9,11 @@ use Rattle.unicode.specs.Utf8.{isUtf8}
 use Rattle.sheet.specs.Kinds.{isKind, htmlContainer, htmlTag}
 use Rattle.sheet.specs.Sheet.{recordAt, recordsOf, recordWords}
 use Rattle.sheet.specs.Forest.{Forest, none, tree, forestOf, countKind}
-use Rattle.sheet.specs.Places.{holdsBlocks, parentGroup, opened, joined, misplaced}
+use Rattle.standing.specs.Places.{holdsBlocks, parentGroup, opened, joined, misplaced}
 use Rattle.form.specs.Fields.{badField, textOf}
 use Rattle.sheet.specs.declared.records.Rec.{Rec}
 use Rattle.sheet.specs.declared.records.Text.{Text}
-use Rattle.sheet.specs.declared.places.Open.{Open}
+use Rattle.standing.specs.declared.places.Open.{Open}
 
 -- a text that a record names: inside the sheet's text, and well-formed
 pub record Named (bytes : List ℕ) (t : Text) : Type 0 where

@@ -8,7 +8,7 @@ use lib.ListN.{length}
 use Rattle.strings.specs.Lists.{if_then_else_}
 use Rattle.sheet.specs.Kinds.{htmlTag}
 use Rattle.sheet.specs.Sheet.{recordWords, recordAt}
-use Rattle.sheet.specs.Places.{misplaced, openAt}
+use Rattle.standing.specs.Places.{misplaced, openAt}
 use Rattle.refusal.specs.Refusal.{mostRecords, mostLevel, levelBefore, badLevel}
 
 -- every record passes the tests 5 and 6

@@ -8,10 +8,10 @@ use Rattle.strings.specs.Lists.{if_then_else_}
 use Rattle.sheet.specs.Kinds.{isKind, htmlContainer, htmlTag}
 use Rattle.sheet.specs.Sheet.{recordWords, recordsOf, recordAt}
 use Rattle.sheet.specs.Forest.{under, countKind}
-use Rattle.sheet.specs.Places.{misplaced, openAt}
+use Rattle.standing.specs.Places.{misplaced, openAt}
 use Rattle.form.specs.Fields.{badField, textOutside, textIllFormed}
 use Rattle.sheet.specs.declared.records.Rec.{Rec}
-use Rattle.sheet.specs.declared.places.Open.{Open}
+use Rattle.standing.specs.declared.places.Open.{Open}
 use Rattle.refusal.specs.declared.judge.Judged.{Judged}
 use Rattle.refusal.specs.declared.judge.Judged.the-variants.{Accepted, OddSheet, LongSheet, LongText, UnknownKind, BadLevel, Misplaced, BadField, TextOutside, NotUtf8, TagsMissing}
 

@@ -7,11 +7,11 @@ ghost use Rattle.refusal.specs.Refusal.{numberOf, recordOf, mostRecords,
 ghost use Rattle.refusal.specs.Judging.{Slot, Containers, tagUnder};
 use form::fields;
 use sheet::kinds;
-use sheet::places;
-use sheet::places::Open;
 use sheet::records;
 use sheet::records::RECORD_WORDS;
 use sheet::records::Rec;
+use standing::places;
+use standing::places::Open;
 
 const MOST_RECORDS: usize = 65535;
 

@@ -2,4 +2,3 @@ pub mod Kinds
 pub mod Sheet
 pub mod Siblings
 pub mod Forest
-pub mod Places

@@ -1,4 +1,3 @@
-// The sheet: its records, and where they may stand.
+// The sheet: its records and their kinds.
 pub mod kinds;
-pub mod places;
 pub mod records;

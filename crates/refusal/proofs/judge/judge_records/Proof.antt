@@ -1,7 +1,7 @@
 -- `refusal::judge::judge_records` meets its contract.
 use Prim.Native.Nat.{_-_}
 use Rattle.refusal.proofs.OpenLaws.{Judging, judging-passed, judging-turn, records-judged}
-use Rattle.sheet.specs.Places.{joined}
+use Rattle.standing.specs.Places.{joined}
 use Rattle.refusal.specs.Refusal.{judge}
 use borrow.Author.Needs.{needs}
 use borrow.Author.Tests.{not-false}

@@ -5,10 +5,10 @@ use mathlib.Core.List.{List, [], _∷_}
 use lib.Dec.{eqb, ltb, leb}
 use lib.ListN.{getD}
 use Rattle.strings.specs.Lists.{if_then_else_}
 use Rattle.sheet.specs.Kinds.{among, isBlock, paragraph, heading, blockQuote, alert, list, htmlContainer, footnoteDefinition, table, leafDirective, containerDirective, item, row, cell, htmlTag, attribute, emphasis, strong, delete, mark, link, image, linkReference, imageReference, inlineFootnote, textDirective}
 use Rattle.sheet.specs.Siblings.{gather}
 use Rattle.sheet.specs.declared.records.Rec.{Rec}
-use Rattle.sheet.specs.declared.places.Open.{Open}
+use Rattle.standing.specs.declared.places.Open.{Open}
 
 -- ---- groups of parents: what a record may hold
 abbrev pub holdsBlocks : ℕ

@@ -1,8 +1,8 @@
--- `sheet::places::other_group` meets its contract.
-use Rattle.sheet.specs.Places.{otherGroup}
+-- `standing::places::other_group` meets its contract.
+use Rattle.standing.specs.Places.{otherGroup}
 use borrow.Author.Needs.{needs}
-use Rattle.sheet.proofs.places.other_group.Statement.{statement}
-use Rattle.sheet.proofs.places.other_group.Tie as tie
+use Rattle.standing.proofs.places.other_group.Statement.{statement}
+use Rattle.standing.proofs.places.other_group.Tie as tie
 
 returns : tie.Need-returns
 unfolding otherGroup

@@ -11,9 +11,9 @@ use borrow.Author.Needs.{needs}
 use borrow.Author.Tests.{leb-true, leb-false, eq-eqb, ne-eqb}
 use Rattle.unicode.proofs.Decoding.{and-left, and-right}
 use Rattle.strings.specs.Lists.{if_then_else_}
 use Rattle.sheet.specs.Kinds.{htmlTag}
-use Rattle.sheet.specs.Places.{holdsTagsAndBlocks, holdsTagsAndInlines, places, placeOf, opened, joined, misplaced}
-use Rattle.sheet.specs.declared.places.Open.{Open}
+use Rattle.standing.specs.Places.{holdsTagsAndBlocks, holdsTagsAndInlines, places, placeOf, opened, joined, misplaced}
+use Rattle.standing.specs.declared.places.Open.{Open}
 
 pub place-below : (group column : ℕ) → 10 ≤ group → 0 ≡ getD (getD places group []) column 0
 unfolding places

@@ -1,8 +1,8 @@
--- `sheet::places::parent_group` meets its contract.
-use Rattle.sheet.specs.Places.{parentGroup}
+-- `standing::places::parent_group` meets its contract.
+use Rattle.standing.specs.Places.{parentGroup}
 use borrow.Author.Needs.{needs}
-use Rattle.sheet.proofs.places.parent_group.Statement.{statement}
-use Rattle.sheet.proofs.places.parent_group.Tie as tie
+use Rattle.standing.proofs.places.parent_group.Statement.{statement}
+use Rattle.standing.proofs.places.parent_group.Tie as tie
 
 returns : tie.Need-returns
 unfolding parentGroup

@@ -9,10 +9,10 @@ use lib.Dec.{eqb, ltb, leb}
 use Rattle.unicode.proofs.Decoding.{allBelow, each, and-left, and-right}
 use Rattle.strings.specs.Bytes.{between}
 use Rattle.strings.specs.Lists.{if_then_else_}
 use Rattle.sheet.specs.Kinds.{isBlock, isInline, isKind, item, row, cell, htmlTag, attribute}
-use Rattle.sheet.specs.Places.{holdsBlocks, holdsItems, holdsRows, holdsCells, holdsInlines, holdsLabel, holdsLabelAndBlocks, holdsTagsAndBlocks, holdsTagsAndInlines, holdsNothing, parentGroup, otherGroup, childGroup, places, placeOf, opened, joined, misplaced}
-use Rattle.sheet.specs.declared.places.Open.{Open}
-use Rattle.sheet.proofs.PlaceLaws.{or-left, or-right}
+use Rattle.standing.specs.Places.{holdsBlocks, holdsItems, holdsRows, holdsCells, holdsInlines, holdsLabel, holdsLabelAndBlocks, holdsTagsAndBlocks, holdsTagsAndInlines, holdsNothing, parentGroup, otherGroup, childGroup, places, placeOf, opened, joined, misplaced}
+use Rattle.standing.specs.declared.places.Open.{Open}
+use Rattle.standing.proofs.PlaceLaws.{or-left, or-right}
 
 -- ---- a record that is not misplaced has a place, at or after that of the child before it
 module _ (o : Open) (k : ℕ) (h : misplaced o k ≡ false) where

@@ -1,8 +1,8 @@
--- `sheet::places::place_of` meets its contract.
-use Rattle.sheet.specs.Places.{placeOf}
+-- `standing::places::place_of` meets its contract.
+use Rattle.standing.specs.Places.{placeOf}
 use borrow.Author.Needs.{needs}
-use Rattle.sheet.proofs.places.place_of.Statement.{statement}
-use Rattle.sheet.proofs.places.place_of.Tie as tie
+use Rattle.standing.proofs.places.place_of.Statement.{statement}
+use Rattle.standing.proofs.places.place_of.Tie as tie
 
 returns : tie.Need-returns
 unfolding placeOf

@@ -24,9 +24,9 @@ ghost use Rattle.sheet.specs.Kinds.{
   imageReference,
   inlineFootnote,
 };
-ghost use Rattle.sheet.specs.Places.{otherGroup, parentGroup, childGroup, places, placeOf, opened, joined, misplaced};
-use crate::kinds;
-use crate::kinds::pick;
+ghost use Rattle.standing.specs.Places.{otherGroup, parentGroup, childGroup, places, placeOf, opened, joined, misplaced};
+use sheet::kinds;
+use sheet::kinds::pick;
 
 const HOLDS_BLOCKS: u32 = 0;
 

@@ -1,9 +1,9 @@
--- `sheet::places::place_at` meets its contract.
-use Rattle.sheet.proofs.PlaceLaws.{place-laws}
-use Rattle.sheet.specs.Places.{places}
+-- `standing::places::place_at` meets its contract.
+use Rattle.standing.proofs.PlaceLaws.{place-laws}
+use Rattle.standing.specs.Places.{places}
 use mathlib.Core.Path.{refl}
-use Rattle.sheet.proofs.places.place_at.Statement.{statement}
-use Rattle.sheet.proofs.places.place_at.Tie as tie
+use Rattle.standing.proofs.places.place_at.Statement.{statement}
+use Rattle.standing.proofs.places.place_at.Tie as tie
 
 returns-3 : tie.Need-returns-3
 unfolding places

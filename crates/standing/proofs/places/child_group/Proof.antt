@@ -1,8 +1,8 @@
--- `sheet::places::child_group` meets its contract.
-use Rattle.sheet.specs.Places.{childGroup}
+-- `standing::places::child_group` meets its contract.
+use Rattle.standing.specs.Places.{childGroup}
 use borrow.Author.Needs.{needs}
-use Rattle.sheet.proofs.places.child_group.Statement.{statement}
-use Rattle.sheet.proofs.places.child_group.Tie as tie
+use Rattle.standing.proofs.places.child_group.Statement.{statement}
+use Rattle.standing.proofs.places.child_group.Tie as tie
 
 returns : tie.Need-returns
 unfolding childGroup

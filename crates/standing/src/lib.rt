@@ -1,0 +1,2 @@
+// Where records may stand: under which parents, and in which order.
+pub mod places;
