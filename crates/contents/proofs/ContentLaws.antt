@@ -11,7 +11,8 @@ use Rattle.strings.specs.Lists.{if_then_else_}
 use Rattle.sheet.specs.Kinds.{isInline, lineBreak}
 use Rattle.sheet.specs.Sheet.{recordAt}
 use Rattle.sheet.specs.Forest.{Forest, none, tree, under, size}
-use Rattle.report.specs.Report.{listIf}
+use Rattle.report.specs.Report.{Lists, listIf}
+use Rattle.report.specs.declared.entries.Tally.{Tally}
 use Rattle.sheet.specs.declared.records.Rec.{Rec}
 use Rattle.sheet.proofs.Trees.{under-in, under-out, under-end}
 use Rattle.contents.specs.Content.{noContent, withInline, contentAfter, contentOf}
@@ -146,3 +147,9 @@ module _ (bytes : List ℕ) (outer a : ℕ) where
     pub says-last : (path : List ℕ) → listIf (c .breaks) Rules.finalHardBreak (c .last) path ≡ finalBreak path f
     unfolding contentOf finalBreak listIf
     says-last path = rw is (after-last path noContent f)
+
+-- ---- rule 30, by what was gathered
+pub break-law : (bytes path : List ℕ) (outer a : ℕ) (f : Forest) {s t : Tally} {x y : List ℕ} {c : Content} → c ≡ contentOf bytes outer a f → Lists s t x y (listIf (c .breaks) Rules.finalHardBreak (c .last) path) → Lists s t x y (finalBreak path f)
+break-law bytes path outer a f is l = rw (says-last bytes outer a f is path) at l
+
+pub ruleset breaking = (break-law, needs)

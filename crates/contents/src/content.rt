@@ -4,8 +4,14 @@ ghost use Prim.Native.Nat.{_*_, _≤_};
 ghost use lib.ListN.{length};
 ghost use Rattle.sheet.specs.Sheet.{recordWords};
 ghost use Rattle.sheet.specs.Forest.{under};
+ghost use Rattle.report.specs.Report.{Lists};
+ghost use Rattle.walks.specs.Walk.{Start};
+ghost use Rattle.contents.specs.Beside.{finalBreak};
 ghost use Rattle.contents.specs.Content.{noContent, withInline, contentOf};
+use checks::rules;
 use facts::values;
+use report::entries::Tally;
+use report::entries::list_if;
 use sheet::kinds;
 use sheet::records;
 use sheet::records::Rec;
@@ -90,4 +96,29 @@ pub fn gather(
         i = skip(sheet, n, i + 1, r.level);
     }
     c
+}
+
+// Rule 30: a hard break is not the last inline. A container that a `]` closes is not asked.
+pub fn final_break(
+    sheet: &[u32],
+    bytes: &[u8],
+    report: &mut [u32],
+    path: &[u32],
+    n: usize,
+    from: usize,
+    level: u32,
+    tally: Tally,
+) -> Tally
+    requires { ⌜ Start (now sheet) (now path) n from ⌝ }
+    ensures { λ q. ⌜ Lists tally q (now (report .entry)) (now (report .exit)) (finalBreak (now (path .entry)) (under (now (sheet .entry)) n from level)) ⌝ }
+{
+    let c = gather(sheet, bytes, n, from, level, 0, 0);
+    list_if(
+        c.breaks,
+        report,
+        rules::FINAL_HARD_BREAK,
+        c.last,
+        path,
+        tally,
+    )
 }

@@ -1,3 +1,2 @@
-pub mod InlineLaws
 pub mod NodeLaws
 pub mod InlineExamples

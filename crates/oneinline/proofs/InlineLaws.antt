@@ -1,4 +1,4 @@
--- What one inline lists of itself, by what the calls of `nodes` answered: one law for each way through.
+-- What one inline lists of itself, by what its calls answered: one law for each way through.
 use mathlib.Core.Path.{_≡_}
 use mathlib.Core.Bool.{Bool, false, not, _&&_, _||_}
 use mathlib.Core.List.{List}
@@ -16,7 +16,8 @@ use Rattle.report.proofs.ReportLaws.{lists-none, lists-then}
 use Rattle.contents.specs.Content.{contentOf}
 use Rattle.checks.specs.Single.{validateDestination, validateIdentifier, validateText, validateEscape, validateCodeInline, validateMathInline, validateDirectiveName}
 use Rattle.walks.specs.Every.{validateDirectiveAttributes, validateLinkText}
-use Rattle.inlines.specs.Inlines.{noInline, finalBreak, validateTextDirective, validateEmphasisContainer, validateInlineValues, validateInline}
+use Rattle.contents.specs.Beside.{noInline}
+use Rattle.oneinline.specs.Inline.{validateTextDirective, validateEmphasisContainer, validateInlineValues, validateInline}
 use Rattle.checks.specs.Rules
 use Rattle.facts.specs.Values.{isEmphasisContainer}
 use Rattle.walks.specs.Walk.{Done}
@@ -26,9 +27,6 @@ use Rattle.contents.proofs.ContentLaws.{says-none, says-empty, says-starts, say
 
 -- ---- by what was gathered of the children
 module _ (bytes path : List ℕ) (outer a : ℕ) (f : Forest) {s t : Tally} {x y : List ℕ} {c : Content} (is : c ≡ contentOf bytes outer a f) where
-  pub break-law : Lists s t x y (listIf (c .breaks) Rules.finalHardBreak (c .last) path) → Lists s t x y (finalBreak path f)
-  break-law l = rw (says-last bytes outer a f is path) at l
-
   pub footnote-law : (span : Span) → Lists s t x y (listIf (not (c .some)) Rules.emptyInlineFootnote span path) → Lists s t x y (listIf (noInline f) Rules.emptyInlineFootnote span path)
   footnote-law span l = rw (says-none bytes outer a f is) at l
 
@@ -46,7 +44,7 @@ module _ {w : List ℕ} {n from level : ℕ} {s t : Tally} {x y z : List ℕ} {r
   unfolding validateTextDirective
   directive-law bytes path span name l d = lists-then l (d .lists)
 
-pub ruleset parts = (break-law, footnote-law, emphasis-law, then-walked, directive-law, needs)
+pub ruleset parts = (footnote-law, emphasis-law, then-walked, directive-law, needs)
 
 -- ---- the kinds that no arm names, in the shape that a `match` gives for its `_`
 pub of-no-values : (bytes path : List ℕ) (r : Rec) {s : Tally} {x : List ℕ} → ((((((((Unit {0} × (r .kind ≡ text → ⊥)) × (r .kind ≡ image → ⊥)) × (r .kind ≡ imageReference → ⊥)) × (r .kind ≡ escape → ⊥)) × (r .kind ≡ footnoteReference → ⊥)) × (r .kind ≡ wikiLink → ⊥)) × (r .kind ≡ code → ⊥)) × (r .kind ≡ math → ⊥)) → Lists s s x x (validateInlineValues bytes path r)

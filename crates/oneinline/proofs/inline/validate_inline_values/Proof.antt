@@ -1,9 +1,9 @@
--- `inlines::nodes::validate_inline_values` meets its contract.
-use Rattle.inlines.specs.Inlines.{validateInlineValues}
-use Rattle.inlines.proofs.InlineLaws.{of-no-values}
+-- `oneinline::inline::validate_inline_values` meets its contract.
+use Rattle.oneinline.specs.Inline.{validateInlineValues}
+use Rattle.oneinline.proofs.InlineLaws.{of-no-values}
 use borrow.Author.Needs.{needs}
-use Rattle.inlines.proofs.nodes.validate_inline_values.Statement.{statement}
-use Rattle.inlines.proofs.nodes.validate_inline_values.Tie as tie
+use Rattle.oneinline.proofs.inline.validate_inline_values.Statement.{statement}
+use Rattle.oneinline.proofs.inline.validate_inline_values.Tie as tie
 
 returns : tie.Need-returns
 unfolding validateInlineValues

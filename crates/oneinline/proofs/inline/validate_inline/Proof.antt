@@ -1,9 +1,9 @@
--- `inlines::nodes::validate_inline` meets its contract.
-use Rattle.inlines.specs.Inlines.{validateInline}
-use Rattle.inlines.proofs.InlineLaws.{of-others}
+-- `oneinline::inline::validate_inline` meets its contract.
+use Rattle.oneinline.specs.Inline.{validateInline}
+use Rattle.oneinline.proofs.InlineLaws.{of-others}
 use borrow.Author.Needs.{needs}
-use Rattle.inlines.proofs.nodes.validate_inline.Statement.{statement}
-use Rattle.inlines.proofs.nodes.validate_inline.Tie as tie
+use Rattle.oneinline.proofs.inline.validate_inline.Statement.{statement}
+use Rattle.oneinline.proofs.inline.validate_inline.Tie as tie
 
 returns : tie.Need-returns
 unfolding validateInline

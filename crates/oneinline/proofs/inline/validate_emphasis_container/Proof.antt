@@ -1,8 +1,8 @@
--- `inlines::nodes::validate_emphasis_container` meets its contract.
+-- `oneinline::inline::validate_emphasis_container` meets its contract.
 use borrow.Author.Needs.{needs}
-use Rattle.inlines.proofs.InlineLaws.{emphasis-law}
-use Rattle.inlines.proofs.nodes.validate_emphasis_container.Statement.{statement}
-use Rattle.inlines.proofs.nodes.validate_emphasis_container.Tie as tie
+use Rattle.oneinline.proofs.InlineLaws.{emphasis-law}
+use Rattle.oneinline.proofs.inline.validate_emphasis_container.Statement.{statement}
+use Rattle.oneinline.proofs.inline.validate_emphasis_container.Tie as tie
 
 list-if-requires-3 : tie.Need-list-if-requires-3
 list-if-requires-3 c κs = let p = c .before .before .before .before .before .before .before .before .before .before .before .before .before .before .before .before .pre .short in search needs

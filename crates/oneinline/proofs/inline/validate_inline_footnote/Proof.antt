@@ -1,0 +1,13 @@
+-- `oneinline::inline::validate_inline_footnote` meets its contract.
+use Rattle.oneinline.proofs.InlineLaws.{parts}
+use Rattle.oneinline.proofs.inline.validate_inline_footnote.Statement.{statement}
+use Rattle.oneinline.proofs.inline.validate_inline_footnote.Tie as tie
+
+pub validate-inline-footnote-spec : {M : Type 1} → statement M
+validate-inline-footnote-spec =
+    tie.close
+    (tie.spec
+    (λ c κs. search parts)
+    (λ c κs. search parts)
+    (λ c. search parts)
+    (λ c. search parts))

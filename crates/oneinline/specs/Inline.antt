@@ -1,0 +1,67 @@
+-- What validate.rs reports of one inline by itself: for each of its functions a definition of the same name, which gives the list of its entries in its order. What it calls is in `Single` of `checks`, `Every` of `walks` and `Beside` of `contents`.
+-- `kids` are the trees under the inline, and `path` is that of the enclosing block or cell.
+use Prim.Native.Nat.{ℕ}
+use mathlib.Core.Bool.{not, _&&_, _||_}
+use mathlib.Core.List.{List, []}
+use lib.Dec.{eqb}
+use Rattle.strings.specs.Lists.{if_then_else_}
+use Rattle.sheet.specs.Kinds.{text, escape, code, link, image, linkReference, imageReference, math, footnoteReference, inlineFootnote, wikiLink, textDirective}
+use Rattle.sheet.specs.Forest.{Forest}
+use Rattle.report.specs.Report.{Entry, listIf, _⊕_}
+use Rattle.sheet.specs.declared.records.Rec.{Rec}
+use Rattle.sheet.specs.declared.records.Span.{Span}
+use Rattle.sheet.specs.declared.records.Text.{Text}
+use Rattle.checks.specs.Rules
+use Rattle.facts.specs.Values.{isEmphasisContainer}
+use Rattle.checks.specs.Single.{validateDestination, validateIdentifier, validateText, validateEscape, validateCodeInline, validateMathInline, validateDirectiveName}
+use Rattle.walks.specs.Every.{validateDirectiveAttributes, validateLinkText}
+use Rattle.contents.specs.Beside.{noInline, allEmpty, startsWithWhitespace, endsWithWhitespace, holdsJoined, finalBreak}
+
+-- `validate_text_directive`, up to the walk of its label: 54, then 55
+unfoldable pub validateTextDirective : List ℕ → List ℕ → Span → Text → Forest → List Entry
+validateTextDirective bytes path span name kids = validateDirectiveName bytes path span name ⊕ validateDirectiveAttributes bytes path kids
+
+-- `validate_emphasis_container`, up to the walk of its children: 39, else 40; then 41; and 30
+unfoldable pub validateEmphasisContainer : List ℕ → List ℕ → Span → ℕ → ℕ → Forest → List Entry
+validateEmphasisContainer bytes path span kind a kids =
+    listIf (allEmpty kids) Rules.emptyEmphasis span path
+    ⊕ listIf (not (allEmpty kids) && (startsWithWhitespace bytes kids || endsWithWhitespace bytes kids)) Rules.whiteEmphasis span path
+    ⊕ listIf (holdsJoined kind a kids) Rules.joinedEmphasis span path
+    ⊕ finalBreak path kids
+
+-- The match of `validate_inline_nodes` on one inline, for the kinds that are asked for their own values alone.
+-- Shortcodes, tags, autolinks and character references have only messages that are dropped; raw HTML and breaks have none.
+unfoldable pub validateInlineValues : List ℕ → List ℕ → Rec → List Entry
+validateInlineValues bytes path r =
+    if eqb (r .kind) text
+    then validateText bytes path (r .span) (r .first)
+    else if eqb (r .kind) image
+    then validateDestination path (r .span) (r .a) (r .first)
+    else if eqb (r .kind) imageReference
+    then validateIdentifier path Rules.emptyImageReference (r .span) (r .first)
+    else if eqb (r .kind) escape
+    then validateEscape path (r .span) (r .a)
+    else if eqb (r .kind) footnoteReference
+    then validateIdentifier path Rules.emptyFootnoteReference (r .span) (r .first)
+    else if eqb (r .kind) wikiLink
+    then validateIdentifier path Rules.emptyWikiLink (r .span) (r .first)
+    else if eqb (r .kind) code
+    then validateCodeInline bytes path (r .span) (r .first)
+    else if eqb (r .kind) math
+    then validateMathInline bytes path (r .span) (r .a) (r .b) (r .first)
+    else []
+
+-- The whole of that match, up to the walk of the inline's children: the kinds that are asked for what they hold, and those above.
+unfoldable pub validateInline : List ℕ → List ℕ → Rec → Forest → List Entry
+validateInline bytes path r kids =
+    if isEmphasisContainer (r .kind)
+    then validateEmphasisContainer bytes path (r .span) (r .kind) (r .a) kids
+    else if eqb (r .kind) link
+    then validateDestination path (r .span) (r .a) (r .first) ⊕ validateLinkText path kids
+    else if eqb (r .kind) linkReference
+    then validateIdentifier path Rules.emptyLinkReference (r .span) (r .first) ⊕ validateLinkText path kids
+    else if eqb (r .kind) textDirective
+    then validateTextDirective bytes path (r .span) (r .first) kids
+    else if eqb (r .kind) inlineFootnote
+    then listIf (noInline kids) Rules.emptyInlineFootnote (r .span) path
+    else validateInlineValues bytes path r

@@ -1,0 +1,199 @@
+// What one inline reports of itself, by its kind.
+ghost use Prim.Native.Nat.{_≤_};
+ghost use lib.ListN.{length};
+ghost use Rattle.sheet.specs.Forest.{under};
+ghost use Rattle.report.specs.Report.{Lists, listIf, _⊕_};
+ghost use Rattle.checks.specs.Single.{validateDestination, validateIdentifier};
+ghost use Rattle.walks.specs.Every.{validateLinkText};
+ghost use Rattle.contents.specs.Beside.{noInline};
+ghost use Rattle.oneinline.specs.Inline.{validateTextDirective, validateEmphasisContainer, validateInlineValues, validateInline};
+ghost use Rattle.checks.specs.Rules;
+ghost use Rattle.walks.specs.Walk.{Start};
+use checks::rules;
+use checks::single;
+use contents::content::gather;
+use facts::values;
+use report::entries::Tally;
+use report::entries::list_if;
+use sheet::kinds;
+use sheet::records::Rec;
+use walks::every;
+
+// Rules 39 or 40, 41 and 30 of the container `r` whose children start at record `from`.
+fn validate_emphasis_container(
+    sheet: &[u32],
+    bytes: &[u8],
+    report: &mut [u32],
+    path: &[u32],
+    n: usize,
+    from: usize,
+    r: Rec,
+    tally: Tally,
+) -> Tally
+    requires { ⌜ Start (now sheet) (now path) n from ⌝ }
+    ensures { λ q. ⌜ Lists tally q (now (report .entry)) (now (report .exit)) (validateEmphasisContainer (now (bytes .entry)) (now (path .entry)) (r .span) (r .kind) (r .a) (under (now (sheet .entry)) n from (r .level))) ⌝ }
+{
+    let c = gather(sheet, bytes, n, from, r.level, r.kind, r.a);
+    let out = list_if(c.empty, report, rules::EMPTY_EMPHASIS, r.span, path, tally);
+    let white = !c.empty & (c.starts | c.ends);
+    let out = list_if(white, report, rules::WHITE_EMPHASIS, r.span, path, out);
+    let out = list_if(c.joined, report, rules::JOINED_EMPHASIS, r.span, path, out);
+    list_if(c.breaks, report, rules::FINAL_HARD_BREAK, c.last, path, out)
+}
+
+// Rule 25, then 42 in all that the link holds.
+fn validate_link(
+    sheet: &[u32],
+    report: &mut [u32],
+    path: &[u32],
+    n: usize,
+    from: usize,
+    r: Rec,
+    tally: Tally,
+) -> Tally
+    requires { ⌜ Start (now sheet) (now path) n from ⌝ }
+    ensures { λ q. ⌜ Lists tally q (now (report .entry)) (now (report .exit)) (validateDestination (now (path .entry)) (r .span) (r .a) (r .first) ⊕ validateLinkText (now (path .entry)) (under (now (sheet .entry)) n from (r .level))) ⌝ }
+{
+    let out = single::validate_destination(report, path, r.span, r.a, r.first, tally);
+    let walked = every::validate_link_text(sheet, report, path, n, from, r.level, out);
+    walked.tally
+}
+
+// Rule 32, then 42 in all that the link holds.
+fn validate_link_reference(
+    sheet: &[u32],
+    report: &mut [u32],
+    path: &[u32],
+    n: usize,
+    from: usize,
+    r: Rec,
+    tally: Tally,
+) -> Tally
+    requires { ⌜ Start (now sheet) (now path) n from ⌝ }
+    ensures { λ q. ⌜ Lists tally q (now (report .entry)) (now (report .exit)) (validateIdentifier (now (path .entry)) Rules.emptyLinkReference (r .span) (r .first) ⊕ validateLinkText (now (path .entry)) (under (now (sheet .entry)) n from (r .level))) ⌝ }
+{
+    let rule = rules::EMPTY_LINK_REFERENCE;
+    let out = single::validate_identifier(report, path, rule, r.span, r.first, tally);
+    let walked = every::validate_link_text(sheet, report, path, n, from, r.level, out);
+    walked.tally
+}
+
+// Rule 54, then 55 for each attribute.
+fn validate_text_directive(
+    sheet: &[u32],
+    bytes: &[u8],
+    report: &mut [u32],
+    path: &[u32],
+    n: usize,
+    from: usize,
+    r: Rec,
+    tally: Tally,
+) -> Tally
+    requires { ⌜ Start (now sheet) (now path) n from ⌝ }
+    ensures { λ q. ⌜ Lists tally q (now (report .entry)) (now (report .exit)) (validateTextDirective (now (bytes .entry)) (now (path .entry)) (r .span) (r .first) (under (now (sheet .entry)) n from (r .level))) ⌝ }
+{
+    let out = single::validate_directive_name(bytes, report, path, r.span, r.first, tally);
+    let walked = every::validate_directive_attributes(
+        sheet,
+        bytes,
+        report,
+        path,
+        n,
+        from,
+        r.level,
+        out,
+    );
+    walked.tally
+}
+
+// Rule 35: an inline footnote holds an inline.
+fn validate_inline_footnote(
+    sheet: &[u32],
+    bytes: &[u8],
+    report: &mut [u32],
+    path: &[u32],
+    n: usize,
+    from: usize,
+    r: Rec,
+    tally: Tally,
+) -> Tally
+    requires { ⌜ Start (now sheet) (now path) n from ⌝ }
+    ensures { λ q. ⌜ Lists tally q (now (report .entry)) (now (report .exit)) (listIf (noInline (under (now (sheet .entry)) n from (r .level))) Rules.emptyInlineFootnote (r .span) (now (path .entry))) ⌝ }
+{
+    let c = gather(sheet, bytes, n, from, r.level, r.kind, r.a);
+    list_if(
+        !c.some,
+        report,
+        rules::EMPTY_INLINE_FOOTNOTE,
+        r.span,
+        path,
+        tally,
+    )
+}
+
+// What an inline reports that is asked for its own values alone.
+fn validate_inline_values(
+    bytes: &[u8],
+    report: &mut [u32],
+    path: &[u32],
+    r: Rec,
+    tally: Tally,
+) -> Tally
+    requires { ⌜ length (now path) ≤ 64 ⌝ }
+    ensures { λ q. ⌜ Lists tally q (now (report .entry)) (now (report .exit)) (validateInlineValues (now (bytes .entry)) (now (path .entry)) r) ⌝ }
+{
+    let kind = r.kind;
+    match kind {
+        kinds::TEXT => single::validate_text(bytes, report, path, r.span, r.first, tally),
+        kinds::IMAGE => single::validate_destination(report, path, r.span, r.a, r.first, tally),
+        kinds::IMAGE_REFERENCE => {
+            let rule = rules::EMPTY_IMAGE_REFERENCE;
+            single::validate_identifier(report, path, rule, r.span, r.first, tally)
+        }
+        kinds::ESCAPE => single::validate_escape(report, path, r.span, r.a, tally),
+        kinds::FOOTNOTE_REFERENCE => {
+            let rule = rules::EMPTY_FOOTNOTE_REFERENCE;
+            single::validate_identifier(report, path, rule, r.span, r.first, tally)
+        }
+        kinds::WIKI_LINK => {
+            let rule = rules::EMPTY_WIKI_LINK;
+            single::validate_identifier(report, path, rule, r.span, r.first, tally)
+        }
+        kinds::CODE => single::validate_code_inline(bytes, report, path, r.span, r.first, tally),
+        kinds::MATH => {
+            single::validate_math_inline(bytes, report, path, r.span, r.a, r.b, r.first, tally)
+        }
+        _ => tally,
+    }
+}
+
+// What one inline reports of itself, before its children, which start at record `from`.
+pub fn validate_inline(
+    sheet: &[u32],
+    bytes: &[u8],
+    report: &mut [u32],
+    path: &[u32],
+    n: usize,
+    from: usize,
+    r: Rec,
+    tally: Tally,
+) -> Tally
+    requires { ⌜ Start (now sheet) (now path) n from ⌝ }
+    ensures { λ q. ⌜ Lists tally q (now (report .entry)) (now (report .exit)) (validateInline (now (bytes .entry)) (now (path .entry)) r (under (now (sheet .entry)) n from (r .level))) ⌝ }
+{
+    let kind = r.kind;
+    if values::is_emphasis_container(kind) {
+        return validate_emphasis_container(sheet, bytes, report, path, n, from, r, tally);
+    }
+    match kind {
+        kinds::LINK => validate_link(sheet, report, path, n, from, r, tally),
+        kinds::LINK_REFERENCE => validate_link_reference(sheet, report, path, n, from, r, tally),
+        kinds::TEXT_DIRECTIVE => {
+            validate_text_directive(sheet, bytes, report, path, n, from, r, tally)
+        }
+        kinds::INLINE_FOOTNOTE => {
+            validate_inline_footnote(sheet, bytes, report, path, n, from, r, tally)
+        }
+        _ => validate_inline_values(bytes, report, path, r, tally),
+    }
+}

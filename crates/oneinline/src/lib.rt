@@ -1,0 +1,2 @@
+// What one inline reports of itself.
+pub mod inline;
