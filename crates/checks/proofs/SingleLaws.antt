@@ -11,7 +11,7 @@ use Rattle.leaves.specs.Names.{isDirectiveName}
 use Rattle.strings.specs.Punctuation.{isAsciiPunctuation}
 use Rattle.form.specs.Fields.{textOf}
 use Rattle.sheet.specs.Kinds.{delete}
-use Rattle.report.specs.Report.{Entry, Lists, listIf}
+use Rattle.report.specs.Report.{Lists, listIf}
 use Rattle.sheet.specs.declared.records.Span.{Span}
 use Rattle.sheet.specs.declared.records.Text.{Text}
 use Rattle.report.specs.declared.entries.Tally.{Tally}

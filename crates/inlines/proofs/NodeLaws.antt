@@ -1,10 +1,9 @@
 -- The walk from inline to inline: one law for each way through its functions.
-use mathlib.Core.Path.{_≡_, refl, sym}
+use mathlib.Core.Path.{_≡_, refl}
 use mathlib.Core.Bool.{Bool, true, false, not}
 use mathlib.Core.List.{List, []}
 use Prim.Native.Nat.{ℕ, _+_, _-_, _*_, _<_, _≤_}
 use native.Mathlib.Omega.{arith}
-use borrow.Author.Needs.{needs}
 use borrow.Author.Tests.{not-true, not-false}
 use lib.ListN.{length}
 use Rattle.strings.specs.Lists.{if_then_else_}
@@ -18,10 +17,10 @@ use Rattle.sheet.proofs.Trees.{under-in}
 use Rattle.report.proofs.ReportLaws.{lists-none, lists-then}
 use Rattle.checks.specs.Single.{validateSiblings}
 use Rattle.inlines.specs.Inlines.{finalBreak, validateInline, validateNode, validateInlineNodesAfter, validateInlineNodes, validateInlines}
-use Rattle.walks.specs.Walk.{Start, Done}
+use Rattle.walks.specs.Walk.{Done}
 use Rattle.inlines.specs.Here.{Here}
 use Rattle.walks.specs.declared.every.Walked.{Walked}
-use Rattle.walks.proofs.WalkLaws.{Loop, behindKids, skip-tree, loop-start, loop-turn, loop-out, loop-end}
+use Rattle.walks.proofs.WalkLaws.{Loop, behindKids, skip-tree, loop-turn}
 
 -- ---- one record: what its children list, by a call
 abbrev pub underOf : List ℕ → List ℕ → List ℕ → ℕ → ℕ → ℕ → List Entry

@@ -1,11 +1,11 @@
 -- A directive's name is read as its runs are: `nameFrom`. An attribute's name, and its first byte.
-use mathlib.Core.Path.{_≡_, refl, sym, ap, _∙_}
+use mathlib.Core.Path.{_≡_, refl, sym}
 use mathlib.Core.Bool.{Bool, true, false, not, _&&_, and-assoc, and-true}
 use mathlib.Core.List.{List, [], _∷_}
-use Prim.Native.Nat.{ℕ, zero, suc, _<_}
+use Prim.Native.Nat.{ℕ}
 use native.Mathlib.Omega.{arith}
 use lib.Dec.{eqb}
-use lib.ListN.{length, drop, getD}
+use lib.ListN.{length, getD}
 use Rattle.strings.specs.Bytes.{hyphen}
 use Rattle.strings.specs.Lists.{if_then_else_, all}
 use Rattle.multiline.specs.Lines.{longer}

@@ -1,6 +1,6 @@
 -- Fence lines as the code reads them: how many bytes of a fence are to come in the line.
 use mathlib.Core.Path.{_≡_, refl, sym, ap, _∙_}
-use mathlib.Core.Bool.{Bool, true, false, not, _&&_, _||_, and-false, or-false, true≢false, false≢true}
+use mathlib.Core.Bool.{Bool, true, false, not, _&&_, _||_, and-false, or-false, false≢true}
 use mathlib.Core.List.{List, [], _∷_}
 use Prim.Native.Nat.{ℕ, suc, _-_}
 use native.Mathlib.Omega.{arith}
@@ -16,7 +16,6 @@ use Rattle.multiline.specs.Scans.{fenceLeft, fenceFrom}
 use Rattle.multiline.specs.Trim.{trimCons, trimEnd}
 use Rattle.multiline.specs.declared.fence.FrontmatterKind.{FrontmatterKind}
 use Rattle.multiline.specs.declared.fence.FrontmatterKind.the-variants.{Yaml, Toml}
-use Rattle.multiline.proofs.LineLaws.{lines-skip, lines-end, lines-hold}
 use Rattle.strings.proofs.Scan.{scan}
 
 -- ---- one line

@@ -5,7 +5,7 @@ use mathlib.Core.List.{List}
 use Prim.Native.Nat.{ℕ}
 use borrow.Author.Needs.{needs}
 use borrow.Author.Tests.{ne-eqb}
-use Rattle.sheet.specs.Kinds.{text, escape, emphasis, strong, delete, mark, code, link, image, linkReference, imageReference, math, footnoteReference, inlineFootnote, wikiLink, textDirective}
+use Rattle.sheet.specs.Kinds.{text, escape, code, link, image, linkReference, imageReference, math, footnoteReference, inlineFootnote, wikiLink, textDirective}
 use Rattle.sheet.specs.Forest.{Forest, under}
 use Rattle.report.specs.Report.{Entry, Lists, listIf, _⊕_}
 use Rattle.sheet.specs.declared.records.Rec.{Rec}
@@ -14,8 +14,8 @@ use Rattle.sheet.specs.declared.records.Text.{Text}
 use Rattle.report.specs.declared.entries.Tally.{Tally}
 use Rattle.report.proofs.ReportLaws.{lists-none, lists-then}
 use Rattle.contents.specs.Content.{contentOf}
-use Rattle.checks.specs.Single.{validateDestination, validateIdentifier, validateText, validateEscape, validateCodeInline, validateMathInline, validateDirectiveName}
-use Rattle.walks.specs.Every.{validateDirectiveAttributes, validateLinkText}
+use Rattle.checks.specs.Single.{validateDirectiveName}
+use Rattle.walks.specs.Every.{validateDirectiveAttributes}
 use Rattle.contents.specs.Beside.{noInline}
 use Rattle.oneinline.specs.Inline.{validateTextDirective, validateEmphasisContainer, validateInlineValues, validateInline}
 use Rattle.checks.specs.Rules

@@ -1,21 +1,19 @@
 -- A sheet that is accepted, and what that says of each of its records.
-use mathlib.Core.Path.{_≡_, refl, sym, ap, _∙_}
-use mathlib.Core.Bool.{Bool, true, false, not, _&&_, _||_, true≢false, false≢true}
-use mathlib.Core.List.{List, [], _∷_}
-use Prim.Native.Nat.{ℕ, zero, suc, _+_, _-_, _*_, _/_, _%_, _<_, _≤_}
+use mathlib.Core.Path.{_≡_, refl, sym, _∙_}
+use mathlib.Core.Bool.{Bool, true, false, false≢true}
+use mathlib.Core.List.{List}
+use Prim.Native.Nat.{ℕ, zero, suc, _+_, _/_, _%_, _<_, _≤_}
 use native.Mathlib.Nat.{add-zero, zero-add}
 use native.Mathlib.Omega.{arith}
 use borrow.Author.Needs.{needs}
-use borrow.Author.Tests.{not-true, not-false, lt-ltb, le-ltb, ltb-true, ltb-false, eq-eqb, ne-eqb, eqb-true, eqb-false}
-use lib.Dec.{eqb, ltb, leb}
+use borrow.Author.Tests.{not-true, not-false, lt-ltb, le-ltb, eq-eqb, ne-eqb}
 use lib.ListN.{length}
-use Rattle.strings.specs.Lists.{if_then_else_}
-use Rattle.sheet.specs.Sheet.{recordAt, recordWords, recordsOf}
+use Rattle.sheet.specs.Sheet.{recordAt}
 use Rattle.standing.specs.Places.{openAt}
-use Rattle.refusal.specs.Refusal.{mostRecords, mostBytes, isAccepted, orElse, levelBefore, judge, judgeAt, judgeFrom, tagsFrom, lacksTags, judgeSheet}
+use Rattle.refusal.specs.Refusal.{isAccepted, orElse, levelBefore, judgeAt, judgeFrom, tagsFrom, judgeSheet}
 use Rattle.refusal.specs.Judging.{Placed, Containers}
 use Rattle.refusal.specs.declared.judge.Judged.{Judged}
-use Rattle.refusal.specs.declared.judge.Judged.the-variants.{Accepted, OddSheet, LongSheet, LongText, TagsMissing}
+use Rattle.refusal.specs.declared.judge.Judged.the-variants.{OddSheet, LongSheet, LongText}
 use Rattle.refusal.proofs.OpenLaws.{or-first, or-second, Passed, passed}
 
 -- both are accepted where the first that is given is

@@ -1,16 +1,14 @@
 -- The tree of an HTML container that is formed: its two tags, and then content without a tag.
-use mathlib.Core.Path.{_≡_, refl, sym, ap, ap₂, _∙_}
-use mathlib.Core.Bool.{Bool, true, false, not, _&&_, _||_, true≢false, false≢true}
+use mathlib.Core.Path.{_≡_, refl, ap, ap₂}
+use mathlib.Core.Bool.{Bool, true, false, not, _&&_, _||_, true≢false}
 use mathlib.Core.List.{List}
-use Prim.Native.Nat.{ℕ, zero, suc, _+_, _<_, _≤_}
-use native.Mathlib.Omega.{arith}
-use borrow.Author.Tests.{eq-eqb, eqb-true, le-leb}
+use Prim.Native.Nat.{ℕ, suc, _+_}
+use borrow.Author.Tests.{eq-eqb, eqb-true}
 use lib.Dec.{eqb, ltb, leb}
-use Rattle.strings.specs.Lists.{if_then_else_}
 use Rattle.sheet.specs.Kinds.{htmlContainer, htmlTag}
 use Rattle.sheet.specs.Forest.{Forest, none, tree, countKind}
 use Rattle.standing.specs.Places.{holdsTagsAndBlocks, holdsTagsAndInlines, placeOf, parentGroup, opened, joined, misplaced}
-use Rattle.refusal.specs.Formed.{Head, Formed}
+use Rattle.refusal.specs.Formed.{Formed}
 use Rattle.sheet.specs.declared.records.Rec.{Rec}
 use Rattle.standing.specs.declared.places.Open.{Open}
 use Rattle.standing.proofs.PlaceLaws.{or-left, or-right}

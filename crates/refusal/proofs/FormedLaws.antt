@@ -1,31 +1,26 @@
 -- A sheet that is accepted holds a tree that is formed.
-use mathlib.Core.Path.{_≡_, refl, sym, ap, _∙_}
-use mathlib.Core.Bool.{Bool, true, false, not, _&&_, _||_, true≢false, false≢true}
-use mathlib.Core.List.{List, [], _∷_}
-use Prim.Native.Nat.{ℕ, zero, suc, _+_, _-_, _*_, _/_, _%_, _<_, _≤_}
-use native.Mathlib.Nat.{add-zero, zero-add, add-assoc}
+use mathlib.Core.Path.{_≡_, refl, ap, _∙_}
+use mathlib.Core.Bool.{Bool, true, false, false≢true}
+use mathlib.Core.List.{List}
+use Prim.Native.Nat.{ℕ, zero, suc, _+_, _-_, _%_, _<_, _≤_}
+use native.Mathlib.Nat.{add-zero, zero-add}
 use native.Mathlib.Numerals.{add-one}
 use native.Mathlib.Omega.{arith}
-use borrow.Author.Tests.{not-true, not-false, lt-ltb, le-ltb, ltb-true, ltb-false, eq-eqb, ne-eqb, eqb-true, eqb-false}
-use lib.Dec.{eqb, ltb, leb}
+use borrow.Author.Tests.{not-false, ltb-true, ltb-false, eqb-true}
+use lib.Dec.{eqb, ltb}
 use lib.ListN.{length}
-use Rattle.strings.specs.Lists.{if_then_else_}
 use Rattle.unicode.specs.Utf8.{isUtf8}
-use Rattle.sheet.specs.Kinds.{htmlContainer, htmlTag}
 use Rattle.sheet.specs.Sheet.{recordAt, recordWords, recordsOf}
-use Rattle.sheet.specs.Forest.{Forest, none, tree, forestAt, forestOf, under, size, countKind}
-use Rattle.standing.specs.Places.{holdsBlocks, parentGroup, opened, joined, misplaced, openAt}
+use Rattle.sheet.specs.Forest.{none, tree, forestAt, forestOf, under, size}
+use Rattle.standing.specs.Places.{holdsBlocks, parentGroup, opened, joined, openAt}
 use Rattle.form.specs.Fields.{textOf, textOutside, textIllFormed}
 use Rattle.refusal.specs.Refusal.{mostRecords, mostBytes, isAccepted, orElse, levelBefore, judgeFrom, tagsFrom, lacksTags, judgeSheet}
 use Rattle.refusal.specs.Judging.{Placed}
 use Rattle.refusal.specs.Formed.{Named, Head, Formed, Sound}
-use Rattle.sheet.specs.declared.records.Rec.{Rec}
 use Rattle.sheet.specs.declared.records.Text.{Text}
-use Rattle.standing.specs.declared.places.Open.{Open}
-use Rattle.refusal.specs.declared.judge.Judged.{Judged}
-use Rattle.refusal.specs.declared.judge.Judged.the-variants.{Accepted, TagsMissing}
+use Rattle.refusal.specs.declared.judge.Judged.the-variants.{Accepted}
 use Rattle.standing.proofs.PlaceLaws.{or-left, or-right}
-use Rattle.refusal.proofs.OpenLaws.{Passed, Deep, deep, open-kid, open-same, open-past}
+use Rattle.refusal.proofs.OpenLaws.{Passed, deep, open-kid, open-same, open-past}
 use Rattle.sheet.proofs.SiblingLaws.{level-past}
 use Rattle.sheet.specs.Siblings.{gather}
 use Rattle.refusal.proofs.AcceptLaws.{both-first, both-second, every-passed}

@@ -1,19 +1,19 @@
 -- What stands before a record under its parent, kept by level; and the records judged one after another.
-use mathlib.Core.Path.{_≡_, refl, sym, ap, _∙_}
-use mathlib.Core.Bool.{Bool, true, false, not, _&&_, _||_, true≢false, false≢true}
-use mathlib.Core.List.{List, [], _∷_}
-use Prim.Native.Nat.{ℕ, zero, suc, _+_, _-_, _*_, _<_, _≤_}
+use mathlib.Core.Path.{_≡_, refl, sym, _∙_}
+use mathlib.Core.Bool.{Bool, true, false, not, _||_, false≢true}
+use mathlib.Core.List.{List}
+use Prim.Native.Nat.{ℕ, suc, _+_, _-_, _<_, _≤_}
 use native.Mathlib.Numerals.{add-one}
 use native.Mathlib.Nat.{sub-zero}
 use native.Mathlib.Omega.{arith}
 use borrow.Author.Needs.{needs}
-use borrow.Author.Tests.{not-true, not-false, lt-ltb, le-ltb, ltb-true, ltb-false, le-leb, lt-leb, leb-true, leb-false, eq-eqb, ne-eqb, eqb-true, eqb-false}
-use lib.Dec.{eqb, ltb, leb}
-use lib.ListN.{length, getD, set, replicate, length-set, length-replicate, getD-replicate}
+use borrow.Author.Tests.{not-true, not-false, ltb-false, le-leb, lt-leb, eqb-true, eqb-false}
+use lib.Dec.{eqb, ltb}
+use lib.ListN.{length, getD, set, replicate, length-set}
 use lib.Seq.{getD-set-same, getD-set-other}
 use Rattle.strings.specs.Lists.{if_then_else_}
 use Rattle.sheet.specs.Kinds.{isKind}
-use Rattle.sheet.specs.Sheet.{recordAt, recordWords}
+use Rattle.sheet.specs.Sheet.{recordAt}
 use Rattle.standing.specs.Places.{holdsBlocks, parentGroup, opened, joined, misplaced, openAt}
 use Rattle.form.specs.Fields.{badField, textOutside, textIllFormed}
 use Rattle.refusal.specs.Refusal.{numberOf, isAccepted, orElse, levelBefore, badLevel, judgeTexts, judge, judgeAt, judgeFrom}

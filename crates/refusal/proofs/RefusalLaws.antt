@@ -1,13 +1,10 @@
 -- The tests of a record, one after another.
-use mathlib.Core.Path.{_≡_, refl, sym, ap, _∙_}
-use mathlib.Core.Bool.{Bool, true, false, not, _&&_, _||_, true≢false}
-use mathlib.Core.List.{List, [], _∷_}
-use Prim.Native.Nat.{ℕ, zero, suc, _+_, _-_, _<_, _≤_}
-use native.Mathlib.Omega.{arith}
+use mathlib.Core.Path.{_≡_, _∙_}
+use mathlib.Core.Bool.{Bool, true, false, _||_}
+use mathlib.Core.List.{List}
+use Prim.Native.Nat.{ℕ}
 use borrow.Author.Needs.{needs}
 use borrow.Author.Tests.{not-true, not-false}
-use lib.Dec.{eqb, ltb, leb}
-use Rattle.strings.specs.Lists.{if_then_else_}
 use Rattle.sheet.specs.Kinds.{isKind}
 use Rattle.standing.specs.Places.{misplaced}
 use Rattle.form.specs.Fields.{badField, textOutside, textIllFormed}

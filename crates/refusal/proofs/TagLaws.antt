@@ -1,28 +1,27 @@
 -- Refusal 10: once the records are placed, a container's tags are the two records after it.
 use mathlib.Core.Path.{_≡_, refl, sym, ap, _∙_}
-use mathlib.Core.Bool.{Bool, true, false, not, _&&_, _||_, true≢false, false≢true, and-false, and-true}
-use mathlib.Core.List.{List, [], _∷_}
-use Prim.Native.Nat.{ℕ, zero, suc, _+_, _-_, _*_, _<_, _≤_}
+use mathlib.Core.Bool.{Bool, true, false, not, _&&_, _||_, true≢false, and-false, and-true}
+use mathlib.Core.List.{List}
+use Prim.Native.Nat.{ℕ, zero, suc, _+_, _-_, _<_, _≤_}
 use native.Mathlib.Numerals.{add-one}
 use native.Mathlib.Nat.{sub-zero, add-zero}
 use native.Mathlib.Omega.{arith}
 use borrow.Author.Needs.{needs}
-use borrow.Author.Tests.{not-true, not-false, lt-ltb, le-ltb, ltb-true, ltb-false, le-leb, lt-leb, leb-true, leb-false, eq-eqb, ne-eqb, eqb-true, eqb-false}
+use borrow.Author.Tests.{not-false, lt-ltb, le-ltb, ltb-true, ltb-false, eq-eqb, eqb-true}
 use lib.Dec.{eqb, ltb, leb}
-use lib.ListN.{length, getD, replicate}
+use lib.ListN.{getD, replicate}
 use Rattle.strings.specs.Lists.{if_then_else_}
 use Rattle.sheet.specs.Kinds.{htmlContainer, htmlTag}
-use Rattle.sheet.specs.Sheet.{recordAt, recordWords}
+use Rattle.sheet.specs.Sheet.{recordAt}
 use Rattle.sheet.specs.Forest.{Forest, none, tree, under, size, countKind}
 use Rattle.standing.specs.Places.{parentGroup, otherGroup, childGroup, places, placeOf, opened, joined, misplaced, openAt}
-use Rattle.refusal.specs.Refusal.{isAccepted, orElse, levelBefore, badLevel, judge, judgeAt, judgeFrom, lacksTags, tagsFrom}
+use Rattle.refusal.specs.Refusal.{levelBefore, lacksTags, tagsFrom}
 use Rattle.refusal.specs.Judging.{Placed, tagUnder}
 use Rattle.sheet.specs.declared.records.Rec.{Rec}
 use Rattle.standing.specs.declared.places.Open.{Open}
-use Rattle.refusal.specs.declared.judge.Judged.{Judged}
 use Rattle.refusal.specs.declared.judge.Judged.the-variants.{Accepted, TagsMissing}
-use Rattle.standing.proofs.PlaceLaws.{or-left, or-right}
-use Rattle.refusal.proofs.OpenLaws.{or-first, or-second, Passed, passed, Deep, deep, open-kid, open-same}
+use Rattle.standing.proofs.PlaceLaws.{or-right}
+use Rattle.refusal.proofs.OpenLaws.{Deep, deep, open-kid, open-same}
 use Rattle.sheet.proofs.Trees.{under-end, under-out, under-in}
 
 -- ---- what may stand in a container, by the table

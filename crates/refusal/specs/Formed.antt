@@ -1,6 +1,6 @@
 -- What acceptance says of the tree that a sheet holds. A reader need not believe these: they follow from `judgeSheet`, and walks and machine cite them.
 use mathlib.Core.Path.{_≡_}
-use mathlib.Core.Bool.{Bool, true, false, _&&_}
+use mathlib.Core.Bool.{true, false, _&&_}
 use mathlib.Core.List.{List}
 use Prim.Native.Nat.{ℕ, _+_, _*_, _<_, _≤_}
 use lib.Dec.{eqb, ltb}

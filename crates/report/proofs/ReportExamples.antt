@@ -1,8 +1,7 @@
 -- Reports, computed from the definitions.
 use mathlib.Core.Path.{_≡_, refl}
 use mathlib.Core.Bool.{true, false}
-use mathlib.Core.List.{List, [], _∷_, _++_}
-use Prim.Native.Nat.{ℕ}
+use mathlib.Core.List.{[], _∷_, _++_}
 use Rattle.sheet.specs.declared.records.Span.{Span}
 use Rattle.report.specs.Report.{Entry, words, flat, _⊕_, listIf, start, after, over, put, fitting, entriesIn}
 

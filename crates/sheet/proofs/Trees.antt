@@ -1,17 +1,16 @@
 -- Laws of the forest: how a walk by index moves over it.
 use mathlib.Core.Path.{_≡_, refl, ap, sym, _∙_}
 use mathlib.Core.Bool.{Bool, true, false}
-use mathlib.Core.List.{List, [], _∷_, _++_, append-assoc}
-use Prim.Native.Nat.{ℕ, zero, suc, _+_, _*_, _-_, _≤_, _<_}
+use mathlib.Core.List.{List, _∷_, _++_, append-assoc}
+use Prim.Native.Nat.{ℕ, zero, suc, _+_, _-_, _≤_, _<_}
 use native.Mathlib.Omega.{arith}
-use native.Mathlib.Nat.{zero-add, add-zero, sub-zero, sub-add-eq}
+use native.Mathlib.Nat.{add-zero, sub-zero, sub-add-eq}
 use native.Mathlib.Numerals.{add-one}
 use Rattle.sheet.specs.Sheet.{recordAt}
 use lib.Dec.{ltb}
 use borrow.Author.Tests.{ltb-true, ltb-false, lt-ltb, le-ltb}
 use Rattle.sheet.specs.Forest.{Forest, none, tree, deeper, past, grow, forestAt, under, size, recordsIn, recordsFrom}
 use Rattle.sheet.specs.declared.records.Rec.{Rec}
-use Rattle.strings.specs.Lists.{if_then_else_}
 
 module _ (l : ℕ) (r : Rec) (kids rest : Forest) where
   pub past-in : l < r .level → past l (tree r kids rest) ≡ past l rest

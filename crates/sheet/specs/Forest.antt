@@ -1,5 +1,4 @@
 -- The tree that a sheet holds: a record, the records under it, and the siblings after it. Document 01: "Parent: nearest earlier record one level up."
-use mathlib.Core.Bool.{Bool, true, false}
 use mathlib.Core.List.{List, [], _∷_, _++_}
 use Prim.Native.Nat.{ℕ, zero, suc, _+_, _-_}
 use lib.Dec.{ltb, eqb}

@@ -1,5 +1,5 @@
 -- The table of places, and what stands before a record under its parent.
-use mathlib.Core.Path.{_≡_, refl, sym, ap, _∙_}
+use mathlib.Core.Path.{_≡_, refl, sym}
 use mathlib.Core.Bool.{Bool, true, false, not, _&&_, _||_, true≢false}
 use mathlib.Core.List.{List, [], _∷_}
 use Prim.Native.Nat.{ℕ, zero, suc, _+_, _<_, _≤_}
@@ -10,9 +10,8 @@ use lib.ListN.{length, getD, List·getD-eq-default}
 use borrow.Author.Needs.{needs}
 use borrow.Author.Tests.{leb-true, leb-false, eq-eqb, ne-eqb}
 use Rattle.unicode.proofs.Decoding.{and-left, and-right}
-use Rattle.strings.specs.Lists.{if_then_else_}
 use Rattle.sheet.specs.Kinds.{htmlTag}
-use Rattle.standing.specs.Places.{holdsTagsAndBlocks, holdsTagsAndInlines, places, placeOf, opened, joined, misplaced}
+use Rattle.standing.specs.Places.{holdsTagsAndBlocks, holdsTagsAndInlines, places, placeOf, joined, misplaced}
 use Rattle.standing.specs.declared.places.Open.{Open}
 
 pub place-below : (group column : ℕ) → 10 ≤ group → 0 ≡ getD (getD places group []) column 0

@@ -1,16 +1,13 @@
 -- What may stand where, for a record that is not misplaced: laws that walks and machine cite.
-use mathlib.Core.Path.{_≡_, refl, sym, ap, _∙_}
-use mathlib.Core.Bool.{Bool, true, false, not, _&&_, _||_, true≢false, false≢true, and-false}
-use mathlib.Core.List.{List, [], _∷_}
-use Prim.Native.Nat.{ℕ, zero, suc, _+_, _<_, _≤_}
+use mathlib.Core.Path.{_≡_, refl, sym, _∙_}
+use mathlib.Core.Bool.{Bool, true, false, not, _&&_, _||_, false≢true, and-false}
+use Prim.Native.Nat.{ℕ, _<_, _≤_}
 use native.Mathlib.Omega.{arith}
-use borrow.Author.Tests.{not-true, not-false, ltb-true, ltb-false, leb-true, leb-false, lt-leb, eq-eqb, ne-eqb, eqb-true, eqb-false}
+use borrow.Author.Tests.{ltb-false, leb-true, leb-false, lt-leb}
 use lib.Dec.{eqb, ltb, leb}
-use Rattle.unicode.proofs.Decoding.{allBelow, each, and-left, and-right}
-use Rattle.strings.specs.Bytes.{between}
-use Rattle.strings.specs.Lists.{if_then_else_}
+use Rattle.unicode.proofs.Decoding.{allBelow, each}
 use Rattle.sheet.specs.Kinds.{isBlock, isInline, isKind, item, row, cell, htmlTag, attribute}
-use Rattle.standing.specs.Places.{holdsBlocks, holdsItems, holdsRows, holdsCells, holdsInlines, holdsLabel, holdsLabelAndBlocks, holdsTagsAndBlocks, holdsTagsAndInlines, holdsNothing, parentGroup, otherGroup, childGroup, places, placeOf, opened, joined, misplaced}
+use Rattle.standing.specs.Places.{holdsBlocks, holdsItems, holdsRows, holdsCells, holdsInlines, holdsLabel, holdsLabelAndBlocks, holdsTagsAndBlocks, holdsTagsAndInlines, holdsNothing, childGroup, places, placeOf, opened, joined, misplaced}
 use Rattle.standing.specs.declared.places.Open.{Open}
 use Rattle.standing.proofs.PlaceLaws.{or-left, or-right}
 

@@ -1,13 +1,12 @@
 -- Placement (refusal 6). Document 01: "Children: blocks under the sheet, quote, alert, item and footnote definition; items under list; rows, then cells; inlines under paragraph, heading, cell and what `Inline::children` lists. Directives: attributes, then inlines, then (container only) blocks. HTML container: opening tag, closing tag, content of its sort."
-use Prim.Native.Nat.{ℕ, zero, suc, _+_}
-use mathlib.Core.Bool.{Bool, true, false, not, _&&_, _||_}
+use Prim.Native.Nat.{ℕ, _+_}
+use mathlib.Core.Bool.{Bool, not, _&&_, _||_}
 use mathlib.Core.List.{List, [], _∷_}
 use lib.Dec.{eqb, ltb, leb}
 use lib.ListN.{getD}
 use Rattle.strings.specs.Lists.{if_then_else_}
 use Rattle.sheet.specs.Kinds.{among, isBlock, paragraph, heading, blockQuote, alert, list, htmlContainer, footnoteDefinition, table, leafDirective, containerDirective, item, row, cell, htmlTag, attribute, emphasis, strong, delete, mark, link, image, linkReference, imageReference, inlineFootnote, textDirective}
 use Rattle.sheet.specs.Siblings.{gather}
-use Rattle.sheet.specs.declared.records.Rec.{Rec}
 use Rattle.standing.specs.declared.places.Open.{Open}
 
 -- ---- groups of parents: what a record may hold

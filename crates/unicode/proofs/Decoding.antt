@@ -1,20 +1,17 @@
 -- UTF-8 as the code reads it: what is owed of a sequence, and the value of its bits so far.
-use mathlib.Core.Path.{_≡_, refl, sym, ap, _∙_}
-use mathlib.Core.Bool.{Bool, true, false, not, _&&_, _||_, true≢false, false≢true, and-false}
-use mathlib.Core.List.{List, [], _∷_, _++_}
-use Prim.Native.Nat.{ℕ, zero, suc, _+_, _-_, _*_, _%_, _<_, _≤_}
+use mathlib.Core.Path.{_≡_, refl, sym, _∙_}
+use mathlib.Core.Bool.{Bool, true, false, not, _&&_, _||_, false≢true}
+use mathlib.Core.List.{List, [], _∷_}
+use Prim.Native.Nat.{ℕ, zero, suc, _-_, _<_, _≤_}
 use native.Mathlib.Omega.{arith}
 use lib.Dec.{eqb, leb, ltb, eqb·suc-zero}
-use lib.ListN.{length, replicate, take, drop, getD, take-append-drop}
-use borrow.Author.Tests.{lt-ltb, le-ltb, le-leb, lt-leb, leb-true, leb-false, ltb-true, ltb-false, eq-eqb, ne-eqb, eqb-true, eqb-false, not-true, not-false}
+use lib.ListN.{replicate}
+use borrow.Author.Tests.{lt-ltb, le-ltb, le-leb, leb-true, leb-false, ne-eqb, eqb-true, eqb-false, not-true, not-false}
 use Rattle.strings.specs.Bytes.{between}
-use Rattle.strings.specs.Lists.{if_then_else_, none, firstOr, lastOr}
+use Rattle.strings.specs.Lists.{none}
 use Rattle.unicode.specs.Utf8.{Range, _to_, within, trail, nothing, table, follow, wellFormed}
-use Rattle.unicode.specs.Scalars.{replacement, leadBits, trailBits, emit, decode, scalars}
-use Rattle.unicode.specs.Scans.{breaks, owedAfter, valueAfter, room, Begins}
+use Rattle.unicode.specs.Scans.{breaks, owedAfter}
 use Rattle.unicode.specs.Owed.{columns}
-use Rattle.unicode.specs.White.{isWhite, startsWithWhite, endsWithWhite}
-use Rattle.strings.proofs.Scan.{next}
 use Rattle.strings.proofs.Scan.{scan}
 
 -- ---- a rule of all bytes, by one computed test

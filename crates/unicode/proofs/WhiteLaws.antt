@@ -1,20 +1,20 @@
 -- The scalar values of a text, a byte at a time; and the last of them from where the last character begins.
 use mathlib.Core.Path.{_≡_, refl, sym, ap, _∙_}
-use mathlib.Core.Bool.{Bool, true, false, not, _&&_, _||_, false≢true, true≢false}
+use mathlib.Core.Bool.{Bool, true, false, _&&_, _||_, true≢false}
 use mathlib.Core.List.{List, [], _∷_, _++_}
 use Prim.Native.Nat.{ℕ, zero, suc, _+_, _-_, _*_, _%_, _<_, _≤_}
 use native.Mathlib.Omega.{arith}
 use lib.Dec.{eqb, leb, ltb, eqb·suc-zero}
 use lib.ListN.{length, take, drop, getD, take-append-drop, length-drop}
 use lib.Seq.{take-all}
-use borrow.Author.Tests.{lt-ltb, le-ltb, ltb-true, leb-true, lt-leb, not-true, not-false, eqb-true, eq-eqb, ne-eqb}
+use borrow.Author.Tests.{lt-ltb, le-ltb, ltb-true, leb-true, not-true, not-false, eq-eqb, ne-eqb}
 use Rattle.strings.specs.Bytes.{between}
 use Rattle.strings.specs.Lists.{if_then_else_, none, firstOr, lastOr}
-use Rattle.unicode.specs.Utf8.{Range, _to_, within, trail, nothing, table, follow}
+use Rattle.unicode.specs.Utf8.{Range, within, trail, table, follow}
 use Rattle.unicode.specs.Scalars.{replacement, leadBits, trailBits, emit, decode, scalars}
 use Rattle.unicode.specs.Scans.{breaks, owedAfter, valueAfter, room, Valued, Begins}
 use Rattle.unicode.specs.Owed.{columns}
-use Rattle.unicode.specs.White.{isWhite, startsWithWhite, endsWithWhite}
+use Rattle.unicode.specs.White.{isWhite, endsWithWhite}
 use Rattle.strings.proofs.Scan.{next}
 use Rattle.unicode.proofs.Decoding.{allBelow, each, whole, outside, and-left, and-right, from-to}
 use Rattle.strings.proofs.Scan.{scan}
