@@ -6,7 +6,7 @@ use Rattle.sheet.proofs.records.kind_at.Tie as tie
 
 returns : tie.Need-returns
 unfolding recordAt
-returns c = cc
+returns c = c .word .ensures
 
 pub kind-at-spec : {M : Type 1} → statement M
 kind-at-spec =

@@ -6,7 +6,7 @@ use Rattle.sheet.proofs.records.level_at.Tie as tie
 
 returns : tie.Need-returns
 unfolding recordAt
-returns c = cc
+returns c = c .word .ensures
 
 pub level-at-spec : {M : Type 1} → statement M
 level-at-spec =

@@ -6,7 +6,7 @@ use Rattle.sheet.proofs.records.span_at.Tie as tie
 
 returns : tie.Need-returns
 unfolding recordAt
-returns c = cc
+returns c = rw (c .before .before .word .ensures, c .before .word2 .ensures, c .word3 .ensures)
 
 pub span-at-spec : {M : Type 1} → statement M
 span-at-spec =

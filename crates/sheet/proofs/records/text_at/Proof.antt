@@ -4,7 +4,7 @@ use Rattle.sheet.proofs.records.text_at.Statement.{statement}
 use Rattle.sheet.proofs.records.text_at.Tie as tie
 
 returns : tie.Need-returns
-returns c = cc
+returns c = rw (c .before .word .ensures, c .word2 .ensures)
 
 pub text-at-spec : {M : Type 1} → statement M
 text-at-spec =
