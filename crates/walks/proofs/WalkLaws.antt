@@ -23,6 +23,7 @@ use Rattle.walks.specs.Every.{eachRecord, validateDirectiveAttributes, v
 use Rattle.facts.specs.Values.{isBadAttribute, isLink}
 use Rattle.checks.specs.Rules
 use Rattle.walks.specs.Walk.{Start, Done}
+use Rattle.walks.specs.declared.every.Walked.{Walked}
 
 -- ---- a list that goes from tree to tree
 module _ (h : Forest → List Entry) (g : Rec → Forest → List Entry) (at-none : h none ≡ []) (at-tree : (r : Rec) (kids rest : Forest) → h (tree r kids rest) ≡ g r kids ⊕ h rest) where
@@ -80,6 +81,16 @@ module _ (w : List ℕ) (n from level : ℕ) where
 -- it goes on behind where it stood
 pub skip-down : (w : List ℕ) (n i m : ℕ) {j : ℕ} → i < n → j ≡ i + 1 + size (under w n (i + 1) m) → n - j < n - i
 skip-down w n i m {j} b e = let d : i < j = rw e (omega arith) in omega arith
+
+pub skip-fits : (w : List ℕ) (n i m : ℕ) {j : ℕ} → i < n → j ≡ i + 1 + size (under w n (i + 1) m) → j ≤ n
+skip-fits w n i m b e = rw e (under-fits w n (i + 1) m (omega arith))
+
+-- the level of a record that was read
+pub level-of : (w : List ℕ) (i : ℕ) {r : Rec} → r ≡ recordAt w i → r .level ≡ recordAt w i .level
+level-of w i e = rw e
+
+pub done-down : {w : List ℕ} {n i level : ℕ} {es : List Entry} {s : Tally} {x y : List ℕ} {q : Walked} → i < n → Done w n (i + 1) level es s x q y → n - q .next < n - i
+done-down {i = i} {q = q} b d = let f : i < q .next = rw (d .next) (omega arith) in omega arith
 
 pub ruleset skipping = (skip-start, skip-turn, skip-out, skip-end, needs)
 

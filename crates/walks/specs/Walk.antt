@@ -2,7 +2,7 @@
 use mathlib.Core.List.{List}
 use mathlib.Core.Path.{_≡_}
 use Prim.Native.Nat.{ℕ, _+_, _*_, _<_, _≤_}
-use lib.ListN.{length}
+use lib.ListN.{length, take}
 use Rattle.sheet.specs.Sheet.{recordAt, recordWords}
 use Rattle.sheet.specs.Forest.{under, size}
 use Rattle.report.specs.Report.{Entry, Lists}
@@ -21,3 +21,10 @@ pub record Start (w path : List ℕ) (n from : ℕ) : Type 0 where
 pub record Done (w : List ℕ) (n from level : ℕ) (es : List Entry) (s : Tally) (x : List ℕ) (r : Walked) (y : List ℕ) : Type 0 where
   pub next : r .next ≡ from + size (under w n from level)
   pub lists : Lists s (r .tally) x y es
+
+-- a start with the scratch that paths are kept in: 64 words, of which the first `len` are the path of what holds the trees deeper than `level`
+pub record Begin (w p : List ℕ) (n from len level : ℕ) : Type 0 where
+  pub start : Start w (take len p) n from
+  pub words : length p ≡ 64
+  pub short : len ≤ level
+  pub fits : len ≤ 64
