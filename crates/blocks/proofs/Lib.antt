@@ -1,2 +1,2 @@
-pub mod HeadLaws
-pub mod BlockExamples
+pub mod BlockLaws
+pub mod DocumentLaws

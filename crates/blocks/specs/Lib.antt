@@ -1,3 +1,2 @@
-pub mod Heads
-pub mod Tables
 pub mod Blocks
+pub mod At

@@ -1,2 +1,2 @@
-// The block walk. So far: what a block or an item reports of itself.
-pub mod heads;
+// The block walk: the whole list of a sheet.
+pub mod walk;

@@ -1,0 +1,33 @@
+-- What the walk of one block or item is given, and what one tree among the trees of `validateBlocks` lists. A reader need not believe these: `validateDocument` does not cite them.
+use Prim.Native.Nat.{ℕ, _+_}
+use mathlib.Core.List.{List, []}
+use mathlib.Core.Path.{_≡_}
+use Rattle.strings.specs.Lists.{if_then_else_}
+use Rattle.sheet.specs.Kinds.{isBlock}
+use Rattle.sheet.specs.Sheet.{recordAt}
+use Rattle.sheet.specs.Forest.{Forest}
+use Rattle.report.specs.Report.{Entry, _⊕_}
+use Rattle.sheet.specs.declared.records.Rec.{Rec}
+use Rattle.walks.specs.Walk.{Begin}
+use Rattle.heads.specs.declared.own.Before.{Before}
+use Rattle.heads.specs.Heads.{validateTakenBlock}
+use Rattle.blocks.specs.Blocks.{first, beforeNext, validateBlock, validateBlocks, validateItems}
+
+-- a beginning behind record i, whose level is given; the path is its own
+pub record At (w p : List ℕ) (n i len level : ℕ) : Type 0 where
+  pub begin : Begin w p n (i + 1) len level
+  pub is : level ≡ recordAt w i .level
+
+-- one tree: a block, or nothing
+unfoldable pub blockAt : List ℕ → List ℕ → Before → Rec → Forest → List Entry
+blockAt bytes path before r kids =
+    if isBlock (r .kind)
+    then (validateTakenBlock path (r .span) before (r .kind) (r .a) (r .b) ⊕ validateBlock bytes path r kids (validateItems bytes path 0 (r .a) (r .c) kids) (validateBlocks bytes path 0 first kids))
+    else []
+
+-- the block before the next tree, and the next tree's index where it is a block
+unfoldable pub beforeAt : Before → ℕ → ℕ → ℕ → Before
+beforeAt before kind a b = if isBlock kind then beforeNext before kind a b else before
+
+unfoldable pub indexAt : ℕ → ℕ → ℕ
+indexAt k kind = if isBlock kind then k + 1 else k

@@ -1,0 +1,4 @@
+pub mod TagLaws
+pub mod FootnoteLaws
+pub mod ItemLaws
+pub mod ListLaws

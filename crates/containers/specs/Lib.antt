@@ -1,0 +1,4 @@
+pub mod Tags
+pub mod Items
+pub mod Lists
+pub mod Footnotes

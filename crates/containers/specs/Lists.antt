@@ -1,0 +1,26 @@
+-- `validate_list`, up to its items. `path` is the list's own.
+use Prim.Native.Nat.{ℕ, suc}
+use mathlib.Core.Bool.{Bool, false, not, _&&_}
+use mathlib.Core.List.{List}
+use lib.Dec.{eqb, ltb}
+use Rattle.strings.specs.Lists.{if_then_else_}
+use Rattle.sheet.specs.Kinds.{blankLine}
+use Rattle.sheet.specs.Forest.{Forest, none, tree, count}
+use Rattle.report.specs.Report.{Entry, listIf, _⊕_}
+use Rattle.sheet.specs.declared.records.Span.{Span}
+use Rattle.checks.specs.Rules
+
+-- how many blocks that are no blank lines
+unfoldable pub countFull : Forest → ℕ
+countFull none = 0
+countFull (tree r kids rest) = if eqb (r .kind) blankLine then countFull rest else suc (countFull rest)
+
+-- one item, of at most one block beside blank lines
+unfoldable pub holdsOneBlock : Forest → Bool
+holdsOneBlock none = false
+holdsOneBlock (tree r kids rest) = eqb (count rest) 0 && ltb (countFull kids) 2
+
+-- 12; 13, where the list is not tight (C is not 1)
+unfoldable pub validateList : List ℕ → Span → ℕ → Forest → List Entry
+validateList path span tight kids =
+    listIf (eqb (count kids) 0) Rules.emptyList span path ⊕ listIf (not (eqb tight 1) && holdsOneBlock kids) Rules.looseList span path

@@ -1,0 +1,53 @@
+-- What each function of `heads` lists, by what its calls answered.
+use mathlib.Core.Path.{_≡_}
+use mathlib.Core.Bool.{Bool, not, _&&_, _||_}
+use mathlib.Core.List.{List}
+use Prim.Native.Nat.{ℕ}
+use borrow.Author.Needs.{needs}
+use lib.Dec.{eqb, ltb}
+use Rattle.strings.specs.Lists.{if_then_else_}
+use Rattle.multiline.specs.Fence.{holdsFenceLine}
+use Rattle.multiline.specs.Lines.{hasBlankEdgeLine}
+use Rattle.leaves.specs.Names.{isBlankIdentifier}
+use Rattle.leaves.specs.Title.{isAlertTitle}
+use Rattle.multiline.specs.declared.fence.FrontmatterKind.{FrontmatterKind}
+use Rattle.form.specs.Fields.{textOf}
+use Rattle.sheet.specs.Kinds.{list, codeBlock}
+use Rattle.report.specs.Report.{Lists, listIf}
+use Rattle.sheet.specs.declared.records.Span.{Span}
+use Rattle.sheet.specs.declared.records.Text.{Text}
+use Rattle.report.specs.declared.entries.Tally.{Tally}
+use Rattle.report.proofs.ReportLaws.{lists-then}
+use Rattle.checks.specs.Rules
+use Rattle.checks.specs.Single.{validateDestination}
+use Rattle.facts.specs.Values.{isEmpty}
+use Rattle.heads.specs.Heads.{frontmatterKind, takesIndentedCode, validateAlert, validateCodeBlock, validateDefinition, validateFrontmatter, validateHeading, validateTakenBlock, writtenMarker}
+use Rattle.heads.specs.declared.own.Before.{Before}
+
+module _ (path : List ℕ) (span : Span) {s t : Tally} {x y : List ℕ} where
+  pub heading-law : (depth : ℕ) → Lists s t x y (listIf (eqb depth 0 || ltb 6 depth) Rules.headingDepth span path) → Lists s t x y (validateHeading path span depth)
+  unfolding validateHeading
+  heading-law depth l = l
+
+  pub alert-law : (bytes : List ℕ) (a : ℕ) (title : Text) {n : List ℕ} {p : Bool} → n ≡ textOf bytes title → p ≡ isAlertTitle n → Lists s t x y (listIf (eqb a 1 && not p) Rules.alertTitle span path) → Lists s t x y (validateAlert bytes path span a title)
+  unfolding validateAlert
+  alert-law bytes a title f e l = rw (e, f) at l
+
+  module _ {u : Tally} {z : List ℕ} where
+    pub code-block-law : (bytes : List ℕ) (a b : ℕ) (value info : Text) {n : List ℕ} {p q : Bool} → n ≡ textOf bytes value → p ≡ isEmpty info → q ≡ hasBlankEdgeLine n → Lists s t x y (listIf (eqb b 1 && p) Rules.emptyInfo span path) → Lists t u y z (listIf (eqb a 1 && q) Rules.blankEdgeInCode span path) → Lists s u x z (validateCodeBlock bytes path span a b value info)
+    unfolding validateCodeBlock
+    code-block-law bytes a b value info f e g l m = lists-then (rw e at l) (rw (g, f) at m)
+
+    pub frontmatter-law : (bytes : List ℕ) (level a : ℕ) (value : Text) {n : List ℕ} {k : FrontmatterKind} {q : Bool} → n ≡ textOf bytes value → k ≡ frontmatterKind a → q ≡ holdsFenceLine k n → Lists s t x y (listIf (ltb 1 level) Rules.frontmatterInside span path) → Lists t u y z (listIf q Rules.fenceInFrontmatter span path) → Lists s u x z (validateFrontmatter bytes path span level a value)
+    unfolding validateFrontmatter
+    frontmatter-law bytes level a value f e g l m = lists-then l (rw (g, f, e) at m)
+
+    pub definition-law : (bytes : List ℕ) (a : ℕ) (identifier destination : Text) {n : List ℕ} {p : Bool} → n ≡ textOf bytes identifier → p ≡ isBlankIdentifier n → Lists s t x y (listIf p Rules.blankDefinition span path) → Lists t u y z (validateDestination path span a destination) → Lists s u x z (validateDefinition bytes path span a identifier destination)
+    unfolding validateDefinition
+    definition-law bytes a identifier destination f e l m = lists-then (rw (e, f) at l) m
+
+    pub taken-law : (before : Before) (kind a b : ℕ) {m n : ℕ} {q : Bool} → m ≡ writtenMarker (before .a) (before .b) → n ≡ writtenMarker a b → q ≡ takesIndentedCode (before .kind) (before .a) → Lists s t x y (listIf (eqb (before .kind) list && eqb kind list && eqb m n) Rules.adjacentLists span path) → Lists t u y z (listIf (eqb kind codeBlock && eqb a 1 && q) Rules.indentedCodeTaken span path) → Lists s u x z (validateTakenBlock path span before kind a b)
+    unfolding validateTakenBlock
+    taken-law before kind a b e f g l m = lists-then (rw (e, f) at l) (rw g at m)
+
+pub ruleset heads = (heading-law, alert-law, code-block-law, frontmatter-law, definition-law, taken-law, needs)

@@ -1,0 +1,20 @@
+-- `blocks::heads::frontmatter_kind` meets its contract.
+use Rattle.heads.specs.Heads.{frontmatterKind}
+use borrow.Author.Tests.{ne-eqb}
+use Rattle.heads.proofs.own.frontmatter_kind.Statement.{statement}
+use Rattle.heads.proofs.own.frontmatter_kind.Tie as tie
+
+returns : tie.Need-returns
+unfolding frontmatterKind
+returns c = cc
+
+returns-2 : tie.Need-returns-2
+unfolding frontmatterKind
+returns-2 c = rw (ne-eqb _ _ (c .if1 .left))
+
+pub frontmatter-kind-spec : {M : Type 1} → statement M
+frontmatter-kind-spec =
+    tie.close
+    (tie.spec
+    returns
+    returns-2)

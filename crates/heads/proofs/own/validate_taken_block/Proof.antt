@@ -1,0 +1,16 @@
+-- `blocks::heads::validate_taken_block` meets its contract.
+use Rattle.heads.proofs.HeadLaws.{heads}
+use Rattle.heads.proofs.own.validate_taken_block.Statement.{statement}
+use Rattle.heads.proofs.own.validate_taken_block.Tie as tie
+
+pub validate-taken-block-spec : {M : Type 1} → statement M
+validate-taken-block-spec =
+    tie.close
+    (tie.spec
+    (λ c κs. search heads)
+    (λ c κs. search heads)
+    (λ c κs. search heads)
+    (λ c κs. search heads)
+    (λ c κs. search heads)
+    (λ c. search heads)
+    (λ c. search heads))

@@ -1,0 +1,19 @@
+-- `blocks::heads::written_marker` meets its contract.
+use Rattle.heads.specs.Heads.{writtenMarker}
+use borrow.Author.Needs.{needs}
+use Rattle.heads.proofs.own.written_marker.Statement.{statement}
+use Rattle.heads.proofs.own.written_marker.Tie as tie
+
+returns : tie.Need-returns
+unfolding writtenMarker
+returns c = cc
+
+pub written-marker-spec : {M : Type 1} → statement M
+written-marker-spec =
+    tie.close
+    (tie.spec
+    (λ c κs. search needs)
+    (λ c κs. search needs)
+    (λ c κs. search needs)
+    (λ c κs. search needs)
+    returns)

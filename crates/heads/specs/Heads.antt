@@ -1,0 +1,73 @@
+-- What a block reports by its own record, and by the block before it: for each function of validate.rs a definition of the same name, which gives the list of its entries in its order. `path` is the block's own.
+use Prim.Native.Nat.{ℕ}
+use mathlib.Core.Bool.{Bool, not, _&&_, _||_}
+use mathlib.Core.List.{List}
+use lib.Dec.{eqb, ltb}
+use Rattle.strings.specs.Lists.{if_then_else_}
+use Rattle.multiline.specs.Fence.{holdsFenceLine}
+use Rattle.multiline.specs.Lines.{hasBlankEdgeLine}
+use Rattle.leaves.specs.Names.{isBlankIdentifier}
+use Rattle.leaves.specs.Title.{isAlertTitle}
+use Rattle.multiline.specs.declared.fence.FrontmatterKind.{FrontmatterKind}
+use Rattle.multiline.specs.declared.fence.FrontmatterKind.the-variants.{Yaml, Toml}
+use Rattle.sheet.specs.Kinds.{list, codeBlock, footnoteDefinition}
+use Rattle.form.specs.Fields.{textOf}
+use Rattle.report.specs.Report.{Entry, listIf, _⊕_}
+use Rattle.sheet.specs.declared.records.Span.{Span}
+use Rattle.sheet.specs.declared.records.Text.{Text}
+use Rattle.checks.specs.Rules
+use Rattle.checks.specs.Single.{validateDestination}
+use Rattle.facts.specs.Values.{isEmpty}
+use Rattle.heads.specs.declared.own.Before.{Before}
+
+-- ---- one block
+
+-- `validate_heading`: 10
+unfoldable pub validateHeading : List ℕ → Span → ℕ → List Entry
+validateHeading path span depth = listIf (eqb depth 0 || ltb 6 depth) Rules.headingDepth span path
+
+-- `validate_alert`: 11, where there is a title (A is 1)
+unfoldable pub validateAlert : List ℕ → List ℕ → Span → ℕ → Text → List Entry
+validateAlert bytes path span a title = listIf (eqb a 1 && not (isAlertTitle (textOf bytes title))) Rules.alertTitle span path
+
+-- `validate_code_block`: 26, where there is an info string (B is 1); 27, for indented code (A is 1)
+unfoldable pub validateCodeBlock : List ℕ → List ℕ → Span → ℕ → ℕ → Text → Text → List Entry
+validateCodeBlock bytes path span a b value info =
+    listIf (eqb b 1 && isEmpty info) Rules.emptyInfo span path ⊕ listIf (eqb a 1 && hasBlankEdgeLine (textOf bytes value)) Rules.blankEdgeInCode span path
+
+-- document 01: "frontmatter 0 YAML, 1 TOML"
+unfoldable pub frontmatterKind : ℕ → FrontmatterKind
+frontmatterKind a = if eqb a 1 then Toml else Yaml
+
+-- `validate_frontmatter`: 28, 29. validate.rs asks for a depth above 0, the containers around it; on an accepted sheet that is a level above 1, since what holds a block is a container. No proof says so yet.
+unfoldable pub validateFrontmatter : List ℕ → List ℕ → Span → ℕ → ℕ → Text → List Entry
+validateFrontmatter bytes path span level a value =
+    listIf (ltb 1 level) Rules.frontmatterInside span path ⊕ listIf (holdsFenceLine (frontmatterKind a) (textOf bytes value)) Rules.fenceInFrontmatter span path
+
+-- `validate_definition`: 24, 25
+unfoldable pub validateDefinition : List ℕ → List ℕ → Span → ℕ → Text → Text → List Entry
+validateDefinition bytes path span a identifier destination =
+    listIf (isBlankIdentifier (textOf bytes identifier)) Rules.blankDefinition span path ⊕ validateDestination path span a destination
+
+-- ---- one block and the block before it
+
+-- the leaf `written_marker`. Document 01: "written marker `*` or `+` for such bullets, `-` for other bullets, `)` for ordered paren, `.` for other ordered."
+unfoldable pub writtenMarker : ℕ → ℕ → ℕ
+writtenMarker ordered delimiter =
+    if eqb ordered 1
+    then (if eqb delimiter 4 then 0x29 else 0x2E)
+    else if eqb delimiter 1
+    then 0x2A
+    else if eqb delimiter 2
+    then 0x2B
+    else 0x2D
+
+-- `takes_indented_code`
+unfoldable pub takesIndentedCode : ℕ → ℕ → Bool
+takesIndentedCode kind a = eqb kind codeBlock && eqb a 1 || eqb kind footnoteDefinition
+
+-- the first part of `validate_blocks`, and `validate_taken_block`: 1, 15. `before` is the block before that is no blank line, of kind 0 where there is none.
+unfoldable pub validateTakenBlock : List ℕ → Span → Before → ℕ → ℕ → ℕ → List Entry
+validateTakenBlock path span before kind a b =
+    listIf (eqb (before .kind) list && eqb kind list && eqb (writtenMarker (before .a) (before .b)) (writtenMarker a b)) Rules.adjacentLists span path
+    ⊕ listIf (eqb kind codeBlock && eqb a 1 && takesIndentedCode (before .kind) (before .a)) Rules.indentedCodeTaken span path

@@ -1,0 +1,14 @@
+-- `oneblock::block::holds_blocks` meets its contract.
+use Rattle.oneblock.specs.OneBlock.{holdsBlocks}
+use Rattle.oneblock.proofs.block.holds_blocks.Statement.{statement}
+use Rattle.oneblock.proofs.block.holds_blocks.Tie as tie
+
+returns : tie.Need-returns
+unfolding holdsBlocks
+returns c = cc
+
+pub holds-blocks-spec : {M : Type 1} → statement M
+holds-blocks-spec =
+    tie.close
+    (tie.spec
+    returns)

@@ -1,0 +1,67 @@
+-- The match of `validate_block` on one block, up to the blocks or items that it holds: for each kind the list of its entries in validate.rs's order. Kept rules only. Its arms are cut in three; no kind is in two of them. `path` is the block's own.
+use Prim.Native.Nat.{ℕ}
+use mathlib.Core.Bool.{Bool, _&&_, _||_}
+use mathlib.Core.List.{List, []}
+use lib.Dec.{eqb}
+use Rattle.strings.specs.Lists.{if_then_else_}
+use Rattle.sheet.specs.Kinds.{paragraph, heading, blockQuote, alert, list, codeBlock, htmlContainer, definition, footnoteDefinition, table, frontmatter, leafDirective, containerDirective}
+use Rattle.sheet.specs.Forest.{Forest}
+use Rattle.report.specs.Report.{Entry, _⊕_}
+use Rattle.sheet.specs.declared.records.Rec.{Rec}
+use Rattle.sheet.specs.declared.records.Span.{Span}
+use Rattle.checks.specs.Rules
+use Rattle.inlines.specs.Inlines.{validateInlines}
+use Rattle.heads.specs.Heads.{validateHeading, validateAlert, validateCodeBlock, validateFrontmatter, validateDefinition}
+use Rattle.containers.specs.Tags.{validateHtmlContainer}
+use Rattle.containers.specs.Footnotes.{validateFootnoteDefinition}
+use Rattle.containers.specs.Lists.{validateList}
+use Rattle.prose.specs.Prose.{validateParagraph, validateDirective}
+use Rattle.tables.specs.Tables.{validateTable}
+
+-- Blocks that hold neither blocks nor parts of their own. Thematic breaks, HTML blocks, math blocks and blank lines have no message that is kept.
+unfoldable pub validateLeaf : List ℕ → List ℕ → Rec → Forest → List Entry
+validateLeaf bytes path r kids =
+    if eqb (r .kind) paragraph
+    then validateParagraph bytes path (r .span) kids
+    else if eqb (r .kind) heading
+    then (validateHeading path (r .span) (r .a) ⊕ validateInlines bytes path kids)
+    else if eqb (r .kind) codeBlock
+    then validateCodeBlock bytes path (r .span) (r .a) (r .b) (r .first) (r .second)
+    else if eqb (r .kind) definition
+    then validateDefinition bytes path (r .span) (r .a) (r .first) (r .second)
+    else if eqb (r .kind) frontmatter
+    then validateFrontmatter bytes path (r .span) (r .level) (r .a) (r .first)
+    else if eqb (r .kind) leafDirective
+    then validateDirective bytes path Rules.breakInLeafLabel (r .span) (r .first) kids
+    else []
+
+-- `validate_html_container`: its tags, and its inlines where it holds inlines (A is not 0)
+unfoldable pub validateHtml : List ℕ → List ℕ → Span → ℕ → Forest → List Entry
+validateHtml bytes path span a kids = validateHtmlContainer bytes path span kids ⊕ (if eqb a 0 then [] else validateInlines bytes path kids)
+
+-- Blocks that hold blocks or items; a quote has no message of its own.
+unfoldable pub validateContainer : List ℕ → List ℕ → Rec → Forest → List Entry
+validateContainer bytes path r kids =
+    if eqb (r .kind) alert
+    then validateAlert bytes path (r .span) (r .a) (r .first)
+    else if eqb (r .kind) list
+    then validateList path (r .span) (r .c) kids
+    else if eqb (r .kind) htmlContainer
+    then validateHtml bytes path (r .span) (r .a) kids
+    else if eqb (r .kind) containerDirective
+    then validateDirective bytes path Rules.breakInContainerLabel (r .span) (r .first) kids
+    else validateLeaf bytes path r kids
+
+-- Blocks that report at the paths of what they hold, and the others.
+unfoldable pub validateOwn : List ℕ → List ℕ → Rec → Forest → List Entry
+validateOwn bytes path r kids =
+    if eqb (r .kind) footnoteDefinition
+    then validateFootnoteDefinition path (r .span) (r .first) kids
+    else if eqb (r .kind) table
+    then validateTable bytes path (r .span) (r .a) kids
+    else validateContainer bytes path r kids
+
+-- the blocks that hold blocks: quotes, alerts, footnote definitions, container directives, and HTML containers of blocks (A is 0)
+unfoldable pub holdsBlocks : ℕ → ℕ → Bool
+holdsBlocks kind a =
+    eqb kind blockQuote || eqb kind alert || eqb kind footnoteDefinition || eqb kind containerDirective || eqb kind htmlContainer && eqb a 0

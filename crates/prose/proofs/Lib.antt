@@ -1,0 +1,2 @@
+pub mod LabelLaws
+pub mod ParagraphLaws

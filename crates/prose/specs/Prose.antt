@@ -1,0 +1,30 @@
+-- Blocks that hold inlines: paragraphs, and directives up to their blocks. `path` is the block's own.
+use Prim.Native.Nat.{ℕ}
+use mathlib.Core.List.{List}
+use Rattle.strings.specs.Lists.{if_then_else_}
+use Rattle.sheet.specs.Kinds.{isBlock}
+use Rattle.sheet.specs.Forest.{Forest, none, tree}
+use Rattle.report.specs.Report.{Entry, listIf, _⊕_}
+use Rattle.sheet.specs.declared.records.Span.{Span}
+use Rattle.sheet.specs.declared.records.Text.{Text}
+use Rattle.checks.specs.Rules
+use Rattle.checks.specs.Single.{validateDirectiveName}
+use Rattle.walks.specs.Every.{validateDirectiveAttributes, validateOneLine}
+use Rattle.inlines.specs.Inlines.{allEmpty, validateInlines}
+
+-- the arm of `validate_block` for a paragraph: 2, then its inlines
+unfoldable pub validateParagraph : List ℕ → List ℕ → Span → Forest → List Entry
+validateParagraph bytes path span kids = listIf (allEmpty kids) Rules.emptyParagraph span path ⊕ validateInlines bytes path kids
+
+-- The children of a directive before its blocks: its attributes and its label. Document 01: "Directives: attributes, then inlines, then (container only) blocks."
+unfoldable pub beforeBlocks : Forest → Forest
+beforeBlocks none = none
+beforeBlocks (tree r kids rest) = let later = tree r kids (beforeBlocks rest) in if isBlock (r .kind) then none else later
+
+-- `validate_leaf_directive`, and `validate_container_directive` up to its blocks: 54, 55, the label's inlines, and 22 or 23 as the rule says. Each passes over what it does not ask of: 55 over inlines, the others over attributes.
+unfoldable pub validateDirective : List ℕ → List ℕ → ℕ → Span → Text → Forest → List Entry
+validateDirective bytes path rule span name kids =
+    validateDirectiveName bytes path span name
+    ⊕ validateDirectiveAttributes bytes path (beforeBlocks kids)
+    ⊕ validateInlines bytes path (beforeBlocks kids)
+    ⊕ validateOneLine rule path (beforeBlocks kids)

@@ -1,0 +1,3 @@
+// Blocks that hold inlines: paragraphs, and directives up to their blocks.
+pub mod labels;
+pub mod paragraphs;

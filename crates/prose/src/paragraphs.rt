@@ -1,0 +1,60 @@
+// Paragraphs.
+ghost use mathlib.Core.Path.{_≡_};
+ghost use Prim.Native.Nat.{_*_, _≤_};
+ghost use lib.ListN.{length};
+ghost use Rattle.sheet.specs.Sheet.{recordWords};
+ghost use Rattle.sheet.specs.Forest.{under};
+ghost use Rattle.report.specs.Report.{Lists};
+ghost use Rattle.walks.specs.Walk.{Start};
+ghost use Rattle.inlines.specs.Inlines.{allEmpty};
+ghost use Rattle.prose.specs.Prose.{validateParagraph};
+use checks::rules;
+use facts::values;
+use inlines::nodes::validate_inlines;
+use report::entries::Tally;
+use report::entries::list_if;
+use sheet::kinds;
+use sheet::records::Span;
+use sheet::records::record_at;
+use walks::every::skip;
+
+// Whether every inline is an empty text.
+fn all_empty(sheet: &[u32], n: usize, from: usize, level: u32) -> bool
+    requires { ⌜ (n * recordWords ≤ length (now sheet)) × (from ≤ n) ⌝ }
+    ensures { λ r. ⌜ r ≡ allEmpty (under (now (sheet .entry)) n from level) ⌝ }
+{
+    let mut i = from;
+    while i < n {
+        let r = record_at(sheet, i);
+        if r.level <= level {
+            return true;
+        }
+        let passed = !kinds::is_inline(r.kind) | values::is_empty_text(r);
+        if !passed {
+            return false;
+        }
+        i = skip(sheet, n, i + 1, r.level);
+    }
+    true
+}
+
+// Rule 2, then the inlines.
+pub fn validate_paragraph(
+    sheet: &[u32],
+    bytes: &[u8],
+    report: &mut [u32],
+    path: &[u32],
+    n: usize,
+    from: usize,
+    level: u32,
+    span: Span,
+    tally: Tally,
+) -> Tally
+    requires { ⌜ Start (now sheet) (now path) n from ⌝ }
+    ensures { λ r. ⌜ Lists tally r (now (report .entry)) (now (report .exit)) (validateParagraph (now (bytes .entry)) (now (path .entry)) span (under (now (sheet .entry)) n from level)) ⌝ }
+{
+    let empty = all_empty(sheet, n, from, level);
+    let out = list_if(empty, report, rules::EMPTY_PARAGRAPH, span, path, tally);
+    let w = validate_inlines(sheet, bytes, report, path, n, from, level, out);
+    w.tally
+}

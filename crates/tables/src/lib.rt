@@ -1,0 +1,2 @@
+// Tables, with their rows and cells.
+pub mod grid;
