@@ -1,0 +1,70 @@
+// The check of a sheet and its text.
+ghost use mathlib.Core.Path.{_≡_};
+ghost use Rattle.sheet.specs.Sheet.{recordsOf};
+ghost use Rattle.report.specs.Report.{start, after};
+ghost use Rattle.refusal.specs.Formed.{Sound};
+ghost use Rattle.blocks.specs.Blocks.{validateDocument};
+ghost use Rattle.checker.specs.Check.{answerNumber, answerValue, outcome};
+use blocks::walk::validate_document;
+use refusal::judge;
+use refusal::judge::Judged;
+use report::entries::Tally;
+use sheet::records::RECORD_WORDS;
+
+// The answer: how many entries were listed, or why nothing was.
+pub enum Checked {
+    Listed(usize),
+    Refused(Judged),
+    ShortReport,
+}
+
+// Document 01's number of the answer; 0 where the sheet is accepted.
+pub fn answer_number(c: Checked) -> u32
+    ensures { λ r. ⌜ r ≡ answerNumber c ⌝ }
+{
+    match c {
+        Checked::Listed(_) => 0,
+        Checked::Refused(judged) => judge::number_of(judged),
+        Checked::ShortReport => 11,
+    }
+}
+
+// The number of entries, or the record of a refusal.
+pub fn answer_value(c: Checked) -> usize
+    ensures { λ r. ⌜ r ≡ answerValue c ⌝ }
+{
+    match c {
+        Checked::Listed(entries) => entries,
+        Checked::Refused(judged) => judge::record_of(judged),
+        Checked::ShortReport => 0,
+    }
+}
+
+// The walk into no report at all: how much the list needs.
+fn measure(sheet: &[u32], text: &[u8], n: usize) -> Tally
+    requires { ⌜ Sound (now sheet) (now text) × (n ≡ recordsOf (now sheet)) ⌝ }
+    ensures { λ r. ⌜ r ≡ after start (validateDocument (now (sheet .entry)) (now (text .entry))) ⌝ }
+{
+    let mut none = [0u32; 0];
+    validate_document(sheet, text, &mut none, n)
+}
+
+// Refuses a malformed sheet by number and leaves every lent word; or writes the whole list into the report's front. It measures before it says that the report is short, and a list of no entries is not written again.
+pub fn check(sheet: &[u32], text: &[u8], report: &mut [u32]) -> Checked
+    ensures { λ r. ⌜ (r, now (report .exit)) ≡ outcome (now (sheet .entry)) (now (text .entry)) (now (report .entry)) ⌝ }
+{
+    let judged = judge::accept(sheet, text);
+    if judge::number_of(judged) != 0 {
+        return Checked::Refused(judged);
+    }
+    let n = sheet.len() / RECORD_WORDS;
+    let need = measure(sheet, text, n);
+    if need.entries == 0 {
+        return Checked::Listed(0);
+    }
+    if report.len() < need.words {
+        return Checked::ShortReport;
+    }
+    let listed = validate_document(sheet, text, report, n);
+    Checked::Listed(listed.entries)
+}

@@ -1,0 +1,2 @@
+// What is exported to C.
+pub mod exports;
