@@ -166,7 +166,7 @@ fn tags(words: &[u32], record: usize) -> usize {
 /// the sheet is accepted. "Order: 1, 2, 3; then 4 to 9 record by record; then
 /// 10 over all records, giving the first such container".
 pub fn refusal(words: &[u32], text: &[u8]) -> (u32, usize) {
-    if words.len() % RECORD_WORDS != 0 {
+    if !words.len().is_multiple_of(RECORD_WORDS) {
         return (1, 0);
     }
     let records = words.len() / RECORD_WORDS;

@@ -4,17 +4,14 @@
 //! list for it, without what the block walk alone reports (rule 2), which is
 //! what `validate_inlines` gives for the paragraph's children at the path 0.
 
-mod draft;
 mod exhaustive;
-mod letters;
 mod random;
 mod traps;
 
 use std::collections::{BTreeMap, BTreeSet, HashSet};
 
+use cases::{Numbers, Sheet};
 use oracle::RECORD_WORDS;
-
-use crate::sheets::{Numbers, Sheet};
 
 /// The rules of the inline walk.
 pub const RULES: [u32; 22] = [

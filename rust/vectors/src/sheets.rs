@@ -1,17 +1,7 @@
 //! Sheets and the answer of document 01's plain reading for each.
 
+use cases::{plain, Numbers, Sheet};
 use oracle::RECORD_WORDS;
-
-/// A record of a kind and a level, all else 0.
-pub fn plain(kind: u32, level: u32) -> [u32; RECORD_WORDS] {
-    let mut record = [0; RECORD_WORDS];
-    record[0] = kind;
-    record[1] = level;
-    record
-}
-
-/// A sheet and its text.
-pub type Sheet = (Vec<u32>, Vec<u8>);
 
 /// The text that the sheets with texts name parts of: one byte, three, two, one.
 const TEXT: &[u8] = "a€éb".as_bytes();
@@ -145,19 +135,6 @@ fn text_parts(sheets: &mut Vec<Sheet>) {
     let mut record = plain(43, 2);
     record[8..12].copy_from_slice(&[1, 1, 7, 1]);
     push(sheets, &[plain(1, 1), record]);
-}
-
-/// Small numbers from a fixed seed.
-#[derive(Clone)]
-pub struct Numbers(pub u64);
-
-impl Numbers {
-    pub fn below(&mut self, bound: u32) -> u32 {
-        self.0 ^= self.0 << 13;
-        self.0 ^= self.0 >> 7;
-        self.0 ^= self.0 << 17;
-        (self.0 >> 32) as u32 % bound
-    }
 }
 
 /// Records of random kinds that mostly stand where they may, some damaged.

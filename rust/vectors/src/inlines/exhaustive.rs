@@ -1,12 +1,13 @@
 //! All paragraphs of up to three inline records over two small alphabets: a
 //! wide one for up to two records, and one record a kind, or a few, for three.
 
-use super::{
+use cases::{
     draft::Draft,
     letters::{self, Letter},
-    Case,
+    Sheet,
 };
-use crate::sheets::Sheet;
+
+use super::Case;
 
 /// The levels of up to three inline records.
 const SHAPES: [&[u32]; 8] = [
@@ -108,7 +109,7 @@ fn placed<'a>(shape: &[u32], alphabet: &'a [Letter]) -> Vec<Vec<&'a Letter>> {
 }
 
 fn sheet(seed: u64, levels: impl IntoIterator<Item = u32>, spelling: &[&Letter]) -> Sheet {
-    let mut draft = Draft::new(seed);
+    let mut draft = Draft::paragraph(seed);
     for (level, letter) in levels.into_iter().zip(spelling) {
         draft.add(level, letter);
     }

@@ -1,11 +1,12 @@
 //! Random inline trees, dense in what the rules look for, and deep ones.
 
-use super::{
-    draft::{numbers, Draft},
+use cases::{
+    draft::Draft,
     letters::{self, Letter},
-    Case, MOST_RECORDS,
+    Numbers,
 };
-use crate::sheets::Numbers;
+
+use super::{Case, MOST_RECORDS};
 
 /// Values of texts and code: line endings, white space at the edges, and what
 /// only looks like them.
@@ -86,8 +87,8 @@ impl Maker {
     /// For at most `left` inline records.
     fn new(seed: u64, left: usize) -> Self {
         Self {
-            draft: Draft::new(seed),
-            numbers: numbers(seed + (1 << 32)),
+            draft: Draft::paragraph(seed),
+            numbers: Numbers::new(seed + (1 << 32)),
             left,
         }
     }

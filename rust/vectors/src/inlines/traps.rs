@@ -1,10 +1,11 @@
 //! Paragraphs for what is easily got wrong, rule by rule.
 
-use super::{
+use cases::{
     draft::Draft,
     letters::{self, breaks, containers, emphases, Letter, Tree},
-    Case,
 };
+
+use super::Case;
 
 /// A paragraph's inlines.
 type Inlines = Vec<Tree>;
@@ -442,7 +443,7 @@ pub fn all() -> Vec<Case> {
     let cases = paragraphs.concat().into_iter().enumerate();
     cases
         .map(|(seed, inlines)| {
-            let mut draft = Draft::new(seed as u64);
+            let mut draft = Draft::paragraph(seed as u64);
             draft.add_trees(2, &inlines);
             Case::new(draft.done())
         })

@@ -1,11 +1,11 @@
 //! Sheets in the making.
 
-use oracle::RECORD_WORDS;
+use crate::{
+    letters::{self, Letter, Tree},
+    plain, Numbers, Sheet, RECORD_WORDS,
+};
 
-use super::letters::{Letter, Tree};
-use crate::sheets::{plain, Numbers, Sheet};
-
-/// One paragraph and what has been added under it.
+/// What has been added so far.
 #[derive(Clone)]
 pub struct Draft {
     words: Vec<u32>,
@@ -17,27 +17,34 @@ pub struct Draft {
 /// Bytes of the text that no record names; they are not looked at.
 const UNNAMED: [&[u8]; 8] = [b"\xFF", b"\n", b"\xC3", b"`$", b"", b"", b"", b""];
 
-/// Small numbers from the seed.
-pub fn numbers(seed: u64) -> Numbers {
-    Numbers((seed + 1).wrapping_mul(0x9E37_79B9_7F4A_7C15))
-}
-
 impl Draft {
+    /// Nothing yet but a byte or two of text.
     pub fn new(seed: u64) -> Self {
         let mut draft = Self {
             words: Vec::new(),
             text: Vec::new(),
-            numbers: numbers(seed),
+            numbers: Numbers::new(seed),
         };
         draft.add_unnamed();
-        let mut paragraph = plain(1, 1);
-        paragraph[2..5].copy_from_slice(&draft.span());
-        draft.words.extend(paragraph);
+        draft
+    }
+
+    /// One paragraph.
+    pub fn paragraph(seed: u64) -> Self {
+        let mut draft = Self::new(seed);
+        draft.add(1, &letters::paragraph());
         draft
     }
 
     pub fn records(&self) -> usize {
         self.words.len() / RECORD_WORDS
+    }
+
+    /// The kind of the nearest earlier record of a level.
+    pub fn last_at(&self, level: u32) -> Option<u32> {
+        let mut records = self.words.chunks(RECORD_WORDS).rev();
+        let last = records.find(|record| record[1] == level)?;
+        Some(last[0])
     }
 
     pub fn add(&mut self, level: u32, letter: &Letter) {
@@ -47,6 +54,7 @@ impl Draft {
         }
         record[5] = letter.a;
         record[6] = letter.b;
+        record[7] = letter.c;
         for (field, part) in [(8, &letter.first), (10, &letter.second)] {
             if let Some(part) = part {
                 record[field..field + 2].copy_from_slice(&self.part(part.as_bytes()));

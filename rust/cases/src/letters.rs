@@ -1,19 +1,20 @@
-//! The records of a paragraph, without level and span: one function a kind,
-//! with the words and texts that document 01 gives it.
+//! Records without level and span: one function a kind, with the words and
+//! texts that document 01 gives it.
 
 /// A record but for its level and span.
-#[derive(Clone, Default)]
+#[derive(Clone, PartialEq, Eq, Debug, Default)]
 pub struct Letter {
     pub kind: u32,
     pub a: u32,
     pub b: u32,
+    pub c: u32,
     /// None where the kind has no such text.
     pub first: Option<String>,
     pub second: Option<String>,
 }
 
 /// A record and what stands under it.
-#[derive(Clone)]
+#[derive(Clone, Debug)]
 pub struct Tree {
     pub letter: Letter,
     pub children: Vec<Tree>,
@@ -64,9 +65,128 @@ fn labelled(kind: u32, first: &str, second: &str) -> Letter {
     }
 }
 
+// Blocks.
+
+pub fn paragraph() -> Letter {
+    plain(1)
+}
+
+pub fn heading(depth: u32) -> Letter {
+    lettered(2, depth)
+}
+
+pub fn thematic_break() -> Letter {
+    plain(3)
+}
+
+pub fn block_quote() -> Letter {
+    plain(4)
+}
+
+pub fn alert(title: Option<&str>) -> Letter {
+    Letter {
+        first: title.map(Into::into),
+        ..lettered(5, title.is_some().into())
+    }
+}
+
+/// Ordered or not; delimiter 0 dash, 1 asterisk, 2 plus, 3 period, 4 paren;
+/// tight or not.
+pub fn list(ordered: u32, delimiter: u32, tight: u32) -> Letter {
+    Letter {
+        b: delimiter,
+        c: tight,
+        ..lettered(6, ordered)
+    }
+}
+
+/// Code 0 fenced, 1 indented.
+pub fn code_block(form: u32, info: Option<&str>, value: &str) -> Letter {
+    Letter {
+        a: form,
+        b: info.is_some().into(),
+        second: info.map(Into::into),
+        ..named(7, value)
+    }
+}
+
+pub fn html_block() -> Letter {
+    plain(8)
+}
+
+/// Content 0 blocks, 1 inlines.
+pub fn html_container(content: u32) -> Letter {
+    lettered(9, content)
+}
+
+/// Destination 0 bare, 1 angle, 2 omitted.
+pub fn definition(identifier: &str, kind: u32, destination: &str) -> Letter {
+    Letter {
+        a: kind,
+        ..labelled(10, identifier, destination)
+    }
+}
+
+pub fn footnote_definition(identifier: &str) -> Letter {
+    named(11, identifier)
+}
+
+pub fn table(alignments: u32) -> Letter {
+    lettered(12, alignments)
+}
+
+pub fn math_block() -> Letter {
+    plain(13)
+}
+
+/// Frontmatter 0 YAML, 1 TOML.
+pub fn frontmatter(kind: u32, value: &str) -> Letter {
+    Letter {
+        a: kind,
+        ..named(14, value)
+    }
+}
+
+pub fn leaf_directive(name: &str) -> Letter {
+    named(15, name)
+}
+
+pub fn container_directive(name: &str) -> Letter {
+    named(16, name)
+}
+
+pub fn blank_line() -> Letter {
+    plain(17)
+}
+
+// What stands under blocks.
+
+/// Checked 0 none, 1 false, 2 true.
+pub fn item(checked: u32, number: Option<u32>) -> Letter {
+    Letter {
+        b: number.is_some().into(),
+        c: number.unwrap_or(0),
+        ..lettered(20, checked)
+    }
+}
+
+pub fn row() -> Letter {
+    plain(21)
+}
+
+pub fn cell() -> Letter {
+    plain(22)
+}
+
+pub fn html_tag(name: &str, raw: &str) -> Letter {
+    labelled(23, name, raw)
+}
+
 pub fn attribute(name: &str) -> Letter {
     named(24, name)
 }
+
+// Inlines.
 
 pub fn text(value: &str) -> Letter {
     named(31, value)
