@@ -1,0 +1,81 @@
+//! Compares `reedsander_check` with the Rust reference and a plain reading of
+//! document 01: `differential [--short] [--seed N]`.
+//!
+//! It exits with 1 where a call differs, or where a rule or a refusal was
+//! never seen.
+
+#![forbid(unsafe_code)]
+
+use std::{env, process::ExitCode, time::Instant};
+
+use differential::{Harness, Plan};
+
+/// The seed without `--seed`.
+const SEED: u64 = 1;
+
+fn main() -> ExitCode {
+    let Some(plan) = plan(env::args().skip(1)) else {
+        eprintln!("usage: differential [--short] [--seed N]");
+        return ExitCode::from(2);
+    };
+    run(plan)
+}
+
+fn plan(mut arguments: impl Iterator<Item = String>) -> Option<Plan> {
+    let (mut short, mut seed) = (false, SEED);
+    while let Some(argument) = arguments.next() {
+        match argument.as_str() {
+            "--short" => short = true,
+            "--seed" => seed = arguments.next()?.parse().ok()?,
+            _ => return None,
+        }
+    }
+    Some(match short {
+        true => Plan::short(seed),
+        false => Plan::full(seed),
+    })
+}
+
+/// A part of the run.
+type Part = (&'static str, fn(&mut Harness, Plan));
+
+fn run(plan: Plan) -> ExitCode {
+    let last = plan.seed + plan.trees - 1;
+    println!("seeds {} to {last}", plan.seed);
+    let mut harness = Harness::new(plan.seed, |shown| println!("{shown}"));
+    let parts: [Part; 5] = [
+        ("limits", Harness::limits),
+        ("small sheets", Harness::small),
+        ("random trees", Harness::trees),
+        ("damaged trees", Harness::damaged),
+        ("reports of every length", Harness::reports),
+    ];
+    for (name, part) in parts {
+        let (sheets, calls, start) = (
+            harness.counts.sheets,
+            harness.counts.calls(),
+            Instant::now(),
+        );
+        part(&mut harness, plan);
+        println!(
+            "{name}: {} sheets, {} calls, {:.1} s",
+            harness.counts.sheets - sheets,
+            harness.counts.calls() - calls,
+            start.elapsed().as_secs_f64()
+        );
+    }
+    print!("{}", harness.counts);
+    verdict(&harness)
+}
+
+fn verdict(harness: &Harness) -> ExitCode {
+    let (rules, refusals) = harness.counts.unseen();
+    if !rules.is_empty() || !refusals.is_empty() {
+        println!("never seen: rules {rules:?}, refusals {refusals:?}");
+    }
+    println!("differences {}", harness.differences);
+    match harness.differences == 0 && rules.is_empty() && refusals.is_empty() {
+        true => ExitCode::SUCCESS,
+        false => ExitCode::FAILURE,
+    }
+}

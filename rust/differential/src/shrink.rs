@@ -1,0 +1,274 @@
+//! A sheet that differs, made as small as it goes, and its listing.
+
+use cases::RECORD_WORDS;
+
+use crate::{
+    call::{differ, Difference},
+    expected::{entries, Expected},
+};
+
+/// How often a smaller sheet is tried at most.
+const MOST_TRIALS: usize = 200_000;
+
+/// A call that differs.
+#[derive(Clone, PartialEq, Eq, Debug)]
+struct Found {
+    sheet: Vec<u32>,
+    text: Vec<u8>,
+    report_words: usize,
+    difference: Difference,
+}
+
+/// The call of this sheet that differs: with the report's length as it was,
+/// or exactly full, longer, one short, or empty.
+fn found(sheet: Vec<u32>, text: Vec<u8>, report_words: usize) -> Option<Found> {
+    let expected = Expected::of(&sheet, &text);
+    let full = expected.list.len();
+    let lengths = [full + 3, full, full.saturating_sub(1), 0, report_words];
+    lengths.into_iter().find_map(|report_words| {
+        let difference = differ(&sheet, &text, report_words, &expected)?;
+        Some(Found {
+            sheet: sheet.clone(),
+            text: text.clone(),
+            report_words,
+            difference,
+        })
+    })
+}
+
+struct Shrinker {
+    best: Found,
+    trials: usize,
+}
+
+impl Shrinker {
+    /// Takes the smaller sheet where it differs too, and says whether.
+    fn takes(&mut self, sheet: Vec<u32>, text: Vec<u8>) -> bool {
+        if self.trials == MOST_TRIALS || (&sheet, &text) == (&self.best.sheet, &self.best.text) {
+            return false;
+        }
+        self.trials += 1;
+        let smaller = found(sheet, text, self.best.report_words);
+        smaller.map(|smaller| self.best = smaller).is_some()
+    }
+
+    fn takes_sheet(&mut self, sheet: Vec<u32>) -> bool {
+        self.takes(sheet, self.best.text.clone())
+    }
+
+    fn records(&self) -> usize {
+        self.best.sheet.len() / RECORD_WORDS
+    }
+
+    /// Drops runs of records, long ones first.
+    fn drop_records(&mut self) -> bool {
+        let mut any = false;
+        let mut length = self.records().max(1);
+        while length > 0 {
+            let mut at = 0;
+            while at + length <= self.records() {
+                let mut sheet = self.best.sheet.clone();
+                sheet.drain(at * RECORD_WORDS..(at + length) * RECORD_WORDS);
+                if self.takes_sheet(sheet) {
+                    any = true;
+                } else {
+                    at += 1;
+                }
+            }
+            length /= 2;
+        }
+        any
+    }
+
+    /// Drops one record and lifts what stands under it.
+    fn lift_children(&mut self) -> bool {
+        let mut any = false;
+        for at in (0..self.records()).rev() {
+            let mut sheet = self.best.sheet.clone();
+            if at * RECORD_WORDS >= sheet.len() {
+                continue;
+            }
+            let level = sheet[at * RECORD_WORDS + 1];
+            for record in sheet.chunks_mut(RECORD_WORDS).skip(at + 1) {
+                if record.len() < 2 || record[1] <= level {
+                    break;
+                }
+                record[1] -= 1;
+            }
+            sheet.drain(at * RECORD_WORDS..(at + 1) * RECORD_WORDS);
+            any |= self.takes_sheet(sheet);
+        }
+        any
+    }
+
+    /// Shortens each part that a record names, at its end and at its start.
+    fn shorten_parts(&mut self) -> bool {
+        let mut any = false;
+        for record in 0..self.records() {
+            for field in [8, 10] {
+                let at = record * RECORD_WORDS + field;
+                while let Some(&[start, length]) = self.best.sheet.get(at..at + 2) {
+                    let shorter = [
+                        [0, 0],
+                        [start, length / 2],
+                        [
+                            start + (length - length / 2).min(u32::MAX - start),
+                            length / 2,
+                        ],
+                        [start, length.saturating_sub(1)],
+                        [start.saturating_add(1), length.saturating_sub(1)],
+                    ];
+                    let taken = shorter.into_iter().any(|part| {
+                        let mut sheet = self.best.sheet.clone();
+                        sheet[at..at + 2].copy_from_slice(&part);
+                        part[1] < length && self.takes_sheet(sheet)
+                    });
+                    any |= taken;
+                    if !taken {
+                        break;
+                    }
+                }
+            }
+        }
+        any
+    }
+
+    /// Makes words 0, or 1, or half.
+    fn lower_words(&mut self) -> bool {
+        let mut any = false;
+        for at in 0..self.best.sheet.len() {
+            let word = self.best.sheet[at];
+            any |= [0, 1, word / 2, word.saturating_sub(1)]
+                .into_iter()
+                .filter(|&lower| lower < word)
+                .any(|lower| {
+                    let mut sheet = self.best.sheet.clone();
+                    sheet[at] = lower;
+                    self.takes_sheet(sheet)
+                });
+        }
+        any
+    }
+
+    /// Drops bytes of the text, with the starts behind them moved.
+    fn drop_bytes(&mut self) -> bool {
+        let mut any = false;
+        let mut length = self.best.text.len();
+        while length > 0 {
+            let mut at = 0;
+            while at + length <= self.best.text.len() {
+                let mut text = self.best.text.clone();
+                text.drain(at..at + length);
+                let mut sheet = self.best.sheet.clone();
+                for record in sheet.chunks_mut(RECORD_WORDS) {
+                    for field in [8, 10] {
+                        match record.get_mut(field) {
+                            Some(start) if *start as usize >= at + length => {
+                                *start -= length as u32;
+                            }
+                            _ => {}
+                        }
+                    }
+                }
+                let taken =
+                    self.takes(sheet, text.clone()) || self.takes(self.best.sheet.clone(), text);
+                if taken {
+                    any = true;
+                } else {
+                    at += length;
+                }
+            }
+            length /= 2;
+        }
+        any
+    }
+
+    /// Cuts words that make no record.
+    fn cut_words(&mut self) -> bool {
+        let whole = self.records() * RECORD_WORDS;
+        let cut = self.best.sheet[..whole].to_vec();
+        self.takes_sheet(cut)
+    }
+
+    fn all(&mut self) {
+        loop {
+            let mut any = self.drop_records();
+            any |= self.cut_words();
+            any |= self.lift_children();
+            any |= self.shorten_parts();
+            any |= self.drop_bytes();
+            any |= self.lower_words();
+            if !any {
+                return;
+            }
+        }
+    }
+}
+
+/// A smaller sheet, text and length of the report that differ too; None where
+/// these do not differ.
+pub fn shrunk(
+    sheet: &[u32],
+    text: &[u8],
+    report_words: usize,
+) -> Option<(Vec<u32>, Vec<u8>, usize)> {
+    let best = found(sheet.to_vec(), text.to_vec(), report_words)?;
+    let mut shrinker = Shrinker { best, trials: 0 };
+    shrinker.all();
+    let best = shrinker.best;
+    Some((best.sheet, best.text, best.report_words))
+}
+
+/// The listing of a call, and both its lists.
+pub fn describe(sheet: &[u32], text: &[u8], report_words: usize) -> String {
+    let expected = Expected::of(sheet, text);
+    let mut lines = match differ(sheet, text, report_words, &expected) {
+        Some(difference) => format!("difference: {difference}\n"),
+        None => "no difference\n".into(),
+    };
+    lines += &format!("report words: {report_words}\n");
+    lines += &String::from_utf8_lossy(&reedsander::listing(sheet, b""));
+    lines += &format!("text: \"{}\"\n", text.escape_ascii());
+    let (number, low) = expected.answer(report_words);
+    lines += &format!("wanted: {number} {low}\n");
+    lines += &shown(&expected.list);
+    let mut report = vec![0; expected.list.len() + 4096];
+    let answer = reedsander::check_raw(sheet, text, &mut report);
+    lines += &format!(
+        "found with a long report: {} {}\n",
+        answer >> 32,
+        answer as u32
+    );
+    if answer >> 32 == 0 {
+        let listed = entries(&report).take(answer as u32 as usize);
+        let words: usize = listed.map(<[u32]>::len).sum();
+        lines += &shown(&report[..words]);
+    }
+    lines
+}
+
+/// A line an entry.
+fn shown(list: &[u32]) -> String {
+    entries(list)
+        .map(|entry| {
+            let name = reedsander::rules::name(entry[0]).unwrap_or("no rule");
+            format!("  {entry:?} {name}\n")
+        })
+        .collect()
+}
+
+#[cfg(test)]
+mod tests {
+    use super::*;
+
+    #[test]
+    fn nothing_to_shrink() {
+        assert_eq!(shrunk(&[], b"", 0), None);
+        let heading = cases::plain(2, 1);
+        assert_eq!(shrunk(&heading, b"", 6), None);
+        let shown = describe(&heading, b"\n", 6);
+        assert!(shown.starts_with("no difference\nreport words: 6\n"));
+        assert!(shown.contains("wanted: 0 1\n  [10, 0, 0, 0, 1, 0] heading depth\n"));
+        assert!(shown.contains("text: \"\\n\"\n"));
+    }
+}
