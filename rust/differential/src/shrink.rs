@@ -80,25 +80,56 @@ impl Shrinker {
         any
     }
 
-    /// Drops one record and lifts what stands under it.
-    fn lift_children(&mut self) -> bool {
+    /// Takes what one record is and holds for the whole sheet.
+    fn hoist(&mut self) -> bool {
         let mut any = false;
         for at in (0..self.records()).rev() {
-            let mut sheet = self.best.sheet.clone();
-            if at * RECORD_WORDS >= sheet.len() {
+            let Some(level) = self.level(at).filter(|&level| level > 1) else {
                 continue;
+            };
+            let below = |record: &&[u32]| record.get(1).is_some_and(|&below| below > level);
+            let mut records = self.best.sheet.chunks(RECORD_WORDS).skip(at);
+            let first = records.next().into_iter();
+            let mut sheet: Vec<u32> = first
+                .chain(records.take_while(below))
+                .flatten()
+                .copied()
+                .collect();
+            for record in sheet.chunks_mut(RECORD_WORDS) {
+                record[1] -= level - 1;
             }
-            let level = sheet[at * RECORD_WORDS + 1];
-            for record in sheet.chunks_mut(RECORD_WORDS).skip(at + 1) {
-                if record.len() < 2 || record[1] <= level {
-                    break;
-                }
-                record[1] -= 1;
-            }
-            sheet.drain(at * RECORD_WORDS..(at + 1) * RECORD_WORDS);
             any |= self.takes_sheet(sheet);
         }
         any
+    }
+
+    /// Drops a few records and lifts what stands under the first of them: a
+    /// quote, a list with its item, a container with its tags.
+    fn lift_children(&mut self) -> bool {
+        let mut any = false;
+        for (dropped, lifted) in [(1, 1), (2, 2), (3, 1)] {
+            for at in (0..self.records()).rev() {
+                let Some(level) = self.level(at) else {
+                    continue;
+                };
+                let mut sheet = self.best.sheet.clone();
+                let end = sheet.len().min((at + dropped) * RECORD_WORDS);
+                for record in sheet[end..].chunks_mut(RECORD_WORDS) {
+                    if record.len() < 2 || record[1] < level.saturating_add(lifted) {
+                        break;
+                    }
+                    record[1] -= lifted;
+                }
+                sheet.drain(at * RECORD_WORDS..end);
+                any |= self.takes_sheet(sheet);
+            }
+        }
+        any
+    }
+
+    /// The level of a record that is still there.
+    fn level(&self, record: usize) -> Option<u32> {
+        self.best.sheet.get(record * RECORD_WORDS + 1).copied()
     }
 
     /// Shortens each part that a record names, at its end and at its start.
@@ -194,6 +225,7 @@ impl Shrinker {
         loop {
             let mut any = self.drop_records();
             any |= self.cut_words();
+            any |= self.hoist();
             any |= self.lift_children();
             any |= self.shorten_parts();
             any |= self.drop_bytes();
