@@ -3,14 +3,20 @@
 use std::collections::{BTreeMap, HashSet};
 
 use crate::{
-    inlines,
+    checks, inlines,
     leaves::answers,
     sheets,
     texts::{self, strings},
 };
 
-/// No file is longer: the program that replays them reads so many bytes.
-pub const LONGEST: usize = 262_144;
+/// No file but `checks` is longer: the program that replays them reads so
+/// many bytes.
+const LONGEST: usize = 262_144;
+
+/// What every word of a report is before a check, which it must be behind it
+/// too where the check does not write.
+#[cfg(test)]
+pub const BEFORE: u32 = 0xA5A5_A5A5;
 
 /// One stored file.
 #[derive(PartialEq, Eq, Debug)]
@@ -32,6 +38,14 @@ impl File {
         }
     }
 
+    /// How long it may be.
+    pub fn longest(&self) -> usize {
+        match self.name {
+            "checks" => checks::MOST_BYTES,
+            _ => LONGEST,
+        }
+    }
+
     /// Adds a record of these fields.
     fn record(&mut self, fields: &[&[u8]]) {
         self.records += 1;
@@ -43,7 +57,14 @@ impl File {
 
 /// Every file, in the order in which they are written.
 pub fn all() -> Vec<File> {
-    let others = [pairs(), punctuation(), parts(), sheets(), inlines()];
+    let others = [
+        pairs(),
+        punctuation(),
+        parts(),
+        sheets(),
+        inlines(),
+        checks(),
+    ];
     text_files().into_iter().chain(others).collect()
 }
 
@@ -222,6 +243,28 @@ fn inlines() -> File {
     file
 }
 
+/// How many words (2 bytes), how many text bytes (2), how many words of the
+/// list (2), how many words of the report (2), the answer (8), the words (4
+/// bytes each), the text, the list (4 bytes each).
+fn checks() -> File {
+    let mut file = File::new("checks");
+    let cases = checks::cases();
+    for case in &cases {
+        file.record(&[
+            &count(case.words.len()),
+            &count(case.text.len()),
+            &count(case.list.len()),
+            &count(case.report_words),
+            &case.answer.to_le_bytes(),
+            &bytes(&case.words),
+            &case.text,
+            &bytes(&case.list),
+        ]);
+    }
+    file.entries = checks::count(&cases);
+    file
+}
+
 #[cfg(test)]
 mod tests {
     use super::*;
@@ -232,11 +275,55 @@ mod tests {
         assert_eq!(files, all());
         for file in &files {
             assert!(
-                file.records > 0 && file.bytes.len() <= LONGEST,
+                file.records > 0 && file.bytes.len() <= file.longest(),
                 "{}",
                 file.name
             );
         }
+    }
+
+    /// Reading the checks back gives what a check does to its report, and
+    /// ends at its end.
+    #[test]
+    fn checks_read_back() {
+        let file = checks();
+        let words = |bytes: &[u8]| -> Vec<u32> {
+            let words = bytes.chunks(4).map(|word| word.try_into().unwrap());
+            words.map(u32::from_le_bytes).collect()
+        };
+        let mut rest = &file.bytes[..];
+        let mut records = 0;
+        while !rest.is_empty() {
+            let (head, after) = rest.split_at(16);
+            let size = |at| usize::from(u16::from_le_bytes([head[at], head[at + 1]]));
+            let answer = u64::from_le_bytes(head[8..].try_into().unwrap());
+            let (sheet, after) = after.split_at(4 * size(0));
+            let (text, after) = after.split_at(size(2));
+            let (list, after) = after.split_at(4 * size(4));
+            let mut report = vec![BEFORE; size(6)];
+            let found = check(&words(sheet), text, &mut report);
+            assert_eq!(found, answer);
+            let (front, behind) = report.split_at(size(4));
+            assert_eq!(front, words(list));
+            assert!(behind.iter().all(|&word| word == BEFORE));
+            records += 1;
+            rest = after;
+        }
+        assert_eq!(records, file.records);
+    }
+
+    /// A check as document 01 has it.
+    fn check(sheet: &[u32], text: &[u8], report: &mut [u32]) -> u64 {
+        let (number, record) = oracle::refusal(sheet, text);
+        if number != 0 {
+            return u64::from(number) << 32 | record as u64;
+        }
+        let list = oracle::list(sheet, text);
+        if list.len() > report.len() {
+            return 11 << 32;
+        }
+        report[..list.len()].copy_from_slice(&list);
+        inlines::entries(&list).count() as u64
     }
 
     /// Reading a text file back gives as many records, and ends at its end.

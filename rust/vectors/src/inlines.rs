@@ -10,8 +10,10 @@ mod traps;
 
 use std::collections::{BTreeMap, BTreeSet, HashSet};
 
-use cases::{Numbers, Sheet};
+use cases::Sheet;
 use oracle::RECORD_WORDS;
+
+use crate::sample::{by_turns, even, shuffled, Sampled};
 
 /// The rules of the inline walk.
 pub const RULES: [u32; 22] = [
@@ -54,19 +56,29 @@ impl Case {
         }
     }
 
-    /// How many bytes it takes in the file.
-    fn size(&self) -> usize {
-        HEAD + 4 * self.words.len() + self.text.len() + 4 * self.report.len()
-    }
-
     /// The rules of its entries, in their order.
     pub fn rules(&self) -> impl Iterator<Item = u32> + '_ {
         entries(&self.report).map(|entry| entry[0])
     }
 }
 
+impl Sampled for Case {
+    fn size(&self) -> usize {
+        HEAD + 4 * self.words.len() + self.text.len() + 4 * self.report.len()
+    }
+
+    /// The rules that it reports, each once; 0 where it reports none.
+    fn groups(&self) -> BTreeSet<u32> {
+        let rules: BTreeSet<u32> = self.rules().collect();
+        if rules.is_empty() {
+            return BTreeSet::from([0]);
+        }
+        rules
+    }
+}
+
 /// The entries of a list of report words: the fifth word is the path's length.
-fn entries(list: &[u32]) -> impl Iterator<Item = &[u32]> {
+pub fn entries(list: &[u32]) -> impl Iterator<Item = &[u32]> {
     let mut rest = list;
     std::iter::from_fn(move || {
         let length = 5 + *rest.get(4)? as usize;
@@ -83,73 +95,6 @@ pub fn count<'a>(cases: impl IntoIterator<Item = &'a Case>) -> BTreeMap<u32, usi
         *counts.entry(rule).or_default() += 1;
     }
     counts
-}
-
-/// The list in another order, which a fixed seed gives.
-fn shuffled<T>(mut list: Vec<T>) -> Vec<T> {
-    let mut numbers = Numbers(0x2545_F491_4F6C_DD1D);
-    for at in (1..list.len()).rev() {
-        list.swap(at, numbers.below(at as u32 + 1) as usize);
-    }
-    list
-}
-
-/// One of each list by turns, until all are at their end.
-fn by_turns<T>(lists: Vec<Vec<T>>) -> Vec<T> {
-    let mut lists: Vec<_> = lists.into_iter().map(Vec::into_iter).collect();
-    let longest = lists.iter().map(ExactSizeIterator::len).max().unwrap_or(0);
-    (0..longest)
-        .flat_map(|_| {
-            lists
-                .iter_mut()
-                .filter_map(Iterator::next)
-                .collect::<Vec<_>>()
-        })
-        .collect()
-}
-
-/// Cases of `pool` of at most so many bytes, such that each rule, and no
-/// rule, is reported by about as many of them: the one that is behind takes
-/// its next case, again and again.
-fn even(pool: Vec<Case>, mut bytes: usize) -> Vec<Case> {
-    // 0 is for the cases without an entry.
-    let mut waiting: BTreeMap<u32, Vec<usize>> = BTreeMap::new();
-    for (index, case) in pool.iter().enumerate().rev() {
-        for rule in groups(case) {
-            waiting.entry(rule).or_default().push(index);
-        }
-    }
-    let mut counts: BTreeMap<u32, usize> = waiting.keys().map(|&rule| (rule, 0)).collect();
-    let mut taken = BTreeSet::new();
-    while let Some((&rule, _)) = counts.iter().min_by_key(|(_, &count)| count) {
-        let Some(index) = waiting.get_mut(&rule).and_then(Vec::pop) else {
-            counts.remove(&rule);
-            continue;
-        };
-        if pool[index].size() > bytes {
-            break;
-        }
-        if taken.insert(index) {
-            bytes -= pool[index].size();
-            for rule in groups(&pool[index]) {
-                counts.entry(rule).and_modify(|count| *count += 1);
-            }
-        }
-    }
-    let picked = pool.into_iter().enumerate();
-    picked
-        .filter(|(index, _)| taken.contains(index))
-        .map(|(_, case)| case)
-        .collect()
-}
-
-/// The rules that a case reports, each once; 0 where it reports none.
-fn groups(case: &Case) -> BTreeSet<u32> {
-    let rules: BTreeSet<u32> = case.rules().collect();
-    if rules.is_empty() {
-        return BTreeSet::from([0]);
-    }
-    rules
 }
 
 /// The stored cases, none twice: all traps, a deep tree and a long one, and
@@ -247,20 +192,10 @@ mod tests {
         assert!(sample.iter().map(Case::size).sum::<usize>() <= 20_000);
         assert_eq!(even(pool, usize::MAX).len(), 500);
         let mut counts: BTreeMap<u32, usize> = BTreeMap::new();
-        for rule in sample.iter().flat_map(groups) {
+        for rule in sample.iter().flat_map(Sampled::groups) {
             *counts.entry(rule).or_default() += 1;
         }
         assert_eq!(counts.len(), RULES.len() + 1);
         assert!(counts.values().all(|&count| count >= 2), "{counts:?}");
-    }
-
-    #[test]
-    fn turns() {
-        let lists = vec![vec![1, 2, 3], vec![], vec![4], vec![5, 6]];
-        assert_eq!(by_turns(lists), [1, 4, 5, 2, 6, 3]);
-        let mut list = shuffled((0..100).collect());
-        assert!(!list.is_sorted());
-        list.sort_unstable();
-        assert!(list.into_iter().eq(0..100));
     }
 }

@@ -1,6 +1,6 @@
-//! Writes the stored answers of the Rust reference for the text leaves and the
-//! inline walk, and of a plain reading of document 01 for the refusals, of
-//! Reedsander, the checker of grade notes: `vectors OUTDIR`.
+//! Writes the stored answers of the Rust reference for the text leaves, the
+//! inline walk and whole checks, and of a plain reading of document 01 for the
+//! refusals, of Reedsander, the checker of grade notes: `vectors OUTDIR`.
 //!
 //! The text files `utf8`, `white`, `lines`, `names` and `pipes` hold records
 //! of a length n (1 byte), a mask (2 bytes), answers (2 bytes) and n bytes of
@@ -8,12 +8,23 @@
 //! of the answers is what it answers; see `leaves` for the functions. The
 //! files `pairs`, `punctuation`, `parts`, `sheets` and `inlines` are described
 //! in `files`.
+//!
+//! The file `checks` holds records of four counts (2 bytes each): words of
+//! the sheet, bytes of the text, words of the list, words of the report; then
+//! the answer (8 bytes), the sheet's words (4 bytes each), the text, the
+//! list's words (4 bytes each). Before the call every word of the report is
+//! `files::BEFORE`, A5A5A5A5 hexadecimal. Behind it the report's first words
+//! are the list, and all others are as before; a refusal's list has no words,
+//! so its whole report is as before. A sheet has at most 64 records (768
+//! words), a text 256 bytes, a report 512 words. All numbers are little-endian.
 
 #![forbid(unsafe_code)]
 
+mod checks;
 mod files;
 mod inlines;
 mod leaves;
+mod sample;
 mod sheets;
 mod texts;
 
@@ -39,7 +50,7 @@ fn main() -> ExitCode {
 fn write(folder: &Path) -> std::io::Result<()> {
     fs::create_dir_all(folder)?;
     for file in files::all() {
-        assert!(file.bytes.len() <= files::LONGEST, "{} is long", file.name);
+        assert!(file.bytes.len() <= file.longest(), "{} is long", file.name);
         fs::write(folder.join(file.name), &file.bytes)?;
         println!(
             "{:<12} {:>7} records {:>8} bytes",
