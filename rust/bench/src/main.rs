@@ -5,6 +5,8 @@
 //! a tree that is ready, and the Rust from the sheet: its tree made, checked
 //! and dropped. The medians of all rounds are compared. The Rust's list has
 //! the diagnostics of dropped messages too, and is dropped outside the times.
+//! Its search for line endings is the oracle's plain one: the file that has
+//! its own is not at hand.
 
 #![forbid(unsafe_code)]
 

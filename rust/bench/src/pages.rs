@@ -1,7 +1,7 @@
 //! The pages that are timed.
 
 use reedsander::{
-    tree::{Block, Cell, Inline, Item, Marker, Row},
+    tree::{Attribute, Block, Cell, Inline, Item, Marker, Row},
     Sheet,
 };
 
@@ -48,20 +48,22 @@ pub fn others() -> Vec<Page> {
     all
 }
 
-/// Paragraphs of five inlines of 40 bytes: 20,000 of them would be 120,000
-/// records, so as many as a sheet may have.
+/// Paragraphs of five inlines of 40 bytes, no two alike: 20,000 of them would
+/// be 120,000 records, so as many as a sheet may have.
 fn paragraphs() -> Page {
-    let value = "a cell set under a wrong column is wrong";
-    assert_eq!(value.len(), 40);
     let count = MOST_RECORDS / 6;
-    let blocks: Vec<Block<'_>> = (0..count)
-        .map(|_| {
+    let values: Vec<String> = (0..5 * count)
+        .map(|at| format!("{:.<40}", format!("note {at}")))
+        .collect();
+    let blocks: Vec<Block<'_>> = values
+        .chunks(5)
+        .map(|values| {
             Block::paragraph([
-                Inline::text(value),
-                Inline::code(value),
-                Inline::text(value),
-                Inline::html(value),
-                Inline::text(value),
+                Inline::text(&values[0]),
+                Inline::code(&values[1]),
+                Inline::text(&values[2]),
+                Inline::html(&values[3]),
+                Inline::text(&values[4]),
             ])
         })
         .collect();
@@ -122,7 +124,7 @@ fn long_values() -> Vec<Page> {
     let name = letters.trim_end_matches('-');
     let attribute = long("pass");
     let cell = |inline| Block::table(1, [Row::new([Cell::new([inline])])]);
-    let directive = Block::leaf_directive(name, [reedsander::tree::Attribute::new(&attribute)], []);
+    let directive = Block::leaf_directive(name, [Attribute::new(&attribute)], []);
     vec![
         page("code of 1 MiB in a cell", &[cell(Inline::code(&slashes))]),
         page(
