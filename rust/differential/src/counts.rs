@@ -13,6 +13,8 @@ const REFUSALS: usize = 11;
 pub struct Counts {
     /// Sheets that were compared, each with one report or more.
     pub sheets: u64,
+    /// Sheets that are accepted, with a report that is long enough.
+    pub accepted: u64,
     /// Calls that were accepted, and those of each refusal.
     pub answers: [u64; REFUSALS + 1],
     /// Entries of each rule, once for each sheet; nothing at 0.
@@ -25,6 +27,7 @@ impl Default for Counts {
     fn default() -> Self {
         Self {
             sheets: 0,
+            accepted: 0,
             answers: [0; REFUSALS + 1],
             rules: [0; RULES + 1],
             clean: 0,
@@ -38,7 +41,10 @@ impl Counts {
         for entry in expected.entries() {
             self.rules[entry[0] as usize] += 1;
         }
-        self.clean += u64::from(expected.refusal.0 == 0 && expected.list.is_empty());
+        if expected.refusal.0 == 0 {
+            self.accepted += 1;
+            self.clean += u64::from(expected.list.is_empty());
+        }
     }
 
     pub fn call(&mut self, number: u32) {
@@ -64,12 +70,16 @@ impl Counts {
 
 impl fmt::Display for Counts {
     fn fmt(&self, formatter: &mut fmt::Formatter<'_>) -> fmt::Result {
-        let calls = self.calls();
-        let (accepted, clean) = (self.answers[0], self.clean);
-        writeln!(formatter, "sheets {}, calls {calls}", self.sheets)?;
+        let (sheets, accepted, clean) = (self.sheets, self.accepted, self.clean);
         writeln!(
             formatter,
-            "calls accepted {accepted}, refused {}; accepted sheets without an entry {clean}",
+            "sheets {sheets}: accepted {accepted} ({clean} without an entry), refused {}",
+            sheets - accepted
+        )?;
+        let (calls, accepted) = (self.calls(), self.answers[0]);
+        writeln!(
+            formatter,
+            "calls {calls}: accepted {accepted}, refused {}",
             calls - accepted
         )?;
         line(formatter, "refusal", &self.answers)?;

@@ -43,29 +43,34 @@ fn run(plan: Plan) -> ExitCode {
     let last = plan.seed + plan.trees - 1;
     println!("seeds {} to {last}", plan.seed);
     let mut harness = Harness::new(plan.seed, |shown| println!("{shown}"));
-    let parts: [Part; 5] = [
+    let parts: [Part; 6] = [
         ("limits", Harness::limits),
         ("small sheets", Harness::small),
+        ("all small sheets", Harness::all_small),
         ("random trees", Harness::trees),
         ("damaged trees", Harness::damaged),
         ("reports of every length", Harness::reports),
     ];
     for (name, part) in parts {
-        let (sheets, calls, start) = (
-            harness.counts.sheets,
-            harness.counts.calls(),
-            Instant::now(),
-        );
-        part(&mut harness, plan);
-        println!(
-            "{name}: {} sheets, {} calls, {:.1} s",
-            harness.counts.sheets - sheets,
-            harness.counts.calls() - calls,
-            start.elapsed().as_secs_f64()
-        );
+        timed(name, &mut harness, |harness| part(harness, plan));
     }
     print!("{}", harness.counts);
     verdict(&harness)
+}
+
+/// Runs a part and prints its line.
+fn timed(name: &str, harness: &mut Harness, part: impl FnOnce(&mut Harness)) {
+    let (before, start) = (harness.counts.clone(), Instant::now());
+    part(harness);
+    let counts = &harness.counts;
+    let sheets = counts.sheets - before.sheets;
+    let accepted = counts.accepted - before.accepted;
+    println!(
+        "{name}: {sheets} sheets ({accepted} accepted, {} refused), {} calls, {:.1} s",
+        sheets - accepted,
+        counts.calls() - before.calls(),
+        start.elapsed().as_secs_f64()
+    );
 }
 
 fn verdict(harness: &Harness) -> ExitCode {

@@ -24,9 +24,9 @@ pub struct Plan {
     pub seed: u64,
     /// Random trees, and as many damaged ones.
     pub trees: u64,
-    /// The set of records of the small sheets: the wide one or the narrow one.
-    pub wide: bool,
-    /// Whether the limits are there whose plain reading takes seconds.
+    /// Whether the small sheets are over the wide set of records too, and all
+    /// those over the narrow one are called, also behind what is refused; and
+    /// whether the limits are there whose plain reading takes seconds.
     pub long: bool,
 }
 
@@ -36,7 +36,6 @@ impl Plan {
         Self {
             seed,
             trees: 600_000,
-            wide: true,
             long: true,
         }
     }
@@ -46,7 +45,6 @@ impl Plan {
         Self {
             seed,
             trees: 150_000,
-            wide: false,
             long: false,
         }
     }
@@ -126,17 +124,30 @@ impl Harness {
     /// Every sheet of up to three records over a set, and of up to two behind
     /// each beginning.
     pub fn small(&mut self, plan: Plan) {
-        let letters = match plan.wide {
-            true => templates::wide(),
-            false => templates::narrow(),
-        };
-        let mut spelling = Spelling::new(&letters);
-        let mut see = |sheet: &[u32], text: &[u8]| self.sheet("small sheets", sheet, text);
-        see(&[], &[]);
-        spelling.sheets(&nothing(), 3, &mut see);
-        for beginning in beginnings() {
-            spelling.sheets(&beginning, 2, &mut see);
+        let sets = [templates::narrow(), templates::wide()];
+        let sets = if plan.long { &sets[..] } else { &sets[..1] };
+        self.sheet("no records", &[], &[]);
+        for letters in sets {
+            let mut spelling = Spelling::new(letters);
+            let mut see = |sheet: &[u32], text: &[u8]| self.sheet("small sheets", sheet, text);
+            spelling.sheets(&nothing(), 3, &mut see);
+            for beginning in beginnings() {
+                spelling.sheets(&beginning, 2, &mut see);
+            }
         }
+    }
+
+    /// Every sheet of up to three records over the narrow set, also those
+    /// that begin with a sheet that is refused.
+    pub fn all_small(&mut self, plan: Plan) {
+        if !plan.long {
+            return;
+        }
+        let mut see = |sheet: &[u32], text: &[u8]| {
+            self.sheet("all small sheets", sheet, text);
+            true
+        };
+        Spelling::new(&templates::narrow()).sheets(&nothing(), 3, &mut see);
     }
 
     /// Random trees, one in four of them deep.
