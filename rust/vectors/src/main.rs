@@ -16,7 +16,8 @@
 //! `files::BEFORE`, A5A5A5A5 hexadecimal. Behind it the report's first words
 //! are the list, and all others are as before; a refusal's list has no words,
 //! so its whole report is as before. A sheet has at most 64 records (768
-//! words), a text 256 bytes, a report 512 words. All numbers are little-endian.
+//! words), a text 256 bytes, a report 512 words: a record's first 16 bytes say
+//! how many follow, at most 5,376. All numbers are little-endian.
 
 #![forbid(unsafe_code)]
 
