@@ -45,6 +45,31 @@ impl Sheet {
         self.words.len() / RECORD_WORDS
     }
 
+    /// The record that an entry's path leads to, counted from 0: a block, an
+    /// item, a row or a cell. None where the path leads nowhere.
+    pub fn record_at(&self, path: &[u32]) -> Option<usize> {
+        let mut found = None;
+        let mut records = 0..self.records();
+        for (level, &index) in (1..).zip(path) {
+            let at = |record: &usize| {
+                let words = &self.words[record * RECORD_WORDS..];
+                is_counted(words[0]) && words[1] == level
+            };
+            let record = records.clone().filter(at).nth(index as usize)?;
+            found = Some(record);
+            records = record + 1..self.end(record);
+        }
+        found
+    }
+
+    /// Where the record and what is under it ends.
+    fn end(&self, record: usize) -> usize {
+        let level = |record: usize| self.words[record * RECORD_WORDS + 1];
+        let mut later = record + 1..self.records();
+        let next = later.find(|&later| level(later) <= level(record));
+        next.unwrap_or(self.records())
+    }
+
     /// Checks it; see [`check_to_vec`].
     pub fn check(&self) -> Result<Report, Refusal> {
         check_to_vec(&self.words, &self.text)
@@ -55,6 +80,11 @@ impl Sheet {
     pub fn check_into<'r>(&self, report: &'r mut [u32]) -> Result<Entries<'r>, Refusal> {
         check(&self.words, &self.text, report)
     }
+}
+
+/// Paths count blocks, items, rows and cells.
+fn is_counted(kind: u32) -> bool {
+    matches!(kind, 1..=17 | 20..=22)
 }
 
 #[derive(Default)]

@@ -2,7 +2,7 @@
 
 use reedsander::{
     check, check_raw, check_to_vec, listing,
-    tree::{Block, Cell, Inline, Item, Marker, Row},
+    tree::{Attribute, Block, Cell, HtmlTag, Inline, Item, Marker, Row},
     Answer, Refusal, Sheet, RECORD_WORDS,
 };
 
@@ -139,6 +139,35 @@ fn wrong_cell_count() {
         ]
     );
     assert_eq!(report.words().len(), 9 + 10);
+    // The row and the cell that the paths lead to.
+    let kind = |path: &[u32]| {
+        let record = sheet.record_at(path)?;
+        Some(sheet.words()[record * RECORD_WORDS])
+    };
+    let paths: Vec<&[u32]> = report.entries().map(|entry| entry.path).collect();
+    assert_eq!(sheet.record_at(paths[0]), Some(9));
+    assert_eq!(kind(paths[0]), Some(21));
+    assert_eq!(kind(paths[1]), Some(22));
+    assert_eq!(kind(&[0]), Some(3));
+    assert_eq!(kind(&[1]), Some(6));
+    assert_eq!(kind(&[1, 0]), Some(20));
+    for nowhere in [&[][..], &[2], &[0, 0], &[1, 1], &[1, 0, 0, 3], &[u32::MAX]] {
+        assert_eq!(sheet.record_at(nowhere), None);
+    }
+}
+
+/// Tags, attributes and inlines are not counted in paths.
+#[test]
+fn paths_past_what_is_not_counted() {
+    let tag = || HtmlTag::new("x", "x");
+    let heading = Block::heading(0, []);
+    let label = [Inline::text("x"), Inline::text("y")];
+    let directive = Block::container_directive("x", [Attribute::new("a")], label, [heading]);
+    let sheet = Sheet::new(&[Block::html_of_blocks(tag(), tag(), [directive])]);
+    let report = sheet.check().unwrap();
+    let entry = report.entries().next().unwrap();
+    assert_eq!((entry.rule, entry.path), (10, &[0, 0, 0][..]));
+    assert_eq!(sheet.record_at(entry.path), Some(sheet.records() - 1));
 }
 
 /// More words than the first report has.
