@@ -24,9 +24,9 @@ pub struct Plan {
     pub seed: u64,
     /// Random trees, and as many damaged ones.
     pub trees: u64,
-    /// Whether the small sheets are over the wide set of records too, and all
-    /// those over the narrow one are called, also behind what is refused; and
-    /// whether the limits are there whose plain reading takes seconds.
+    /// Whether the small sheets are over the wide set of records too, also
+    /// behind what is refused; and whether the limits are there whose plain
+    /// reading takes seconds.
     pub long: bool,
 }
 
@@ -137,8 +137,8 @@ impl Harness {
         }
     }
 
-    /// Every sheet of up to three records over the narrow set, also those
-    /// that begin with a sheet that is refused.
+    /// Every sheet of up to three records over the wide set, also those that
+    /// begin with a sheet that is refused.
     pub fn all_small(&mut self, plan: Plan) {
         if !plan.long {
             return;
@@ -147,7 +147,7 @@ impl Harness {
             self.sheet("all small sheets", sheet, text);
             true
         };
-        Spelling::new(&templates::narrow()).sheets(&nothing(), 3, &mut see);
+        Spelling::new(&templates::wide()).sheets(&nothing(), 3, &mut see);
     }
 
     /// Random trees, one in four of them deep.
