@@ -1,6 +1,6 @@
 //! One call, and what of it differs.
 
-use std::fmt;
+use std::{fmt, hint::black_box};
 
 use crate::expected::Expected;
 
@@ -48,7 +48,8 @@ pub fn differ(
     if found != wanted {
         return Some(Difference::Answer { wanted, found });
     }
-    if lent != (sheet.to_vec(), text.to_vec()) {
+    // What is lent to be read must not be taken for unchanged unread.
+    if lent != (black_box(sheet).to_vec(), black_box(text).to_vec()) {
         return Some(Difference::Lent);
     }
     let changed = expected.changed(report_words);
