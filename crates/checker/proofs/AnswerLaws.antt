@@ -98,11 +98,18 @@ judged-record w bytes = go (ltb mostRecords (recordsOf w)) refl
         rw e (either (not (eqb (length w % recordWords) 0)) OddSheet (if ltb mostBytes (length bytes) then LongText else judged) 65535 (omega arith) (either (ltb mostBytes (length bytes)) LongText judged 65535 (omega arith) three))
 
 -- ---- the value of an answer
-pub value-small : (w bytes x : List ℕ) → length x * 4 < 2 ^ 63 → answerValue (outcome w bytes x .0) < 2 ^ 62
+value-most : (w bytes x : List ℕ) → answerValue (outcome w bytes x .0) ≤ 65535 + length x
 unfolding outcome
-value-small w bytes x room = go (isAccepted (judgeSheet w bytes)) refl (ltb (length x) (length (flat (validateDocument w bytes)))) refl
+value-most w bytes x = go (isAccepted (judgeSheet w bytes)) refl (ltb (length x) (length (flat (validateDocument w bytes)))) refl
   where
-    go : (b : Bool) → isAccepted (judgeSheet w bytes) ≡ b → (c : Bool) → ltb (length x) (length (flat (validateDocument w bytes))) ≡ c → answerValue (outcome w bytes x .0) < 2 ^ 62
+    go : (b : Bool) → isAccepted (judgeSheet w bytes) ≡ b → (c : Bool) → ltb (length x) (length (flat (validateDocument w bytes))) ≡ c → answerValue (outcome w bytes x .0) ≤ 65535 + length x
     go false e c f = rw e (omega (arith, judged-record w bytes))
     go true e true f = rw (e, f) (omega arith)
     go true e false f = let l = ltb-false (length x) (length (flat (validateDocument w bytes))) f in rw (e, f) (omega (arith, few-entries (validateDocument w bytes)))
+
+pub value-small : (w bytes x : List ℕ) → length x * 4 < 2 ^ 63 → answerValue (outcome w bytes x .0) < 2 ^ 62
+value-small w bytes x room = omega (arith, value-most w bytes x)
+
+-- in a report that has fewer than 2^32 - 65535 words
+pub value-word : (w bytes x : List ℕ) → 65535 + length x < 2 ^ 32 → answerValue (outcome w bytes x .0) < 2 ^ 32
+value-word w bytes x room = omega (arith, value-most w bytes x)

@@ -64,10 +64,6 @@ nodes-turn bytes before {path} {w} {n} {from} {level} {i = i} v {r = r} {f} {b} 
     let k′ : Done w n (i + 1) (recordAt w i .level) _ _ _ q _ = rw e at k in
     rw (l′, k′ .next) (loop-turn v (skip-tree w n from level (v .at) h d′) (nodes-step bytes path before w n i level h d′) (k′ .lists) o)
 
--- it goes on behind where it stood
-pub nodes-down : {w : List ℕ} {n i level : ℕ} {es : List Entry} {s : Tally} {x y : List ℕ} {q : Walked} → i < n → Done w n (i + 1) level es s x q y → n - q .next < n - i
-nodes-down {i = i} {q = q} b d = let f : i < q .next = rw (d .next) (omega arith) in omega arith
-
 -- `validate_inlines`
 pub inlines-done : (bytes path : List ℕ) {w : List ℕ} {n from level : ℕ} {s t : Tally} {x y z : List ℕ} {q : Walked} → Lists s t x y (finalBreak path (under w n from level)) → Done w n from level (validateInlineNodesAfter bytes path 0 (under w n from level)) t y q z → Done w n from level (validateInlines bytes path (under w n from level)) s x q z
 unfolding validateInlines validateInlineNodes

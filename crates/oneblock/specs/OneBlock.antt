@@ -9,13 +9,12 @@ use Rattle.sheet.specs.Forest.{Forest}
 use Rattle.report.specs.Report.{Entry, _⊕_}
 use Rattle.sheet.specs.declared.records.Rec.{Rec}
 use Rattle.sheet.specs.declared.records.Span.{Span}
-use Rattle.checks.specs.Rules
 use Rattle.inlines.specs.Inlines.{validateInlines}
 use Rattle.heads.specs.Heads.{validateHeading, validateAlert, validateCodeBlock, validateFrontmatter, validateDefinition}
 use Rattle.containers.specs.Tags.{validateHtmlContainer}
 use Rattle.containers.specs.Footnotes.{validateFootnoteDefinition}
 use Rattle.containers.specs.Lists.{validateList}
-use Rattle.prose.specs.Prose.{validateParagraph, validateDirective}
+use Rattle.prose.specs.Prose.{validateParagraph, validateLeafDirective, validateContainerDirective}
 use Rattle.tables.specs.Tables.{validateTable}
 
 -- Blocks that hold neither blocks nor parts of their own. Thematic breaks, HTML blocks, math blocks and blank lines have no message that is kept.
@@ -32,7 +31,7 @@ validateLeaf bytes path r kids =
     else if eqb (r .kind) frontmatter
     then validateFrontmatter bytes path (r .span) (r .level) (r .a) (r .first)
     else if eqb (r .kind) leafDirective
-    then validateDirective bytes path Rules.breakInLeafLabel (r .span) (r .first) kids
+    then validateLeafDirective bytes path (r .span) (r .first) kids
     else []
 
 -- `validate_html_container`: its tags, and its inlines where it holds inlines (A is not 0)
@@ -49,7 +48,7 @@ validateContainer bytes path r kids =
     else if eqb (r .kind) htmlContainer
     then validateHtml bytes path (r .span) (r .a) kids
     else if eqb (r .kind) containerDirective
-    then validateDirective bytes path Rules.breakInContainerLabel (r .span) (r .first) kids
+    then validateContainerDirective bytes path (r .span) (r .first) kids
     else validateLeaf bytes path r kids
 
 -- Blocks that report at the paths of what they hold, and the others.

@@ -21,10 +21,18 @@ unfoldable pub beforeBlocks : Forest → Forest
 beforeBlocks none = none
 beforeBlocks (tree r kids rest) = let later = tree r kids (beforeBlocks rest) in if isBlock (r .kind) then none else later
 
--- `validate_leaf_directive`, and `validate_container_directive` up to its blocks: 54, 55, the label's inlines, and 22 or 23 as the rule says. Each passes over what it does not ask of: 55 over inlines, the others over attributes.
+-- A directive up to its blocks: 54, 55, the label's inlines, and the rule for each break in the label. Each passes over what it does not ask of: 55 over inlines, the others over attributes.
 unfoldable pub validateDirective : List ℕ → List ℕ → ℕ → Span → Text → Forest → List Entry
 validateDirective bytes path rule span name kids =
     validateDirectiveName bytes path span name
     ⊕ validateDirectiveAttributes bytes path (beforeBlocks kids)
     ⊕ validateInlines bytes path (beforeBlocks kids)
     ⊕ validateOneLine rule path (beforeBlocks kids)
+
+-- `validate_leaf_directive`: 22 for breaks
+abbrev pub validateLeafDirective : List ℕ → List ℕ → Span → Text → Forest → List Entry
+validateLeafDirective bytes path span name kids = validateDirective bytes path Rules.breakInLeafLabel span name kids
+
+-- `validate_container_directive`, up to its blocks: 23 for breaks
+abbrev pub validateContainerDirective : List ℕ → List ℕ → Span → Text → Forest → List Entry
+validateContainerDirective bytes path span name kids = validateDirective bytes path Rules.breakInContainerLabel span name kids

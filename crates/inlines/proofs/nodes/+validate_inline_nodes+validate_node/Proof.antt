@@ -6,8 +6,8 @@ use borrow.Author.Needs.{needs}
 use borrow.Fn.Kind.{PK}
 use Rattle.sheet.specs.Forest.{under}
 use Rattle.inlines.specs.Inlines.{validateInlineNodesAfter}
-use Rattle.inlines.proofs.NodeLaws.{node-done, node-falls, node-here, node-other, nodes-down, nodes-none, nodes-turn}
-use Rattle.walks.proofs.WalkLaws.{Loop, loop-end, loop-out, loop-start}
+use Rattle.inlines.proofs.NodeLaws.{node-done, node-falls, node-here, node-other, nodes-none, nodes-turn}
+use Rattle.walks.proofs.WalkLaws.{Loop, done-down, loop-end, loop-out, loop-start}
 use borrow.Fn.Kinds.{In}
 use borrow.Fn.PlainCycle.{Measures, is, falls, and}
 use Rattle.inlines.proofs.nodes.validate_inline_nodes.Reads as validate-inline-nodes
@@ -62,7 +62,7 @@ validate-inline-nodes-met M t =
     (λ c κs. let f = node-falls (c .before .before .before .before .before .loop .inv) (search needs) (c .before .before .before .record-at .ensures) (c .before .if1 .left) in let m = c .before .before .before .before .before .before .before .before .before .before .pre .0 in (omega arith, node-here (c .before .before .before .before .before .loop .inv) (search needs) (c .before .before .before .record-at .ensures)))
     (λ c κs. search needs)
     (λ c κs. search needs)
-    (λ c. nodes-down (search needs) (c .before .before .before .before .before .validate-node .ensures))
+    (λ c. done-down (search needs) (c .before .before .before .before .before .validate-node .ensures))
     (λ c. nodes-turn _ _ (c .before .before .before .before .before .before .before .before .before .before .before .loop .inv) (search needs) (c .before .before .before .before .before .before .before .before .before .record-at .ensures) (c .before .before .before .before .before .before .before .if1 .left) (c .before .before .before .before .before .validate-node .ensures) (c .before .before .is-inline .ensures) (c .before .pick .ensures) (search needs))
     (λ c. search needs)
     (λ c. loop-end (c .before .loop .inv) (nodes-none _ _ _) (search needs))
