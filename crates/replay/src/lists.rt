@@ -1,13 +1,14 @@
 // Sheets of one paragraph with what the Rust lists of its inlines.
-use crate::read;
-use crate::sheets::fill;
-use crate::tally::Tally;
 use crate::texts;
 use inlines::nodes::validate_inlines;
 use refusal::judge;
 use refusal::judge::Judged;
 use report::entries;
 use sheet::records::RECORD_WORDS;
+use stored::read;
+use stored::tally::Tally;
+use stored::words;
+use stored::words::fill;
 use strings::part::part;
 
 // How many bytes stand before a record's words: how many words the sheet has, how many bytes its text, how many words the list.
@@ -40,18 +41,6 @@ fn listed_of(words: &[u32], n: usize, text: &[u8], report: &mut [u32]) -> usize 
     listed(&words[..n], text, report)
 }
 
-// Whether the words are those whose bytes are given, and 0 behind them.
-fn same_words(words: &[u32], s: &[u8]) -> bool {
-    let mut k: usize = 0;
-    while k < words.len() {
-        if words[k] != read::number(s, k * 4) {
-            return false;
-        }
-        k = k + 1;
-    }
-    true
-}
-
 // The length of the list is compared, and each word of the report: behind the list it stays 0.
 fn replay_record(r: &[u8], tally: Tally) -> Tally {
     let mut words = [0u32; MOST];
@@ -65,7 +54,7 @@ fn replay_record(r: &[u8], tally: Tally) -> Tally {
     tally
         .record()
         .compare((n <= MOST) & (found == m))
-        .compare(same_words(&report, expected))
+        .compare(words::same(&report, expected, 0))
 }
 
 pub fn replay(s: &[u8]) -> Tally {

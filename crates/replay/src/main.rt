@@ -1,28 +1,13 @@
 // Replays the stored answers in data/ (rust/vectors writes them) and counts what differs: the Rust's for the text
 // leaves and the inline walk, and those of a plain reading of document 01 for the refusals.
 mod lists;
-mod read;
 mod sheets;
-mod tally;
 mod texts;
 mod values;
 
 use libc::STDOUT_FILENO;
-use tally::Tally;
-
-fn write_number(n: u64) {
-    io::write_all(STDOUT_FILENO, b" ");
-    io::print_decimal(STDOUT_FILENO, n);
-}
-
-// A line: the name, records, answers compared, answers that differ.
-fn write_line(name: &[u8], t: Tally) {
-    io::write_all(STDOUT_FILENO, name);
-    write_number(t.records);
-    write_number(t.compared);
-    write_number(t.differ);
-    io::write_all(STDOUT_FILENO, b"\n");
-}
+use stored::line::write_line;
+use stored::tally::Tally;
 
 enum Format {
     Texts,

@@ -1,21 +1,13 @@
 // Sheets with the refusal that a plain reading of document 01 gives each.
 ghost use Prim.Native.Nat.{_≤_};
-use crate::read;
-use crate::tally::Tally;
 use crate::texts;
 use refusal::judge::Judged;
+use stored::read;
+use stored::tally::Tally;
+use stored::words::fill;
 
 // How many bytes stand before a record's words: two counts, the number, and its record.
 const HEAD: usize = 7;
-
-// The words of a sheet from their bytes.
-pub fn fill(words: &mut [u32], s: &[u8]) {
-    let mut k: usize = 0;
-    while k < words.len() {
-        words[k] = read::number(s, k * 4);
-        k = k + 1;
-    }
-}
 
 fn words_of(r: &[u8]) -> usize
     ensures { λ n. ⌜ n ≤ 65535 ⌝ }

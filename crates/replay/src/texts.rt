@@ -1,7 +1,7 @@
 // Texts with the answers of each function that takes one.
-use crate::read;
-use crate::tally::Tally;
 use multiline::fence::FrontmatterKind;
+use stored::read;
+use stored::tally::Tally;
 ghost use Prim.Native.Nat.{_≤_};
 
 fn flag(yes: bool, weight: u32) -> u32

@@ -1,7 +1,7 @@
 // Pairs of texts, scalar values, and parts of a text.
-use crate::read;
-use crate::tally::Tally;
 use crate::texts;
+use stored::read;
+use stored::tally::Tally;
 
 // A record: the two lengths, the answer, the two texts.
 fn replay_pair(r: &[u8], tally: Tally) -> Tally {

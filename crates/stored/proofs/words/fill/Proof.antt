@@ -1,11 +1,11 @@
--- `replay::sheets::fill` meets its contract.
+-- `stored::words::fill` meets its contract.
 use Prim.Native.Nat.{_-_}
 use borrow.Author.Needs.{needs}
 use lib.ListN.{length, length-set}
 use mathlib.Core.Path.{_≡_}
 use native.Mathlib.Omega.{arith}
-use Rattle.replay.proofs.sheets.fill.Statement.{statement}
-use Rattle.replay.proofs.sheets.fill.Tie as tie
+use Rattle.stored.proofs.words.fill.Statement.{statement}
+use Rattle.stored.proofs.words.fill.Tie as tie
 
 abbrev Inv-loop : tie.InvT-loop
 Inv-loop words₀ s k₀ words k = length words ≡ length words₀
