@@ -1,6 +1,7 @@
 //! Writes the stored answers of the Rust reference for the text leaves, the
 //! inline walk and whole checks, and of a plain reading of document 01 for the
-//! refusals, of Reedsander, the checker of grade notes: `vectors OUTDIR`.
+//! refusals, of Reedsander, the checker of grade notes: `vectors CRATES`. Each
+//! file goes to the data of the program in that folder that replays it.
 //!
 //! The text files `utf8`, `white`, `lines`, `names` and `pipes` hold records
 //! of a length n (1 byte), a mask (2 bytes), answers (2 bytes) and n bytes of
@@ -34,7 +35,7 @@ use std::{env, fs, path::Path, process::ExitCode};
 fn main() -> ExitCode {
     let arguments: Vec<_> = env::args_os().skip(1).collect();
     let [folder] = &arguments[..] else {
-        eprintln!("usage: vectors OUTDIR");
+        eprintln!("usage: vectors CRATES");
         return ExitCode::FAILURE;
     };
     match write(Path::new(folder)) {
@@ -46,12 +47,13 @@ fn main() -> ExitCode {
     }
 }
 
-/// Writes every file into `folder`, and prints a line for each, and under it
+/// Writes every file into the data of its program, and prints a line for each, and under it
 /// a line for each rule of its reports.
-fn write(folder: &Path) -> std::io::Result<()> {
-    fs::create_dir_all(folder)?;
+fn write(crates: &Path) -> std::io::Result<()> {
     for file in files::all() {
         assert!(file.bytes.len() <= file.longest(), "{} is long", file.name);
+        let folder = crates.join(program(file.name)).join("data");
+        fs::create_dir_all(&folder)?;
         fs::write(folder.join(file.name), &file.bytes)?;
         println!(
             "{:<12} {:>7} records {:>8} bytes",
@@ -64,4 +66,12 @@ fn write(folder: &Path) -> std::io::Result<()> {
         }
     }
     Ok(())
+}
+
+/// The program that replays a file.
+fn program(file: &str) -> &'static str {
+    match file {
+        "checks" => "recheck",
+        _ => "replay",
+    }
 }
