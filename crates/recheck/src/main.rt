@@ -2,59 +2,39 @@
 mod record;
 
 use stored::line::write_line;
+use stored::piece::Got;
+use stored::piece::Step;
+use stored::piece::last;
+use stored::piece::next;
+use stored::piece::read_at;
 use stored::tally::Tally;
 use strings::part::part;
 
-// How many bytes a head has, and at most what stands behind it.
-const HEAD: usize = 16;
-
-const MOST: usize = 5376;
+// The most bytes of a record.
+const MOST: usize = 5392;
 
 // Far more records than the file has.
 const RECORDS: usize = 0x10_0000;
 
-// The tally, and whether another record may follow.
-struct Step {
-    more: bool,
-    tally: Tally,
-}
-
-// The file ended, or nothing behind this can be read.
-fn last(tally: Tally) -> Step {
-    Step { more: false, tally }
-}
-
-// What stands behind the head is read and replayed; a file that ends in it counts as a difference.
-fn replay_behind(fd: i32, head: &[u8], body: &mut [u8], tally: Tally) -> Step {
-    let n = record::behind(head);
-    if body.len() < n {
+// A file that ends inside a record, and counts past their limits, count as a difference.
+fn replay_behind(fd: i32, buffer: &mut [u8], tally: Tally) -> Step {
+    if !record::fits(buffer) {
         return last(tally.differs());
     }
-    let got = io::read_full(fd, &mut body[..n]);
-    if got < n {
-        return last(tally.differs());
-    }
-    Step {
-        more: true,
-        tally: record::replay_record(head, part(body, 0, n), tally),
+    let n = record::behind(buffer);
+    match read_at(fd, buffer, record::HEAD, n) {
+        Got::All => next(record::replay_record(part(buffer, 0, record::HEAD + n), tally)),
+        _ => last(tally.differs()),
     }
 }
 
-// A file that ends in a head, or counts past their limits, count as a difference.
 fn replay_next(fd: i32, tally: Tally) -> Step {
-    let mut head = [0u8; HEAD];
-    let mut body = [0u8; MOST];
-    let got = io::read_full(fd, &mut head);
-    if got == 0 {
-        return last(tally);
+    let mut buffer = [0u8; MOST];
+    match read_at(fd, &mut buffer, 0, record::HEAD) {
+        Got::All => replay_behind(fd, &mut buffer, tally),
+        Got::Nothing => last(tally),
+        Got::Less => last(tally.differs()),
     }
-    if got < HEAD {
-        return last(tally.differs());
-    }
-    if record::fits(&head) {
-        return replay_behind(fd, &head, &mut body, tally);
-    }
-    last(tally.differs())
 }
 
 // A file that does not end counts as a difference.

@@ -6,28 +6,35 @@ use stored::tally::Tally;
 use stored::words;
 use strings::part::part;
 
-// The most words of a sheet, bytes of a text and words of a report.
+// How many bytes the head has.
+pub const HEAD: usize = 16;
+
+// The most words of a sheet.
 const SHEET: usize = 768;
 
+// The most bytes of a text.
 const TEXT: usize = 256;
 
+// The most words of a report.
 const REPORT: usize = 512;
 
 // Every word of the report before the check.
 const BEFORE: u32 = 0xA5A5_A5A5;
 
 // Whether the counts are within their limits.
-pub fn fits(head: &[u8]) -> bool {
-    let report = read::pair(head, 6);
-    (read::pair(head, 0) <= SHEET)
-        & (read::pair(head, 2) <= TEXT)
-        & (read::pair(head, 4) <= report)
+pub fn fits(r: &[u8]) -> bool {
+    let report = read::pair(r, 6);
+    (read::pair(r, 0) <= SHEET)
+        & (read::pair(r, 2) <= TEXT)
+        & (read::pair(r, 4) <= report)
         & (report <= REPORT)
 }
 
 // How many bytes stand behind the head.
-pub fn behind(head: &[u8]) -> usize {
-    read::pair(head, 0) * 4 + read::pair(head, 2) + read::pair(head, 4) * 4
+pub fn behind(r: &[u8]) -> usize
+    ensures { λ n. ⌜ n ≤ 589815 ⌝ }
+{
+    read::pair(r, 0) * 4 + read::pair(r, 2) + read::pair(r, 4) * 4
 }
 
 // The answer for the first `n` words as the sheet and the first `m` as the report, as the exported function gives it; the largest number, which is no answer, where there are fewer.
@@ -42,17 +49,17 @@ fn answer(words: &[u32], n: usize, text: &[u8], report: &mut [u32], m: usize) ->
 }
 
 // The answer is compared, and each word of the report: behind the list it stays as it was, past the report's end too.
-pub fn replay_record(head: &[u8], body: &[u8], tally: Tally) -> Tally {
+pub fn replay_record(r: &[u8], tally: Tally) -> Tally {
     let mut words = [0u32; SHEET];
     let mut report = [BEFORE; REPORT];
-    let n = read::pair(head, 0);
-    let bytes = read::pair(head, 2);
-    words::fill(&mut words, part(body, 0, n * 4));
-    let list = part(body, n * 4 + bytes, read::pair(head, 4) * 4);
-    let text = part(body, n * 4, bytes);
-    let found = answer(&words, n, text, &mut report, read::pair(head, 6));
+    let n = read::pair(r, 0);
+    let bytes = read::pair(r, 2);
+    words::fill(&mut words, part(r, HEAD, n * 4));
+    let list = part(r, HEAD + n * 4 + bytes, read::pair(r, 4) * 4);
+    let text = part(r, HEAD + n * 4, bytes);
+    let found = answer(&words, n, text, &mut report, read::pair(r, 6));
     tally
         .record()
-        .compare(found == read::long_number(head, 8) as u64)
+        .compare(found == read::long_number(r, 8) as u64)
         .compare(words::same(&report, list, BEFORE))
 }
