@@ -1,5 +1,5 @@
 // Sheets of one paragraph with what the Rust lists of its inlines.
-use crate::texts;
+ghost use Prim.Native.Nat.{_≤_};
 use inlines::nodes::validate_inlines;
 use refusal::judge;
 use refusal::judge::Judged;
@@ -12,7 +12,13 @@ use stored::words::fill;
 use strings::part::part;
 
 // How many bytes stand before a record's words: how many words the sheet has, how many bytes its text, how many words the list.
-const HEAD: usize = 6;
+pub const HEAD: usize = 6;
+
+pub fn behind(r: &[u8]) -> usize
+    ensures { λ n. ⌜ n ≤ 589815 ⌝ }
+{
+    read::pair(r, 0) * 4 + read::pair(r, 2) + read::pair(r, 4) * 4
+}
 
 // How many words the sheet and the list may have.
 const MOST: usize = 800;
@@ -42,7 +48,7 @@ fn listed_of(words: &[u32], n: usize, text: &[u8], report: &mut [u32]) -> usize 
 }
 
 // The length of the list is compared, and each word of the report: behind the list it stays 0.
-fn replay_record(r: &[u8], tally: Tally) -> Tally {
+pub fn replay_record(r: &[u8], tally: Tally) -> Tally {
     let mut words = [0u32; MOST];
     let mut report = [0u32; MOST];
     let n = read::pair(r, 0);
@@ -55,16 +61,4 @@ fn replay_record(r: &[u8], tally: Tally) -> Tally {
         .record()
         .compare((n <= MOST) & (found == m))
         .compare(words::same(&report, expected, 0))
-}
-
-pub fn replay(s: &[u8]) -> Tally {
-    let mut tally = Tally::none();
-    let mut at: usize = 0;
-    while at < s.len() {
-        let head = part(s, at, HEAD);
-        let n = HEAD + read::pair(head, 0) * 4 + read::pair(head, 2) + read::pair(head, 4) * 4;
-        tally = replay_record(part(s, at, n), tally);
-        at = at + n;
-    }
-    texts::ended(at == s.len(), tally)
 }

@@ -1,13 +1,12 @@
 // Sheets with the refusal that a plain reading of document 01 gives each.
 ghost use Prim.Native.Nat.{_≤_};
-use crate::texts;
 use refusal::judge::Judged;
 use stored::read;
 use stored::tally::Tally;
 use stored::words::fill;
 
 // How many bytes stand before a record's words: two counts, the number, and its record.
-const HEAD: usize = 7;
+pub const HEAD: usize = 7;
 
 fn words_of(r: &[u8]) -> usize
     ensures { λ n. ⌜ n ≤ 65535 ⌝ }
@@ -19,6 +18,12 @@ fn text_bytes_of(r: &[u8]) -> usize
     ensures { λ n. ⌜ n ≤ 65535 ⌝ }
 {
     read::pair(r, 2)
+}
+
+pub fn behind(r: &[u8]) -> usize
+    ensures { λ n. ⌜ n ≤ 327675 ⌝ }
+{
+    words_of(r) * 4 + text_bytes_of(r)
 }
 
 // The answer for a stored sheet, whose words are brought to `words`; none where they do not fit.
@@ -33,7 +38,7 @@ fn judged(words: &mut [u32], r: &[u8]) -> Judged {
 }
 
 // Both the number and the record of the answer are compared.
-fn replay_record(r: &[u8], tally: Tally) -> Tally {
+pub fn replay_record(r: &[u8], tally: Tally) -> Tally {
     let mut words = [0u32; 800];
     let answer = judged(&mut words, r);
     let number = refusal::judge::number_of(answer) as usize;
@@ -44,16 +49,4 @@ fn replay_record(r: &[u8], tally: Tally) -> Tally {
         .record()
         .compare(fits & (number == expected))
         .compare(fits & (record == read::pair(r, 5)))
-}
-
-pub fn replay(s: &[u8]) -> Tally {
-    let mut tally = Tally::none();
-    let mut at: usize = 0;
-    while at < s.len() {
-        let head = strings::part::part(s, at, HEAD);
-        let n = HEAD + words_of(head) * 4 + text_bytes_of(head);
-        tally = replay_record(strings::part::part(s, at, n), tally);
-        at = at + n;
-    }
-    texts::ended(at == s.len(), tally)
 }

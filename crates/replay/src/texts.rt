@@ -69,34 +69,23 @@ fn compare_bit(wanted: bool, same: bool, tally: Tally) -> Tally {
     tally
 }
 
-// A record: its length, the mask, the answers, the text.
-fn replay_record(r: &[u8], tally: Tally) -> Tally {
+// How many bytes stand before a record's text: its length, the mask, the answers.
+pub const HEAD: usize = 5;
+
+pub fn behind(r: &[u8]) -> usize
+    ensures { λ n. ⌜ n ≤ 255 ⌝ }
+{
+    read::size(read::byte(r, 0))
+}
+
+pub fn replay_record(r: &[u8], tally: Tally) -> Tally {
     let n = read::size(read::byte(r, 0));
     let both = read::number(r, 1);
-    let text = strings::part::part(r, 5, n);
+    let text = strings::part::part(r, HEAD, n);
     compare(
         both % 0x1_0000,
         both / 0x1_0000,
         answers(text),
         tally.record(),
     )
-}
-
-pub fn replay(s: &[u8]) -> Tally {
-    let mut tally = Tally::none();
-    let mut at: usize = 0;
-    while at < s.len() {
-        let n = read::size(read::byte(s, at)) + 5;
-        tally = replay_record(strings::part::part(s, at, n), tally);
-        at = at + n;
-    }
-    ended(at == s.len(), tally)
-}
-
-// A file that ends inside a record counts as one difference more.
-pub fn ended(whole: bool, tally: Tally) -> Tally {
-    if whole {
-        return tally;
-    }
-    tally.differs()
 }
