@@ -18,6 +18,9 @@ pub place-below : (group column : ℕ) → 10 ≤ group → 0 ≡ getD (getD pla
 unfolding places
 place-below group column h = rw (List·getD-eq-default places [] {n = group} h)
 
+pub place-inside : (table : List (List ℕ)) (group column : ℕ) → table ≡ places → getD (getD table group []) column 0 ≡ getD (getD places group []) column 0
+place-inside table group column e = rw e
+
 pub or-left : (t u : Bool) → (t || u) ≡ false → t ≡ false
 or-left true u e = e
 or-left false u e = refl
@@ -63,4 +66,4 @@ module _ (o : Open) (kind : ℕ) {place : ℕ} (e : place ≡ placeOf (o .group)
   unfolding joined
   joined-other n = rw (e, n)
 
-pub ruleset place-laws = (place-below, place-right, joined-tag, joined-other, eq-eqb, ne-eqb, needs)
+pub ruleset place-laws = (place-below, place-right, place-inside, joined-tag, joined-other, eq-eqb, ne-eqb, needs)

@@ -133,7 +133,15 @@ fn child_group(kind: u32) -> u32
     pick(kinds::is_block(kind), 0, group)
 }
 
-fn place_at(group: u32, column: u32) -> u32
+// The table, made once: what tests a record is lent it.
+pub fn table() -> [[u32; 7]; 10]
+    ensures { λ r. ⌜ r ≡ places ⌝ }
+{
+    PLACES
+}
+
+fn place_at(table: &[[u32; 7]; 10], group: u32, column: u32) -> u32
+    requires { ⌜ now table ≡ places ⌝ }
     ensures { λ r. ⌜ r ≡ getD (getD places group []) column 0 ⌝ }
 {
     if 10 <= group {
@@ -144,13 +152,14 @@ fn place_at(group: u32, column: u32) -> u32
     }
     let p = group as usize;
     let c = column as usize;
-    PLACES[p][c]
+    table[p][c]
 }
 
-fn place_of(group: u32, kind: u32) -> u32
+fn place_of(table: &[[u32; 7]; 10], group: u32, kind: u32) -> u32
+    requires { ⌜ now table ≡ places ⌝ }
     ensures { λ r. ⌜ r ≡ placeOf group kind ⌝ }
 {
-    place_at(group, child_group(kind))
+    place_at(table, group, child_group(kind))
 }
 
 // Under a parent, before its first child.
@@ -165,11 +174,11 @@ pub fn opened(group: u32) -> Open
 }
 
 // The same after one child more.
-pub fn joined(o: Open, kind: u32) -> Open
-    requires { ⌜ misplaced o kind ≡ false ⌝ }
+pub fn joined(table: &[[u32; 7]; 10], o: Open, kind: u32) -> Open
+    requires { ⌜ (now table ≡ places) × (misplaced o kind ≡ false) ⌝ }
     ensures { λ r. ⌜ r ≡ joined o kind ⌝ }
 {
-    let stage = place_of(o.group, kind);
+    let stage = place_of(table, o.group, kind);
     let tag = kind == kinds::HTML_TAG;
     if tag {
         return Open {
@@ -186,10 +195,11 @@ pub fn joined(o: Open, kind: u32) -> Open
 }
 
 // Not allowed there, out of order, a third HTML tag, or content before the second.
-pub fn misplaced(o: Open, kind: u32) -> bool
+pub fn misplaced(table: &[[u32; 7]; 10], o: Open, kind: u32) -> bool
+    requires { ⌜ now table ≡ places ⌝ }
     ensures { λ r. ⌜ r ≡ misplaced o kind ⌝ }
 {
-    let place = place_of(o.group, kind);
+    let place = place_of(table, o.group, kind);
     let container = (o.group == HOLDS_TAGS_AND_BLOCKS) | (o.group == HOLDS_TAGS_AND_INLINES);
     let tag = kind == kinds::HTML_TAG;
     (place == 0) | (place < o.stage) | (tag & (2 <= o.tags)) | (container & !tag & (o.tags < 2))

@@ -9,16 +9,19 @@ use Rattle.refusal.proofs.judge.judge_records.Statement.{statement}
 use Rattle.refusal.proofs.judge.judge_records.Tie as tie
 
 abbrev Inv-loop : tie.InvT-loop
-Inv-loop sheet bytes n open₀ before₀ i₀ «open» before i = Judging sheet bytes n i before «open»
+Inv-loop sheet bytes n table open₀ before₀ i₀ «open» before i = Judging sheet bytes n i before «open»
 
 abbrev μ-loop : tie.MeasureT-loop
-μ-loop sheet bytes n open₀ before₀ i₀ «open» before i = n - i
+μ-loop sheet bytes n table open₀ before₀ i₀ «open» before i = n - i
 
 joined-requires : tie.Need-joined-requires Inv-loop μ-loop
-joined-requires c κs = (judging-passed _ _ _ _ _ _ (search needs) (c .before .before .before .before .before .before .before .loop .inv) (c .before .before .judge .ensures) (c .before .before .before .before .before .record-at .ensures) (c .before .before .before .before .slot-of .ensures .is) (c .before .is-accepted .ensures) (search records-judged)) .place
+joined-requires c κs = (search needs, (judging-passed _ _ _ _ _ _ (search needs) (c .before .before .before .before .before .before .before .before .before .loop .inv) (c .before .before .before .judge .ensures) (c .before .before .before .before .before .before .before .record-at .ensures) (c .before .before .before .before .before .before .slot-of .ensures .is) (c .before .before .is-accepted .ensures) (search records-judged)) .place)
+
+add-i : tie.Need-add-i Inv-loop μ-loop
+add-i c = let p = c .before .before .before .before .before .before .before .before .before .before .before .before .before .before .before .before .before .pre in let h = c .before .before .before .before .before .before .before .before .before .before .before .loop-test .taken in search records-judged
 
 loop-again : tie.Need-loop-again Inv-loop μ-loop
-loop-again c = judging-turn _ _ _ _ _ _ (search needs) (c .before .before .before .before .before .before .before .before .before .before .loop .inv) (c .before .before .before .before .before .judge .ensures) (c .before .before .before .before .before .before .before .before .record-at .ensures) (c .before .before .before .before .before .before .before .slot-of .ensures .is) (c .before .before .before .before .is-accepted .ensures) (not-false _ (c .before .before .before .if1 .left)) (c .opened2 .ensures) (c .before .parent-group .ensures) (c .before .before .joined .ensures)
+loop-again c = judging-turn _ _ _ _ _ _ (search needs) (c .before .before .before .before .before .before .before .before .before .before .before .before .loop .inv) (c .before .before .before .before .before .before .judge .ensures) (c .before .before .before .before .before .before .before .before .before .before .record-at .ensures) (c .before .before .before .before .before .before .before .before .before .slot-of .ensures .is) (c .before .before .before .before .before .is-accepted .ensures) (not-false _ (c .before .before .before .before .if1 .left)) (c .opened2 .ensures) (c .before .parent-group .ensures) (c .before .before .joined .ensures)
 
 pub judge-records-spec : {M : Type 1} → statement M
 judge-records-spec =
@@ -26,6 +29,7 @@ judge-records-spec =
     (tie.spec
     Inv-loop
     μ-loop
+    (λ c κs. search records-judged)
     (λ c κs. search records-judged)
     (λ c. search records-judged)
     (λ c κs. search records-judged)
@@ -43,7 +47,7 @@ judge-records-spec =
     (λ c. search records-judged)
     (λ c. search records-judged)
     (λ c. search records-judged)
-    (λ c. search records-judged)
+    add-i
     (λ c. search records-judged)
     loop-again
     (λ c. search records-judged))
