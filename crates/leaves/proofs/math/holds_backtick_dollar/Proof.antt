@@ -3,20 +3,15 @@ use Rattle.leaves.proofs.Tests.{tests}
 use Prim.Native.Nat.{_-_}
 use Rattle.strings.proofs.Scan.{At}
 use Rattle.leaves.specs.Math.{holdsBacktickDollar}
-use Rattle.leaves.specs.Scans.{tickFrom}
 use lib.ListN.{length}
 use Rattle.leaves.proofs.math.holds_backtick_dollar.Statement.{statement}
 use Rattle.leaves.proofs.math.holds_backtick_dollar.Tie as tie
 
 abbrev Inv-loop : tie.InvT-loop
-Inv-loop s tick₀ i₀ tick i = At (holdsBacktickDollar s) (tickFrom tick) s i
+Inv-loop s i₀ i = At (holdsBacktickDollar s) holdsBacktickDollar s i
 
 abbrev μ-loop : tie.MeasureT-loop
-μ-loop s tick₀ i₀ tick i = length s - i
-
-loop-holds : tie.Need-loop-holds Inv-loop μ-loop
-unfolding tickFrom
-loop-holds c = search tests
+μ-loop s i₀ i = length s - i
 
 pub holds-backtick-dollar-spec : {M : Type 1} → statement M
 holds-backtick-dollar-spec =
@@ -24,9 +19,12 @@ holds-backtick-dollar-spec =
     (tie.spec
     Inv-loop
     μ-loop
-    loop-holds
     (λ c. search tests)
     (λ c. search tests)
+    (λ c. search tests)
+    (λ c. search tests)
+    (λ c. search tests)
+    (λ c κs. search tests)
     (λ c. search tests)
     (λ c. search tests)
     (λ c. search tests)
