@@ -1,0 +1,1 @@
+// The setting machine: its definitions. Its code comes with demand 3.
