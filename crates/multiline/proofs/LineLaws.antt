@@ -2,7 +2,8 @@
 use mathlib.Core.Path.{_≡_, refl, sym, ap, _∙_}
 use mathlib.Core.Bool.{Bool, true, false, _&&_, _||_, and-assoc, and-true, and-false, true≢false, false≢true}
 use mathlib.Core.List.{List, [], _∷_}
-use Prim.Native.Nat.{ℕ, _+_, _<_, _≤_}
+use Prim.Native.Nat.{ℕ, zero, suc, _+_, _-_, _<_, _≤_, zero-le}
+use native.Mathlib.Nat.{le-of-suc-le-suc, not-suc-le-zero}
 use native.Mathlib.Omega.{arith}
 use lib.Dec.{eqb}
 use lib.ListN.{length, getD, drop, drop-of-length-le}
@@ -10,7 +11,7 @@ use borrow.Author.Tests.{eqb-true}
 use Rattle.strings.specs.Bytes.{tab, lf, cr, space, isBlankByte, isLineEndingByte}
 use Rattle.strings.specs.Lists.{if_then_else_, all, firstOr, lastOr}
 use Rattle.multiline.specs.Lines.{startsWith, longer, isCrOfCrlf, lines, isBlank, hasBlankEdgeLine}
-use Rattle.multiline.specs.Scans.{lastBlank, Led}
+use Rattle.multiline.specs.Scans.{lastBlank, Led, Ended}
 use Rattle.strings.proofs.Scan.{At, next}
 use Rattle.strings.proofs.Scan.{scan}
 
@@ -26,6 +27,10 @@ module _ (b : ℕ) (s : List ℕ) where
   pub lines-hold : isCrOfCrlf b s ≡ false → isLineEndingByte b ≡ false → lines (b ∷ s) ≡ longer b (lines s)
   unfolding lines
   lines-hold e f = rw (e, f)
+
+or-left : (t u : Bool) → (t || u) ≡ false → t ≡ false
+or-left true u e = e
+or-left false u e = refl
 
 or-right : (t u : Bool) → (t || u) ≡ false → u ≡ false
 or-right true u e = absurd (true≢false e)
@@ -175,6 +180,41 @@ pub leading-end : (s : List ℕ) (i : ℕ) → length s ≤ i → Leading s i �
 unfolding firstBlank
 leading-end s i h v = record { within = v .within; first = v .first; last = v .last; solid = λ g. absurd (omega arith) }
 
+-- ---- from the back: what stands before a byte that is neither blank nor a line ending tells nothing
+last-at-solid : (last blank : Bool) (b : ℕ) (s : List ℕ) → isBlankByte b ≡ false → isLineEndingByte b ≡ false → lastBlank last blank (b ∷ s) ≡ lastBlank false false s
+unfolding lastBlank
+last-at-solid last blank b s o n = rw (no-cr b s n, n, o, and-false)
+
+last-step : (last blank : Bool) (b : ℕ) (s : List ℕ) → lastBlank last blank (b ∷ s) ≡ lastBlank (if isCrOfCrlf b s then last else if isLineEndingByte b then blank else (blank && isBlankByte b)) (if isCrOfCrlf b s then blank else (isLineEndingByte b || (blank && isBlankByte b))) s
+unfolding lastBlank
+last-step last blank b s = refl
+
+last-after-solid : (s : List ℕ) (at i : ℕ) (last blank : Bool) → at ≤ i → i < length s → isBlankByte (getD s i 0) ≡ false → isLineEndingByte (getD s i 0) ≡ false → lastBlank last blank (drop at s) ≡ lastBlank false false (drop (suc i) s)
+last-after-solid [] at i last blank g h o n = absurd (not-suc-le-zero h)
+last-after-solid (b ∷ s) zero zero last blank g h o n = last-at-solid last blank b s o n
+last-after-solid (b ∷ s) (suc at) zero last blank g h o n = absurd (not-suc-le-zero g)
+last-after-solid (b ∷ s) (suc at) (suc i) last blank g h o n = last-after-solid s at i last blank (le-of-suc-le-suc g) (le-of-suc-le-suc h) o n
+last-after-solid (b ∷ s) zero (suc i) last blank g h o n = last-step last blank b s ∙ last-after-solid s zero i _ _ zero-le (le-of-suc-le-suc h) o n
+
+pub record Back (s : List ℕ) (at i : ℕ) : Type 0 where
+  pub after : at ≤ i
+  pub inside : i < length s
+
+pub back-start : (s : List ℕ) (at : ℕ) → at < length s → Back s at (length s - 1)
+back-start s at h = record { after = omega arith; inside = omega arith }
+
+pub back-turn : (s : List ℕ) (at i : ℕ) → at < i → Back s at i → Back s at (i - 1)
+back-turn s at i h v = record { after = omega arith; inside = omega (arith, v .inside) }
+
+pub back-stop : (s : List ℕ) (at i : ℕ) {t u : Bool} → Back s at i → t ≡ isBlankByte (getD s i 0) → u ≡ isLineEndingByte (getD s i 0) → (t || u) ≡ false → Ended s at i
+back-stop s at i {t} {u} v e f n =
+    let o : isBlankByte (getD s i 0) ≡ false = sym e ∙ or-left t u n in
+    let m : isLineEndingByte (getD s i 0) ≡ false = sym f ∙ or-right t u n in
+    record { within = omega (arith, v .inside); same = last-after-solid s at i true true (v .after) (v .inside) o m ∙ sym (last-after-solid s i i true true (omega arith) (v .inside) o m) }
+
+pub back-end : (s : List ℕ) (at i : ℕ) → i ≤ at → Back s at i → Ended s at i
+back-end s at i h v = let e : i ≡ at = omega (arith, v .after) in record { within = omega (arith, v .inside); same = rw e refl }
+
 -- ---- either line
 module _ (s : List ℕ) (at : ℕ) (v : Led s at) where
   either : (t : Bool) → firstBlank (drop at s) ≡ t → hasBlankEdgeLine s ≡ (t || lastBlank true true (drop at s))
@@ -187,8 +227,8 @@ module _ (s : List ℕ) (at : ℕ) (v : Led s at) where
   pub edge-first : {r : Bool} → at < length s → r ≡ isLineEndingByte (getD s at 0) → r ≡ true → true ≡ hasBlankEdgeLine s
   edge-first h e y = sym (either true (rw (next s at h) (sym (first-ends (getD s at 0) (drop (at + 1) s) e y))))
 
-  pub edge-last : {r q : Bool} → at < length s → r ≡ isLineEndingByte (getD s at 0) → r ≡ false → q ≡ lastBlank true true (drop at s) → q ≡ hasBlankEdgeLine s
-  edge-last h e n f = f ∙ sym (either false (rw (next s at h) (sym (first-solid (getD s at 0) (drop (at + 1) s) e n refl (v .solid h)))))
+  pub edge-last : {r q : Bool} {i : ℕ} → at < length s → r ≡ isLineEndingByte (getD s at 0) → r ≡ false → Ended s at i → q ≡ lastBlank true true (drop i s) → q ≡ hasBlankEdgeLine s
+  edge-last h e n d f = f ∙ sym (d .same) ∙ sym (either false (rw (next s at h) (sym (first-solid (getD s at 0) (drop (at + 1) s) e n refl (v .solid h)))))
 
 -- a loop that begins at `from`
 pub from-at : (s : List ℕ) (i : ℕ) → i ≤ length s → At (lastBlank true true (drop i s)) (lastBlank true true) s i
@@ -203,4 +243,4 @@ pub crlf-long : (s : List ℕ) (i : ℕ) → i + 1 < length s → (eqb (getD s i
 unfolding isCrOfCrlf startsWith
 crlf-long s i h = rw (next s (i + 1) h)
 
-pub ruleset line-laws = (last-turn, last-none, leading-start, leading-turn, leading-stop, leading-end, edge-none, edge-first, edge-last, from-at, crlf-short, crlf-long, scan)
+pub ruleset line-laws = (last-turn, last-none, leading-start, leading-turn, leading-stop, leading-end, back-start, back-turn, back-stop, back-end, edge-none, edge-first, edge-last, from-at, crlf-short, crlf-long, scan)

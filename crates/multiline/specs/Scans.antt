@@ -26,6 +26,11 @@ pub record Led (s : List ℕ) (at : ℕ) : Type 0 where
   pub last : isBlank (lastOr [] (lines s)) ≡ lastBlank true true (drop at s)
   pub solid : at < length s → isBlankByte (getD s at 0) ≡ false
 
+-- the last line of what stands from `at` on is as blank as that of what stands from i on
+pub record Ended (s : List ℕ) (at i : ℕ) : Type 0 where
+  pub within : i ≤ length s
+  pub same : lastBlank true true (drop at s) ≡ lastBlank true true (drop i s)
+
 -- how many bytes of a fence are still to come in the line, after b; 4: the line is no fence
 unfoldable pub fenceLeft : ℕ → ℕ → ℕ → ℕ
 fenceLeft c left b = if eqb left 0 then (if isBlankByte b then 0 else 4) else if eqb b c && leb left 3 then left - 1 else 4

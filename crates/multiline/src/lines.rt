@@ -4,7 +4,7 @@ ghost use Prim.Native.Nat.{_+_, _<_, _≤_};
 ghost use mathlib.Core.Bool.{true};
 ghost use lib.ListN.{length, getD, drop};
 ghost use Rattle.multiline.specs.Lines.{holdsLineEnding, isBlank, isCrOfCrlf, hasBlankEdgeLine};
-ghost use Rattle.multiline.specs.Scans.{lastBlank, Led};
+ghost use Rattle.multiline.specs.Scans.{lastBlank, Led, Ended};
 use strings::bytes;
 use strings::bytes::CR;
 use strings::bytes::LF;
@@ -61,7 +61,7 @@ fn leading_blanks(s: &[u8]) -> usize
     i
 }
 
-// Whether the last line of what stands from `from` on is blank; before it are only spaces and tabs.
+// Whether the last line of what stands from `from` on is blank.
 // `blank` is of the line being read, `last` of the last line that has a byte or an ending.
 fn last_line_is_blank(s: &[u8], from: usize) -> bool
     requires { ⌜ from ≤ length (now s) ⌝ }
@@ -83,7 +83,24 @@ fn last_line_is_blank(s: &[u8], from: usize) -> bool
     last
 }
 
-// Whether the first or the last line is blank; a text with no line counts as a blank one.
+// The last byte after `at` that is neither blank nor a line ending, or `at`: the last line is as blank from there on.
+fn last_solid(s: &[u8], at: usize) -> usize
+    requires { ⌜ at < length (now s) ⌝ }
+    ensures { λ r. ⌜ Ended (now (s .entry)) at r ⌝ }
+{
+    let mut i = s.len() - 1;
+    while at < i {
+        let b = s[i];
+        if !(bytes::is_blank_byte(b) | bytes::is_line_ending_byte(b)) {
+            return i;
+        }
+        i = i - 1;
+    }
+    i
+}
+
+// Whether the first or the last line is blank; a text with no line counts as a blank one. The lines between
+// are not read.
 pub fn has_blank_edge_line(s: &[u8]) -> bool
     ensures { λ r. ⌜ r ≡ hasBlankEdgeLine (now (s .entry)) ⌝ }
 {
@@ -94,5 +111,5 @@ pub fn has_blank_edge_line(s: &[u8]) -> bool
     if bytes::is_line_ending_byte(s[at]) {
         return true;
     }
-    last_line_is_blank(s, at)
+    last_line_is_blank(s, last_solid(s, at))
 }

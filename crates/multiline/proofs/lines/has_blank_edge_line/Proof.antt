@@ -13,4 +13,5 @@ has-blank-edge-line-spec =
     (λ c κs. search line-laws)
     (λ c. search line-laws)
     (λ c κs. search line-laws)
+    (λ c κs. search line-laws)
     (λ c. search line-laws))
