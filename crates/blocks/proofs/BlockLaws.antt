@@ -1,8 +1,8 @@
 -- The walk from block to block: one law for each way through its functions.
-use mathlib.Core.Path.{_≡_, refl, sym, ap, _∙_}
+use mathlib.Core.Path.{_≡_, refl, sym, _∙_}
 use mathlib.Core.Bool.{Bool, true, false, not}
 use mathlib.Core.List.{List, [], _∷_, _++_}
-use Prim.Native.Nat.{ℕ, suc, _+_, _-_, _*_, _<_, _≤_}
+use Prim.Native.Nat.{ℕ, _+_, _-_, _*_, _<_, _≤_}
 use native.Mathlib.Omega.{arith}
 use native.Mathlib.Numerals.{add-one}
 use borrow.Author.Tests.{not-true, not-false, eq-eqb, ne-eqb}
@@ -10,14 +10,14 @@ use lib.Dec.{eqb}
 use lib.ListN.{length, take, set, length-set}
 use Rattle.strings.specs.Lists.{if_then_else_}
 use Rattle.sheet.specs.Kinds.{isBlock, list, blankLine}
-use Rattle.sheet.specs.Sheet.{recordAt, recordsOf}
-use Rattle.sheet.specs.Forest.{Forest, none, tree, deeper, forestOf, under, count, size}
+use Rattle.sheet.specs.Sheet.{recordAt}
+use Rattle.sheet.specs.Forest.{Forest, none, tree, under, count, size}
 use Rattle.sheet.specs.declared.records.Rec.{Rec}
 use Rattle.sheet.proofs.Trees.{under-in}
 use Rattle.report.specs.Report.{Entry, Lists, _⊕_}
 use Rattle.report.specs.declared.entries.Tally.{Tally}
 use Rattle.report.proofs.ReportLaws.{join-assoc, join-none, none-join, lists-none, lists-then}
-use Rattle.walks.specs.Walk.{Start, Begin, Done}
+use Rattle.walks.specs.Walk.{Begin, Done}
 use Rattle.walks.specs.declared.every.Walked.{Walked}
 use Rattle.walks.proofs.WalkLaws.{behindKids, level-of, skip-tree}
 use Rattle.walks.proofs.PathLaws.{Paced, paced-room, paced-own, paced-call, paced-turn, kept-set, kept-below}

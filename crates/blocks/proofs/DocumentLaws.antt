@@ -1,12 +1,11 @@
 -- The whole list: the trees of an accepted sheet are those that a walk from its first record goes through.
-use mathlib.Core.Path.{_≡_, refl, sym, ap, _∙_}
+use mathlib.Core.Path.{_≡_, refl, ap}
 use mathlib.Core.List.{List, []}
-use Prim.Native.Nat.{ℕ, _+_, _<_, _≤_}
+use Prim.Native.Nat.{ℕ, _<_}
 use native.Mathlib.Nat.{sub-zero}
 use native.Mathlib.Omega.{arith}
 use borrow.Author.Tests.{lt-ltb}
-use lib.ListN.{length, take}
-use Rattle.strings.specs.Lists.{if_then_else_}
+use lib.ListN.{length}
 use Rattle.sheet.specs.Sheet.{recordsOf}
 use Rattle.sheet.specs.Forest.{Forest, none, tree, deeper, forestOf, under}
 use Rattle.standing.specs.declared.places.Open.{Open}

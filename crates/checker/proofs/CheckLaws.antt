@@ -1,13 +1,11 @@
 -- The answer of the check, by the tests that lead to it.
 use mathlib.Core.Path.{_≡_, refl, sym, ap, _∙_}
-use mathlib.Core.Bool.{true, false, not}
+use mathlib.Core.Bool.{false}
 use mathlib.Core.List.{List, [], _∷_, _++_}
-use Prim.Native.Nat.{ℕ, zero, suc, min, _+_, _*_, _^_, _<_, _≤_}
+use Prim.Native.Nat.{ℕ, _*_, _^_, _<_, _≤_}
 use native.Mathlib.Omega.{arith}
 use borrow.Author.Tests.{lt-ltb, le-ltb}
-use lib.Dec.{ltb}
 use lib.ListN.{length, drop}
-use Rattle.strings.specs.Lists.{if_then_else_}
 use Rattle.report.specs.Report.{Entry, Lists, flat, start, after}
 use Rattle.report.specs.declared.entries.Tally.{Tally}
 use Rattle.report.proofs.ReportLaws.{entries-counted, counted-fits, counted-short, counted-whole, put-whole}
@@ -18,7 +16,6 @@ use Rattle.refusal.specs.declared.judge.Judged.the-variants.{Accepted, OddSheet
 use Rattle.refusal.proofs.FormedLaws.{accepted}
 use Rattle.blocks.specs.Blocks.{validateDocument}
 use Rattle.checker.specs.Check.{outcome}
-use Rattle.checker.specs.declared.check.Checked.{Checked}
 use Rattle.checker.specs.declared.check.Checked.the-variants.{Listed, Refused, ShortReport}
 
 -- ---- the number of an answer tells whether it is a refusal

@@ -5,7 +5,6 @@ use mathlib.Core.List.{List}
 use Prim.Native.Nat.{ℕ}
 use borrow.Author.Needs.{needs}
 use lib.Dec.{eqb, ltb}
-use Rattle.strings.specs.Lists.{if_then_else_}
 use Rattle.multiline.specs.Fence.{holdsFenceLine}
 use Rattle.multiline.specs.Lines.{hasBlankEdgeLine}
 use Rattle.leaves.specs.Names.{isBlankIdentifier}

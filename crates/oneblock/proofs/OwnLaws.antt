@@ -1,15 +1,13 @@
 -- What one block reports, by its kind: the arms that are no single call.
 use mathlib.Core.Path.{_≡_}
-use mathlib.Core.List.{List, []}
+use mathlib.Core.List.{List}
 use Prim.Native.Nat.{ℕ}
 use borrow.Author.Tests.{eq-eqb, ne-eqb}
-use lib.Dec.{eqb}
-use Rattle.strings.specs.Lists.{if_then_else_}
 use Rattle.sheet.specs.Kinds.{paragraph, heading, alert, list, codeBlock, htmlContainer, definition, footnoteDefinition, table, frontmatter, leafDirective, containerDirective}
 use Rattle.sheet.specs.Forest.{Forest}
 use Rattle.sheet.specs.declared.records.Rec.{Rec}
 use Rattle.sheet.specs.declared.records.Span.{Span}
-use Rattle.report.specs.Report.{Lists, _⊕_}
+use Rattle.report.specs.Report.{Lists}
 use Rattle.report.specs.declared.entries.Tally.{Tally}
 use Rattle.report.proofs.ReportLaws.{join-none, lists-none, lists-then}
 use Rattle.inlines.specs.Inlines.{validateInlines}

@@ -1,17 +1,17 @@
 -- Whether every inline is an empty text, told from tree to tree.
-use mathlib.Core.Path.{_≡_, refl, sym, ap, _∙_}
+use mathlib.Core.Path.{_≡_, refl, sym, _∙_}
 use mathlib.Core.Bool.{Bool, true, false, not, _&&_, _||_}
 use mathlib.Core.List.{List}
-use Prim.Native.Nat.{ℕ, _+_, _-_, _<_, _≤_}
+use Prim.Native.Nat.{ℕ, _+_, _<_, _≤_}
 use native.Mathlib.Omega.{arith}
 use borrow.Author.Tests.{not-true, not-false}
 use Rattle.sheet.specs.Kinds.{isInline}
 use Rattle.sheet.specs.Sheet.{recordAt}
-use Rattle.sheet.specs.Forest.{none, tree, under, size}
+use Rattle.sheet.specs.Forest.{under, size}
 use Rattle.sheet.specs.declared.records.Rec.{Rec}
 use Rattle.sheet.specs.declared.records.Span.{Span}
 use Rattle.sheet.proofs.Trees.{under-in, under-out, under-end, under-fits}
-use Rattle.report.specs.Report.{Lists, listIf, _⊕_}
+use Rattle.report.specs.Report.{Lists, listIf}
 use Rattle.report.specs.declared.entries.Tally.{Tally}
 use Rattle.report.proofs.ReportLaws.{lists-then}
 use Rattle.checks.specs.Rules

@@ -1,24 +1,23 @@
 -- A table's rows and cells, listed from tree to tree.
-use mathlib.Core.Path.{_≡_, refl, sym, ap, _∙_}
+use mathlib.Core.Path.{_≡_, refl, sym, _∙_}
 use mathlib.Core.Bool.{Bool, true, false, not}
 use mathlib.Core.List.{List, [], _∷_, _++_}
-use Prim.Native.Nat.{ℕ, suc, _+_, _-_, _<_, _≤_}
+use Prim.Native.Nat.{ℕ, _+_, _<_}
 use native.Mathlib.Omega.{arith}
 use native.Mathlib.Numerals.{add-one}
 use lib.Dec.{eqb}
 use lib.ListN.{length, take, set, length-set}
-use Rattle.strings.specs.Lists.{if_then_else_}
 use Rattle.sheet.specs.Sheet.{recordAt}
-use Rattle.sheet.specs.Forest.{Forest, none, tree, under, count, size}
+use Rattle.sheet.specs.Forest.{none, under, count}
 use Rattle.sheet.specs.declared.records.Rec.{Rec}
 use Rattle.sheet.specs.declared.records.Span.{Span}
-use Rattle.sheet.proofs.Trees.{under-in, under-fits}
+use Rattle.sheet.proofs.Trees.{under-in}
 use Rattle.report.specs.Report.{Entry, Lists, listIf, _⊕_}
 use Rattle.report.specs.declared.entries.Tally.{Tally}
 use Rattle.report.proofs.ReportLaws.{lists-then, join-assoc}
 use Rattle.checks.specs.Rules
 use Rattle.walks.specs.Every.{validateCellValues, validateOneLine}
-use Rattle.walks.specs.Walk.{Start, Begin, Done}
+use Rattle.walks.specs.Walk.{Done}
 use Rattle.walks.specs.declared.every.Walked.{Walked}
 use Rattle.walks.proofs.WalkLaws.{behindKids, level-of, skip-tree}
 use Rattle.walks.proofs.PathLaws.{Paced, paced-room, paced-own, paced-turn, kept-set, kept-below}

@@ -10,7 +10,6 @@ use Rattle.sheet.specs.Forest.{under}
 use Rattle.walks.proofs.WalkLaws.{done-down, level-of}
 use Rattle.walks.proofs.PathLaws.{Paced, begin-front, begin-long, begin-short, paced-start, paced-room, paced-place, paced-few, paced-out, paced-end}
 use Rattle.blocks.specs.Blocks.{validateBlocks, validateItems}
-use Rattle.blocks.specs.Blocks
 use Rattle.blocks.proofs.BlockLaws.{begin-kept, block-blocks, block-items, block-leaf, block-other, blocks-none, blocks-turn, item-done, items-none, items-turn, own-begin, tree-at, tree-falls}
 use borrow.Fn.Kinds.{In}
 use borrow.Fn.PlainCycle.{Measures, is, falls, and}

@@ -1,12 +1,12 @@
--- `blocks::heads::frontmatter_kind` meets its contract.
+-- `heads::own::frontmatter_kind` meets its contract.
 use Rattle.heads.specs.Heads.{frontmatterKind}
-use borrow.Author.Tests.{ne-eqb}
+use borrow.Author.Tests.{eq-eqb, ne-eqb}
 use Rattle.heads.proofs.own.frontmatter_kind.Statement.{statement}
 use Rattle.heads.proofs.own.frontmatter_kind.Tie as tie
 
 returns : tie.Need-returns
 unfolding frontmatterKind
-returns c = cc
+returns c = rw (eq-eqb _ _ (c .if1 .taken))
 
 returns-2 : tie.Need-returns-2
 unfolding frontmatterKind

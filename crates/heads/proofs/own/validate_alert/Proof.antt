@@ -1,4 +1,4 @@
--- `blocks::heads::validate_alert` meets its contract.
+-- `heads::own::validate_alert` meets its contract.
 use Rattle.heads.proofs.HeadLaws.{heads}
 use Rattle.heads.proofs.own.validate_alert.Statement.{statement}
 use Rattle.heads.proofs.own.validate_alert.Tie as tie

@@ -1,7 +1,10 @@
--- `blocks::heads::validate_code_block` meets its contract.
-use Rattle.heads.proofs.HeadLaws.{heads}
+-- `heads::own::validate_code_block` meets its contract.
+use Rattle.heads.proofs.HeadLaws.{heads, code-block-law}
 use Rattle.heads.proofs.own.validate_code_block.Statement.{statement}
 use Rattle.heads.proofs.own.validate_code_block.Tie as tie
+
+returns : tie.Need-returns
+returns c = code-block-law _ _ _ _ _ _ _ (c .before .before .before .before .before .text-of .ensures) (c .before .before .before .before .before .before .before .before .before .before .is-empty .ensures) (c .before .before .before .before .has-blank-edge-line .ensures) (c .before .before .before .before .before .before .before .before .list-if .ensures) (c .before .before .list-if2 .ensures)
 
 pub validate-code-block-spec : {M : Type 1} → statement M
 validate-code-block-spec =
@@ -13,4 +16,4 @@ validate-code-block-spec =
     (λ c κs. search heads)
     (λ c κs. search heads)
     (λ c. search heads)
-    (λ c. search heads))
+    returns)

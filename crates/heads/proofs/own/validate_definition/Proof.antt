@@ -1,4 +1,4 @@
--- `blocks::heads::validate_definition` meets its contract.
+-- `heads::own::validate_definition` meets its contract.
 use Rattle.heads.proofs.HeadLaws.{heads}
 use Rattle.heads.proofs.own.validate_definition.Statement.{statement}
 use Rattle.heads.proofs.own.validate_definition.Tie as tie

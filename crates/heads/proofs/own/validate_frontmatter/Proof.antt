@@ -1,4 +1,4 @@
--- `blocks::heads::validate_frontmatter` meets its contract.
+-- `heads::own::validate_frontmatter` meets its contract.
 use Rattle.heads.proofs.HeadLaws.{heads}
 use Rattle.heads.proofs.own.validate_frontmatter.Statement.{statement}
 use Rattle.heads.proofs.own.validate_frontmatter.Tie as tie

@@ -1,4 +1,4 @@
--- `blocks::heads::validate_heading` meets its contract.
+-- `heads::own::validate_heading` meets its contract.
 use Rattle.heads.proofs.HeadLaws.{heads}
 use Rattle.heads.proofs.own.validate_heading.Statement.{statement}
 use Rattle.heads.proofs.own.validate_heading.Tie as tie

@@ -1,7 +1,10 @@
--- `blocks::heads::validate_taken_block` meets its contract.
-use Rattle.heads.proofs.HeadLaws.{heads}
+-- `heads::own::validate_taken_block` meets its contract.
+use Rattle.heads.proofs.HeadLaws.{heads, taken-law}
 use Rattle.heads.proofs.own.validate_taken_block.Statement.{statement}
 use Rattle.heads.proofs.own.validate_taken_block.Tie as tie
+
+returns : tie.Need-returns
+returns c = taken-law _ _ _ _ _ _ (c .before .before .before .before .before .before .before .before .before .before .before .written-marker .ensures) (c .before .before .before .before .before .before .before .before .before .before .written-marker2 .ensures) (c .before .before .before .before .takes-indented-code .ensures) (c .before .before .before .before .before .before .before .list-if .ensures) (c .before .before .list-if2 .ensures)
 
 pub validate-taken-block-spec : {M : Type 1} → statement M
 validate-taken-block-spec =
@@ -13,4 +16,4 @@ validate-taken-block-spec =
     (λ c κs. search heads)
     (λ c κs. search heads)
     (λ c. search heads)
-    (λ c. search heads))
+    returns)

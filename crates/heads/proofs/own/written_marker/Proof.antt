@@ -1,4 +1,4 @@
--- `blocks::heads::written_marker` meets its contract.
+-- `heads::own::written_marker` meets its contract.
 use Rattle.heads.specs.Heads.{writtenMarker}
 use borrow.Author.Needs.{needs}
 use Rattle.heads.proofs.own.written_marker.Statement.{statement}
@@ -6,7 +6,7 @@ use Rattle.heads.proofs.own.written_marker.Tie as tie
 
 returns : tie.Need-returns
 unfolding writtenMarker
-returns c = cc
+returns c = rw (c .pick4 .ensures, c .before .pick3 .ensures, c .before .before .pick2 .ensures, c .before .before .before .pick .ensures)
 
 pub written-marker-spec : {M : Type 1} → statement M
 written-marker-spec =
