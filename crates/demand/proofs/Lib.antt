@@ -1,0 +1,10 @@
+pub mod Flat
+pub mod Fits
+pub mod KindCases
+pub mod Placed
+pub mod Context
+pub mod Noise
+pub mod Inlines
+pub mod Tables
+pub mod Blocks
+pub mod Demand
