@@ -1,4 +1,4 @@
--- Demand 3: the machine's stops and the check's list agree. "Demand 3 is one statement over all sheets and texts that both accept, with the whole table of stops in it, and not a statement for each stop or rule. Its list is the entries the check wrote; its run and stop are the machine's on the same sheet and text."
+-- Demand 3: the machine's stops and the check's list agree. Document 01: "Demand 3 is one statement over all sheets and texts that both accept, with the whole table of stops in it, and not a statement for each stop or rule. Its list is the entries the check wrote; its run and stop are the machine's on the same sheet and text."
 use Prim.Native.Nat.{ℕ, _+_}
 use mathlib.Core.Path.{_≡_}
 use mathlib.Core.Logic.{_⊎_, _↔_}
@@ -65,7 +65,7 @@ Some P (e ∷ es) = P e ⊎ Some P es
 abbrev pub Named : Entry → Type 0
 Named e = named (e .rule) ≡ true
 
--- "a rule of that very stop whose path begins with that of the block"
+-- a rule of that very stop, whose path begins with that of the block
 abbrev pub Told : ℕ → List ℕ → Entry → Type 0
 Told s p e = (beside s (e .rule) ≡ true) × Begins p (e .path)
 
@@ -82,11 +82,11 @@ timesClosed i (closes f around ∷ ss) = (if eqb (f .at) i then 1 else 0) + time
 
 -- ---- the three sentences, of a sheet, its text, and a list of entries
 pub record Agrees (w bytes : List ℕ) (es : List Entry) : Type 0 where
-  -- "the machine stops exactly when the list holds a rule named beside a stop"
+  -- the machine stops exactly when the list holds a rule named beside a stop
   pub exactly : (outcome w bytes ≡ ended → ⊥) ↔ Some Named es
-  -- "at a stop the list holds a rule of that very stop whose path begins with that of the block"
+  -- at a stop the list holds a rule of that very stop whose path begins with that of the block
   pub there : (s i : ℕ) (p : List ℕ) → outcome w bytes ≡ stopped s i p → Some (Told s p) es
-  -- "with no stop it opens and closes every record exactly once", and no other
+  -- with no stop it opens and closes every record exactly once, and no other
   pub once : outcome w bytes ≡ ended → (i : ℕ) → (timesOpened i (run w bytes) ≡ (if ltb i (recordsOf w) then 1 else 0)) × (timesClosed i (run w bytes) ≡ (if ltb i (recordsOf w) then 1 else 0))
 
 -- .. of the whole list of the sheet

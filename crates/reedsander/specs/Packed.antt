@@ -1,4 +1,4 @@
--- An answer as one number, for C: "the answer's number × 2^32 + record or count".
+-- An answer as one number, for C: its number times 2^32, and its record or count.
 use Prim.Native.Nat.{ℕ, _+_, _*_, _^_}
 use Rattle.checker.specs.Check.{answerNumber, answerValue}
 use Rattle.checker.specs.declared.check.Checked.{Checked}
