@@ -29,3 +29,16 @@ pub fn plain(kind: u32, level: u32) -> Record {
     record[1] = level;
     record
 }
+
+/// Where a record of a kind may stand: what comes before it.
+pub fn home(kind: u32) -> Vec<Record> {
+    match kind {
+        20 => vec![plain(6, 1)],
+        21 => vec![plain(12, 1)],
+        22 => vec![plain(12, 1), plain(21, 2)],
+        23 => vec![plain(9, 1)],
+        24 => vec![plain(15, 1)],
+        31..=53 => vec![plain(1, 1)],
+        _ => vec![],
+    }
+}

@@ -30,6 +30,22 @@ impl Numbers {
         self.below(many) == 0
     }
 
+    /// The kind of an inline that is the next child of `parent`, after `before`.
+    pub fn inline_kind(&mut self, parent: u32, before: u32) -> u32 {
+        match self.below(10) {
+            // Beside a break or a strikethrough often another.
+            0 | 1 if before == 36 || before == 46 || before == 47 => before,
+            0 | 1 => self.one(&[46, 47, 36]),
+            // In emphasis often emphasis, in strong too.
+            2 if (34..=37).contains(&parent) => self.one(&[34, 34, parent]),
+            3 => self.one(&[40, 41, 43, 51]),
+            4 | 5 => 31,
+            6 => self.one(&[34, 35, 36, 37, 52]),
+            7 => self.one(&[32, 39, 42, 44, 48, 49, 50]),
+            _ => 31 + self.below(23),
+        }
+    }
+
     /// One of a list.
     pub fn one<T: Copy>(&mut self, list: &[T]) -> T {
         list[self.index(list.len())]

@@ -1,6 +1,6 @@
 //! Sheets at each limit of document 01, and one past it.
 
-use cases::{plain, Record, RECORD_WORDS};
+use cases::{home, plain, Record, RECORD_WORDS};
 
 /// A sheet at a limit, and what it is.
 pub struct Limit {
@@ -160,19 +160,6 @@ fn levels() -> Vec<Limit> {
         all.push(limit(format!("level {level} third"), &third, b""));
     }
     all
-}
-
-/// What a record of a kind stands under.
-fn home(kind: u32) -> Vec<Record> {
-    match kind {
-        20 => vec![plain(6, 1)],
-        21 => vec![plain(12, 1)],
-        22 => vec![plain(12, 1), plain(21, 2)],
-        23 => vec![plain(9, 1)],
-        24 => vec![plain(15, 1)],
-        31..=53 => vec![plain(1, 1)],
-        _ => vec![],
-    }
 }
 
 /// Each value of a field that is a bound somewhere, in each kind; and each

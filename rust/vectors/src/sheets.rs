@@ -1,6 +1,6 @@
 //! Sheets and the answer of document 01's plain reading for each.
 
-use cases::{plain, Numbers, Sheet};
+use cases::{home, plain, Numbers, Sheet};
 use oracle::RECORD_WORDS;
 
 /// The text that the sheets with texts name parts of: one byte, three, two, one.
@@ -51,19 +51,6 @@ fn below(parents: &[[u32; RECORD_WORDS]]) -> u32 {
         Some(last) if last[0] == 31 && parents.len() == 4 => last[1],
         Some(last) => last[1] + 1,
         None => 1,
-    }
-}
-
-/// Where a record of a kind may stand: what comes before it, and its level.
-fn home(kind: u32) -> Vec<[u32; RECORD_WORDS]> {
-    match kind {
-        20 => vec![plain(6, 1)],
-        21 => vec![plain(12, 1)],
-        22 => vec![plain(12, 1), plain(21, 2)],
-        23 => vec![plain(9, 1)],
-        24 => vec![plain(15, 1)],
-        31..=53 => vec![plain(1, 1)],
-        _ => vec![],
     }
 }
 

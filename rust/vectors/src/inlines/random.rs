@@ -94,23 +94,7 @@ impl Maker {
     }
 
     fn one<T: Copy>(&mut self, list: &[T]) -> T {
-        list[self.numbers.below(list.len() as u32) as usize]
-    }
-
-    /// The kind of the next child of `parent` after `before`.
-    fn kind(&mut self, parent: u32, before: u32) -> u32 {
-        match self.numbers.below(10) {
-            // Beside a break or a strikethrough often another.
-            0 | 1 if before == 36 || before == 46 || before == 47 => before,
-            0 | 1 => self.one(&[46, 47, 36]),
-            // In emphasis often emphasis, in strong too.
-            2 if (34..=37).contains(&parent) => self.one(&[34, 34, parent]),
-            3 => self.one(&[40, 41, 43, 51]),
-            4 | 5 => 31,
-            6 => self.one(&[34, 35, 36, 37, 52]),
-            7 => self.one(&[32, 39, 42, 44, 48, 49, 50]),
-            _ => 31 + self.numbers.below(23),
-        }
+        self.numbers.one(list)
     }
 
     fn letter(&mut self, kind: u32) -> Letter {
@@ -174,7 +158,7 @@ impl Maker {
     fn children(&mut self, level: u32, parent: u32, count: usize) {
         let mut before = 0;
         for _ in 0..count {
-            let kind = self.kind(parent, before);
+            let kind = self.numbers.inline_kind(parent, before);
             let letter = self.letter(kind);
             if !self.add(level, &letter) {
                 return;
