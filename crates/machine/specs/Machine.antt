@@ -124,6 +124,40 @@ unfoldable pub onlyEmpty : List Rec → Bool
 onlyEmpty [] = true
 onlyEmpty (s ∷ ss) = isEmptyText s && onlyEmpty ss
 
+-- the number of an ordered item: its "own number, else the item before plus 1, else 1", where `before` is that of the item before, and 0 where there is none
+abbrev pub itemMark : Rec → ℕ → ℕ
+itemMark r before = if eqb (r .b) 1 then r .c else before + 1
+
+-- the number of the newest of those items; 0 where there is none
+unfoldable pub lastMark : List Rec → ℕ
+lastMark [] = 0
+lastMark (s ∷ ss) = itemMark s (lastMark ss)
+
+-- what the stops and the mark of a record that opens go by, beside the record itself
+pub record Seen : Type 0 where
+  pub columns : ℕ
+  pub nearest : ℕ
+  pub linked : Bool
+  pub ordered : Bool
+  pub before : ℕ
+  pub broke : Bool
+  pub joins : Bool
+  pub number : ℕ
+
+-- .. as what is open around it and its siblings before it show it
+abbrev pub seen : Rec → List Frame → Seen
+seen r around =
+    record {
+      columns = columns around;
+      nearest = nearest around;
+      linked = inLink around;
+      ordered = ordered around;
+      before = length (siblings around);
+      broke = behindBreak (siblings around);
+      joins = behindList (siblings around) r;
+      number = lastMark (siblings around);
+    }
+
 -- ---- the table of stops: each with its condition, in rising order
 
 pub record Test : Type 0 where
@@ -139,47 +173,47 @@ lowest [] = 0
 lowest (t ∷ ts) = if t .holds then t .stop else lowest ts
 
 -- when record r opens
-unfoldable pub openingTests : List ℕ → Rec → List Frame → List Test
-openingTests bytes r around =
+unfoldable pub openingTests : List ℕ → Rec → Seen → List Test
+openingTests bytes r s =
     -- "cell position (from 0) not below table's A"
-    test 1 (eqb (r .kind) cell && leb (columns around) (length (siblings around)))
+    test 1 (eqb (r .kind) cell && leb (s .columns) (s .before))
     -- "inline break (so no thematic break) whose nearest open non-inline is a cell, leaf or container directive"
-    ∷ test 4 (isBreak (r .kind) && among (nearest around) (cell ∷ leafDirective ∷ containerDirective ∷ []))
+    ∷ test 4 (isBreak (r .kind) && among (s .nearest) (cell ∷ leafDirective ∷ containerDirective ∷ []))
     -- "link, autolink, link reference or wikilink under a link or link reference, at any depth"
-    ∷ test 5 (isLink (r .kind) && inLink around)
+    ∷ test 5 (isLink (r .kind) && s .linked)
     -- "heading depth not 1–6"
     ∷ test 6 (eqb (r .kind) heading && not (between 1 6 (r .a)))
     -- "ordered item's own number over 999,999,999"
-    ∷ test 7 (eqb (r .kind) item && ordered around && eqb (r .b) 1 && ltb 999999999 (r .c))
+    ∷ test 7 (eqb (r .kind) item && s .ordered && eqb (r .b) 1 && ltb 999999999 (r .c))
     -- "bullet item with number"
-    ∷ test 8 (eqb (r .kind) item && not (ordered around) && eqb (r .b) 1)
+    ∷ test 8 (eqb (r .kind) item && not (s .ordered) && eqb (r .b) 1)
     -- "soft or spaces break straight after a sibling break"
-    ∷ test 11 (isPlainBreak (r .kind) (r .a) && behindBreak (siblings around))
+    ∷ test 11 (isPlainBreak (r .kind) (r .a) && s .broke)
     -- "frontmatter whose level exceeds 1"
     ∷ test 12 (eqb (r .kind) frontmatter && ltb 1 (r .level))
     -- "text or inline code (kinds 31, 39) with CR or LF"
     ∷ test 13 (among (r .kind) (text ∷ code ∷ []) && holdsLineEnding (textOf bytes (r .first)))
     -- "list straight after a sibling list of the same written marker, only blank lines skipped"
-    ∷ test 14 (eqb (r .kind) list && behindList (siblings around) r)
+    ∷ test 14 (eqb (r .kind) list && s .joins)
     ∷ []
 
--- when record r closes, whose children these are
-unfoldable pub closingTests : Rec → List Rec → List Frame → List Test
-closingTests r kids around =
+-- when record r closes, which has so many children, that are nothing but empty texts where `empty` holds, under a table of so many columns
+unfoldable pub closingTests : Rec → ℕ → Bool → ℕ → List Test
+closingTests r kids empty cols =
     -- "row closed with under A cells"
-    test 2 (eqb (r .kind) row && ltb (length kids) (columns around))
+    test 2 (eqb (r .kind) row && ltb kids cols)
     -- "table closed without row, or A = 0"
-    ∷ test 3 (eqb (r .kind) table && (eqb (length kids) 0 || eqb (r .a) 0))
+    ∷ test 3 (eqb (r .kind) table && (eqb kids 0 || eqb (r .a) 0))
     -- "list closed without item"
-    ∷ test 9 (eqb (r .kind) list && eqb (length kids) 0)
+    ∷ test 9 (eqb (r .kind) list && eqb kids 0)
     -- "paragraph, emphasis, strong, delete or mark closed with nothing but empty texts"
-    ∷ test 10 ((eqb (r .kind) paragraph || isEmphasisContainer (r .kind)) && onlyEmpty kids)
+    ∷ test 10 ((eqb (r .kind) paragraph || isEmphasisContainer (r .kind)) && empty)
     ∷ []
 
 -- the stop of an opening or a closing; 0 where it has none
 unfoldable pub stopOf : List ℕ → Step → ℕ
-stopOf bytes (opens f around) = lowest (openingTests bytes (f .of) around)
-stopOf bytes (closes f around) = lowest (closingTests (f .of) (f .kids) around)
+stopOf bytes (opens f around) = lowest (openingTests bytes (f .of) (seen (f .of) around))
+stopOf bytes (closes f around) = lowest (closingTests (f .of) (length (f .kids)) (onlyEmpty (f .kids)) (columns around))
 
 -- ---- "The block (kinds 1–17, so no item, row or cell) it stopped in is the one being opened or closed, else the innermost open one." "A block's path has one index for each block and item from the sheet down to that block, itself included: how many blocks or items stand before it under the same parent."
 
@@ -247,23 +281,18 @@ answerRecord records (stopped s i path) = i
 
 -- ---- marks. "Each record opened without a stop gets a mark: heading depth; cell's column from 1; ordered item's own number, else the item before plus 1, else 1; 0 otherwise. Other marks stay."
 
--- the number of an ordered item behind those items, newest first
-unfoldable pub itemMark : Rec → List Rec → ℕ
-itemMark r [] = if eqb (r .b) 1 then r .c else 1
-itemMark r (s ∷ ss) = let before = itemMark s ss in if eqb (r .b) 1 then r .c else before + 1
-
-unfoldable pub markOf : Rec → List Frame → ℕ
-markOf r around =
+unfoldable pub markOf : Rec → Seen → ℕ
+markOf r s =
     if eqb (r .kind) heading
     then r .a
     else if eqb (r .kind) cell
-    then length (siblings around) + 1
-    else if eqb (r .kind) item && ordered around
-    then itemMark r (siblings around)
+    then s .before + 1
+    else if eqb (r .kind) item && s .ordered
+    then itemMark r (s .number)
     else 0
 
 -- the marks after a run
 unfoldable pub marksOf : List Step → List ℕ → List ℕ
 marksOf [] marks = marks
-marksOf (opens f around ∷ ss) marks = marksOf ss (set marks (f .at) (markOf (f .of) around))
+marksOf (opens f around ∷ ss) marks = marksOf ss (set marks (f .at) (markOf (f .of) (seen (f .of) around)))
 marksOf (closes f around ∷ ss) marks = marksOf ss marks
