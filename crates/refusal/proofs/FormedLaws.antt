@@ -100,23 +100,46 @@ each-tag w n (suc k) i m b h = go (lacksTags w n i) refl m b (λ p q. each-tag w
     go false e zero b later = rw add-zero e
     go false e (suc m) b later = let p : i + suc m ≡ suc i + m = omega arith in rw p (later m (omega arith) (rw e at h))
 
-pub accepted : (w bytes : List ℕ) → judgeSheet w bytes ≡ Accepted → Sound w bytes
-unfolding judgeSheet forestOf
-accepted w bytes j = go (eqb (length w % recordWords) 0) (ltb mostRecords (recordsOf w)) (ltb mostBytes (length bytes)) refl refl refl
+-- what an accepted sheet has passed
+record Through (w bytes : List ℕ) : Type 0 where
+  pub even : length w % recordWords ≡ 0
+  pub few : recordsOf w ≤ mostRecords
+  pub short : length bytes ≤ mostBytes
+  pub records : isAccepted (judgeFrom w bytes (recordsOf w) 0) ≡ true
+  pub tags : isAccepted (tagsFrom w (recordsOf w) (recordsOf w) 0) ≡ true
+
+through : (w bytes : List ℕ) → judgeSheet w bytes ≡ Accepted → Through w bytes
+unfolding judgeSheet
+through w bytes j = go (eqb (length w % recordWords) 0) (ltb mostRecords (recordsOf w)) (ltb mostBytes (length bytes)) refl refl refl
   where
-    go : (t u v : Bool) → eqb (length w % recordWords) 0 ≡ t → ltb mostRecords (recordsOf w) ≡ u → ltb mostBytes (length bytes) ≡ v → Sound w bytes
+    go : (t u v : Bool) → eqb (length w % recordWords) 0 ≡ t → ltb mostRecords (recordsOf w) ≡ u → ltb mostBytes (length bytes) ≡ v → Through w bytes
     go false u v a b c = absurd (false≢true (ap isAccepted (rw a at j)))
     go true true v a b c = absurd (false≢true (ap isAccepted (rw (a, b) at j)))
     go true false true a b c = absurd (false≢true (ap isAccepted (rw (a, b, c) at j)))
     go true false false a b c =
         let both : orElse (judgeFrom w bytes (recordsOf w) 0) (tagsFrom w (recordsOf w) (recordsOf w) 0) ≡ Accepted = rw (a, b, c) at j in
-        let all = every-passed w bytes (recordsOf w) (both-first (judgeFrom w bytes (recordsOf w) 0) (tagsFrom w (recordsOf w) (recordsOf w) 0) (ap isAccepted both)) in
-        let tags : (i : ℕ) → i < recordsOf w → lacksTags w (recordsOf w) i ≡ false = λ i h. rw zero-add at (each-tag w (recordsOf w) (recordsOf w) 0 i h (both-second (judgeFrom w bytes (recordsOf w) 0) (tagsFrom w (recordsOf w) (recordsOf w) 0) (ap isAccepted both))) in
-        let even : length w % 12 ≡ 0 = eqb-true _ _ a in
         record {
-          whole = omega arith;
+          even = eqb-true _ _ a;
           few = ltb-false _ _ b;
           short = ltb-false _ _ c;
-          shallow = λ i h. deep (levelBefore w i) (recordAt w i .level) (all i h .level) .most;
-          tree = formed-all w bytes (recordsOf w) all tags;
+          records = both-first (judgeFrom w bytes (recordsOf w) 0) (tagsFrom w (recordsOf w) (recordsOf w) 0) (ap isAccepted both);
+          tags = both-second (judgeFrom w bytes (recordsOf w) 0) (tagsFrom w (recordsOf w) (recordsOf w) 0) (ap isAccepted both);
         }
+
+-- each record of it passed, where it stands
+pub each-passed : (w bytes : List ℕ) → judgeSheet w bytes ≡ Accepted → (i : ℕ) → i < recordsOf w → Passed bytes (recordAt w i) (levelBefore w i) (openAt w (recordAt w i .level) i)
+each-passed w bytes j = every-passed w bytes (recordsOf w) (through w bytes j .records)
+
+pub accepted : (w bytes : List ℕ) → judgeSheet w bytes ≡ Accepted → Sound w bytes
+unfolding forestOf
+accepted w bytes j =
+    let t = through w bytes j in
+    let even : length w % 12 ≡ 0 = t .even in
+    let tags : (i : ℕ) → i < recordsOf w → lacksTags w (recordsOf w) i ≡ false = λ i h. rw zero-add at (each-tag w (recordsOf w) (recordsOf w) 0 i h (t .tags)) in
+    record {
+      whole = omega arith;
+      few = t .few;
+      short = t .short;
+      shallow = λ i h. deep (levelBefore w i) (recordAt w i .level) (each-passed w bytes j i h .level) .most;
+      tree = formed-all w bytes (recordsOf w) (each-passed w bytes j) tags;
+    }
