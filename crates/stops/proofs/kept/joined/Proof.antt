@@ -1,0 +1,20 @@
+-- `stops::kept::joined` meets its contract.
+use Rattle.stops.specs.Kept.{joinedBy}
+use borrow.Author.Needs.{needs}
+use Rattle.stops.proofs.kept.joined.Statement.{statement}
+use Rattle.stops.proofs.kept.joined.Tie as tie
+
+returns : tie.Need-returns
+unfolding joinedBy
+returns c = cc
+
+pub joined-spec : {M : Type 1} → statement M
+joined-spec =
+    tie.close
+    (tie.spec
+    (λ c. search needs)
+    (λ c κs. search needs)
+    (λ c κs. search needs)
+    (λ c κs. search needs)
+    (λ c κs. search needs)
+    returns)

@@ -1,0 +1,18 @@
+-- `stops::kept::opened` meets its contract.
+use Rattle.stops.specs.Kept.{openedIn}
+use borrow.Author.Needs.{needs}
+use Rattle.stops.proofs.kept.opened.Statement.{statement}
+use Rattle.stops.proofs.kept.opened.Tie as tie
+
+returns : tie.Need-returns
+unfolding openedIn
+returns c = cc
+
+pub opened-spec : {M : Type 1} → statement M
+opened-spec =
+    tie.close
+    (tie.spec
+    (λ c κs. search needs)
+    (λ c κs. search needs)
+    (λ c κs. search needs)
+    returns)

@@ -1,0 +1,20 @@
+-- `stops::tests::mark_of` meets its contract.
+use Rattle.machine.specs.Machine.{markOf}
+use borrow.Author.Needs.{needs}
+use Rattle.stops.proofs.tests.mark_of.Statement.{statement}
+use Rattle.stops.proofs.tests.mark_of.Tie as tie
+
+returns : tie.Need-returns
+unfolding markOf
+returns c = cc
+
+pub mark-of-spec : {M : Type 1} → statement M
+mark-of-spec =
+    tie.close
+    (tie.spec
+    (λ c κs. search needs)
+    (λ c κs. search needs)
+    (λ c. search needs)
+    (λ c κs. search needs)
+    (λ c κs. search needs)
+    returns)

@@ -1,0 +1,87 @@
+// The stops of an opening and of a closing, and the mark of a record.
+ghost use mathlib.Core.Path.{_≡_};
+ghost use mathlib.Core.Bool.{_&&_};
+ghost use mathlib.Core.List.{[], _∷_};
+ghost use Prim.Native.Nat.{_≤_};
+ghost use Rattle.sheet.specs.Kinds.{among, leafDirective, containerDirective, cell, text, code};
+ghost use Rattle.multiline.specs.Lines.{holdsLineEnding};
+ghost use Rattle.form.specs.Fields.{textOf};
+ghost use Rattle.machine.specs.Machine.{lowest, openingTests, closingTests, markOf};
+ghost use Rattle.stops.specs.Kept.{seenBy, mostKids, mostNumber};
+use crate::kept::Kept;
+use crate::kept::item_mark;
+use facts::values;
+use form::fields::text_of;
+use heads::own::written_marker;
+use multiline::lines::holds_line_ending;
+use sheet::kinds;
+use sheet::kinds::pick;
+use sheet::records::Rec;
+use strings::bytes::between;
+
+// The largest number of an ordered item.
+const MOST_NUMBER: u32 = 999999999;
+
+// A text or inline code that holds a line ending.
+fn is_broken_text(bytes: &[u8], r: Rec) -> bool
+    ensures { λ q. ⌜ q ≡ (among (r .kind) (text ∷ code ∷ []) && holdsLineEnding (textOf (now (bytes .entry)) (r .first))) ⌝ }
+{
+    let counts = (r.kind == kinds::TEXT) | (r.kind == kinds::CODE);
+    if counts {
+        return holds_line_ending(text_of(bytes, r.first));
+    }
+    false
+}
+
+// A record that no line may break inside of.
+fn is_one_line(kind: u32) -> bool
+    ensures { λ q. ⌜ q ≡ among kind (cell ∷ leafDirective ∷ containerDirective ∷ []) ⌝ }
+{
+    (kind == kinds::CELL) | (kind == kinds::LEAF_DIRECTIVE) | (kind == kinds::CONTAINER_DIRECTIVE)
+}
+
+// The stop of record r as it opens under `k`; 0 where it has none.
+pub fn opening_stop(bytes: &[u8], r: Rec, k: Kept) -> u32
+    ensures { λ q. ⌜ q ≡ lowest (openingTests (now (bytes .entry)) r (seenBy r k)) ⌝ }
+{
+    let item = r.kind == kinds::ITEM;
+    let numbered = r.b == 1;
+    let cell = (r.kind == kinds::CELL) & (k.columns <= k.kids);
+    let line = values::is_break(r.kind) & is_one_line(k.nearest);
+    let link = values::is_link(r.kind) & k.linked;
+    let heading = (r.kind == kinds::HEADING) & !between(1, 6, r.a);
+    let large = item & k.ordered & numbered & (MOST_NUMBER < r.c);
+    let bullet = item & !k.ordered & numbered;
+    let again = values::is_plain_break(r.kind, r.a) & k.broke;
+    let inside = (r.kind == kinds::FRONTMATTER) & (1 < r.level);
+    let text = is_broken_text(bytes, r);
+    let list = (r.kind == kinds::LIST) & (k.marker == written_marker(r.a, r.b));
+    let stop = pick(text, 13, pick(list, 14, 0));
+    let stop = pick(again, 11, pick(inside, 12, stop));
+    let stop = pick(large, 7, pick(bullet, 8, stop));
+    let stop = pick(link, 5, pick(heading, 6, stop));
+    pick(cell, 1, pick(line, 4, stop))
+}
+
+// The stop of record r as it closes under `around`, where `k` is kept of it; 0 where it has none.
+pub fn closing_stop(r: Rec, k: Kept, around: Kept) -> u32
+    ensures { λ q. ⌜ q ≡ lowest (closingTests r (k .kids) (k .empty) (around .columns)) ⌝ }
+{
+    let row = (r.kind == kinds::ROW) & (k.kids < around.columns);
+    let table = (r.kind == kinds::TABLE) & ((k.kids == 0) | (r.a == 0));
+    let list = (r.kind == kinds::LIST) & (k.kids == 0);
+    let prose = (r.kind == kinds::PARAGRAPH) | values::is_emphasis_container(r.kind);
+    let stop = pick(list, 9, pick(prose & k.empty, 10, 0));
+    pick(row, 2, pick(table, 3, stop))
+}
+
+// The mark of record r as it opens under `k`.
+pub fn mark_of(r: Rec, k: Kept) -> u32
+    requires { ⌜ (k .kids ≤ mostKids) × (k .number ≤ mostNumber) ⌝ }
+    ensures { λ q. ⌜ q ≡ markOf r (seenBy r k) ⌝ }
+{
+    let item = (r.kind == kinds::ITEM) & k.ordered;
+    let mark = pick(item, item_mark(r, k.number), 0);
+    let mark = pick(r.kind == kinds::CELL, k.kids + 1, mark);
+    pick(r.kind == kinds::HEADING, r.a, mark)
+}
