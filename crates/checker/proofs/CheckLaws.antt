@@ -12,38 +12,12 @@ use Rattle.report.proofs.ReportLaws.{entries-counted, counted-fits, counted-sho
 use Rattle.refusal.specs.Refusal.{numberOf, isAccepted, judgeSheet}
 use Rattle.refusal.specs.Formed.{Sound}
 use Rattle.refusal.specs.declared.judge.Judged.{Judged}
-use Rattle.refusal.specs.declared.judge.Judged.the-variants.{Accepted, OddSheet, LongSheet, LongText, UnknownKind, BadLevel, Misplaced, BadField, TextOutside, NotUtf8, TagsMissing}
+use Rattle.refusal.specs.declared.judge.Judged.the-variants.{Accepted}
+use Rattle.refusal.proofs.AcceptLaws.{none-refused, some-refused}
 use Rattle.refusal.proofs.FormedLaws.{accepted}
 use Rattle.blocks.specs.Blocks.{validateDocument}
 use Rattle.checker.specs.Check.{outcome}
 use Rattle.checker.specs.declared.check.Checked.the-variants.{Listed, Refused, ShortReport}
-
--- ---- the number of an answer tells whether it is a refusal
-none-refused : (j : Judged) → numberOf j ≡ 0 → j ≡ Accepted
-none-refused Accepted e = refl
-none-refused OddSheet e = absurd (omega arith)
-none-refused LongSheet e = absurd (omega arith)
-none-refused LongText e = absurd (omega arith)
-none-refused (UnknownKind i) e = absurd (omega arith)
-none-refused (BadLevel i) e = absurd (omega arith)
-none-refused (Misplaced i) e = absurd (omega arith)
-none-refused (BadField i) e = absurd (omega arith)
-none-refused (TextOutside i) e = absurd (omega arith)
-none-refused (NotUtf8 i) e = absurd (omega arith)
-none-refused (TagsMissing i) e = absurd (omega arith)
-
-some-refused : (j : Judged) → (numberOf j ≡ 0 → ⊥) → isAccepted j ≡ false
-some-refused Accepted e = absurd (e refl)
-some-refused OddSheet e = refl
-some-refused LongSheet e = refl
-some-refused LongText e = refl
-some-refused (UnknownKind i) e = refl
-some-refused (BadLevel i) e = refl
-some-refused (Misplaced i) e = refl
-some-refused (BadField i) e = refl
-some-refused (TextOutside i) e = refl
-some-refused (NotUtf8 i) e = refl
-some-refused (TagsMissing i) e = refl
 
 module _ (w bytes : List ℕ) {j : Judged} {k : ℕ} (e : j ≡ judgeSheet w bytes) (g : k ≡ numberOf j) where
   pub check-refused : (x : List ℕ) → (k ≡ 0 → ⊥) → (Refused j, x) ≡ outcome w bytes x

@@ -14,6 +14,7 @@ use Rattle.sheet.specs.Forest.{Forest, none, tree, forestOf, size, recordsIn}
 use Rattle.sheet.specs.declared.records.Rec.{Rec}
 use Rattle.sheet.proofs.Trees.{flat-forest, size-at}
 use Rattle.machine.specs.Machine.{Frame, fresh, withKid, theSheet, Step, opens, closes, closings, remain, stepsFrom, stepsOf}
+use Rattle.machine.proofs.StepLaws.{Low, open-one, close-one}
 use Rattle.demand.specs.Demand.{timesOpened, timesClosed}
 
 -- every tree is one level deeper than l, and so on down
@@ -38,38 +39,11 @@ walk f st i (tree r kids rest) =
     ++ (closes (filled (fresh i r) (pile kids [])) (f ∷ st)
     ∷ walk (withKid r f) st (suc i + size kids) rest))
 
--- what comes after is of level m at most
-Low : ℕ → List Rec → Type 0
-Low m [] = 1 ≤ m
-Low m (r ∷ rs) = r .level ≤ m
-
 low-flat : (l m : ℕ) (f : Forest) (ms : List Rec) → Deep l f → suc l ≤ m → Low (suc l) ms → Low m (recordsIn f ++ ms)
 unfolding Low recordsIn Deep
 low-flat l m none [] d h g = omega arith
 low-flat l m none (r ∷ rs) d h g = omega arith
 low-flat l m (tree r kids rest) ms d h g = omega (arith, d .0)
-
-module _ (l : ℕ) (f : Frame) (h : f .of .level < l) where
-  no-closings : (st : List Frame) → closings l f st ≡ []
-  unfolding closings
-  no-closings [] = refl
-  no-closings (g ∷ st) = rw (lt-leb l (f .of .level) h)
-
-  no-remain : (st : List Frame) → remain l f st ≡ record { top = f; around = st }
-  unfolding remain
-  no-remain [] = refl
-  no-remain (g ∷ st) = rw (lt-leb l (f .of .level) h)
-
--- one opening
-open-one : (f : Frame) (st : List Frame) (i : ℕ) (r : Rec) (ms : List Rec) → r .level ≡ suc (f .of .level) → stepsFrom (record { top = f; around = st }) i (r ∷ ms) ≡ opens (fresh i r) (f ∷ st) ∷ stepsFrom (record { top = fresh i r; around = f ∷ st }) (suc i) ms
-unfolding stepsFrom
-open-one f st i r ms e = rw (no-closings (r .level) f (omega arith) st, no-remain (r .level) f (omega arith) st)
-
--- one closing
-close-one : (t f : Frame) (st : List Frame) (i m : ℕ) (ms : List Rec) → t .of .level ≡ m → 1 ≤ m → Low m ms → stepsFrom (record { top = t; around = f ∷ st }) i ms ≡ closes t (f ∷ st) ∷ stepsFrom (record { top = withKid (t .of) f; around = st }) i ms
-unfolding stepsFrom Low closings remain
-close-one t f st i m [] e h g = rw (le-leb 1 (t .of .level) (omega arith))
-close-one t f st i m (r ∷ rs) e h g = rw (le-leb (r .level) (t .of .level) (omega arith))
 
 walk-flat : (f : Frame) (st : List Frame) (i : ℕ) (ts : Forest) (ms : List Rec) → Deep (f .of .level) ts → Low (suc (f .of .level)) ms → stepsFrom (record { top = f; around = st }) i (recordsIn ts ++ ms) ≡ walk f st i ts ++ stepsFrom (record { top = filled f (pile ts (f .kids)); around = st }) (i + size ts) ms
 unfolding recordsIn walk pile size Deep

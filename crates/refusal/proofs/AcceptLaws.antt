@@ -10,11 +10,38 @@ use borrow.Author.Tests.{not-true, not-false, lt-ltb, le-ltb, eq-eqb, ne-eqb}
 use lib.ListN.{length}
 use Rattle.sheet.specs.Sheet.{recordAt}
 use Rattle.standing.specs.Places.{openAt}
-use Rattle.refusal.specs.Refusal.{isAccepted, orElse, levelBefore, judgeAt, judgeFrom, tagsFrom, judgeSheet}
+use Rattle.refusal.specs.Refusal.{numberOf, isAccepted, orElse, levelBefore, judgeAt, judgeFrom, tagsFrom, judgeSheet}
 use Rattle.refusal.specs.Judging.{Placed, Containers}
 use Rattle.refusal.specs.declared.judge.Judged.{Judged}
-use Rattle.refusal.specs.declared.judge.Judged.the-variants.{OddSheet, LongSheet, LongText}
+use Rattle.refusal.specs.declared.judge.Judged.the-variants.{Accepted, OddSheet, LongSheet, LongText, UnknownKind, BadLevel, Misplaced, BadField, TextOutside, NotUtf8, TagsMissing}
 use Rattle.refusal.proofs.OpenLaws.{or-first, or-second, Passed, passed}
+
+-- ---- the number of an answer tells whether it is a refusal
+pub none-refused : (j : Judged) → numberOf j ≡ 0 → j ≡ Accepted
+none-refused Accepted e = refl
+none-refused OddSheet e = absurd (omega arith)
+none-refused LongSheet e = absurd (omega arith)
+none-refused LongText e = absurd (omega arith)
+none-refused (UnknownKind i) e = absurd (omega arith)
+none-refused (BadLevel i) e = absurd (omega arith)
+none-refused (Misplaced i) e = absurd (omega arith)
+none-refused (BadField i) e = absurd (omega arith)
+none-refused (TextOutside i) e = absurd (omega arith)
+none-refused (NotUtf8 i) e = absurd (omega arith)
+none-refused (TagsMissing i) e = absurd (omega arith)
+
+pub some-refused : (j : Judged) → (numberOf j ≡ 0 → ⊥) → isAccepted j ≡ false
+some-refused Accepted e = absurd (e refl)
+some-refused OddSheet e = refl
+some-refused LongSheet e = refl
+some-refused LongText e = refl
+some-refused (UnknownKind i) e = refl
+some-refused (BadLevel i) e = refl
+some-refused (Misplaced i) e = refl
+some-refused (BadField i) e = refl
+some-refused (TextOutside i) e = refl
+some-refused (NotUtf8 i) e = refl
+some-refused (TagsMissing i) e = refl
 
 -- both are accepted where the first that is given is
 pub both-first : (j k : Judged) → isAccepted (orElse j k) ≡ true → isAccepted j ≡ true

@@ -1,0 +1,2 @@
+// The setting machine.
+pub mod run;
