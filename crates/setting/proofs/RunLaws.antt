@@ -87,6 +87,7 @@ module _ (w : List ℕ) (n : ℕ) (os : List Kept) (j : ℕ) (q : Kept) where
 pub record Running (w bytes old : List ℕ) (n : ℕ) (new : List ℕ) (os : List Kept) (depth i : ℕ) : Type 0 where
   pub ok : judgeSheet w bytes ≡ Accepted
   pub all : n ≡ recordsOf w
+  pub few : n ≤ 65535
   pub room : n ≤ length new
   pub same : length new ≡ length old
   pub within : i ≤ n
@@ -106,6 +107,7 @@ run-start w bytes marks n e ok all room =
     record {
       ok = ok;
       all = all;
+      few = omega (arith, accepted w bytes ok .few);
       room = room;
       same = refl;
       within = omega arith;
@@ -240,7 +242,7 @@ module _ (w bytes old : List ℕ) (n : ℕ) (new : List ℕ) (os : List Kept) (d
   pub close-fits : (getD os (depth - 1) unkept .kids ≤ 65535) × (getD os (depth - 1) unkept .number ≤ 1000065534)
   unfolding Held keptOf
   close-fits =
-      let few = accepted w bytes (z .running .ok) .few in
+      let few = z .running .few in
       rw under-kept (omega (arith, z .held .1 .0 .few, z .running .within, z .running .all), omega (arith, z .held .1 .0 .small, z .held .1 .0 .few, z .running .within, z .running .all))
 
   module _ {r : Rec} {s : ℕ} (er : r ≡ recordAt w (getD os depth unkept .at)) (es : s ≡ lowest (closingTests r (getD os depth unkept .kids) (getD os depth unkept .empty) (getD os (depth - 1) unkept .columns))) where
@@ -268,6 +270,7 @@ module _ (w bytes old : List ℕ) (n : ℕ) (new : List ℕ) (os : List Kept) (d
         record {
           ok = z .running .ok;
           all = z .running .all;
+          few = z .running .few;
           room = z .running .room;
           same = z .running .same;
           within = z .running .within;
@@ -287,7 +290,6 @@ module _ (w bytes old : List ℕ) (n : ℕ) (new : List ℕ) (os : List Kept) (d
 pub record Opening (w bytes old : List ℕ) (n : ℕ) (new : List ℕ) (os : List Kept) (depth i : ℕ) : Type 0 where
   pub running : Running w bytes old n new os depth i
   pub inside : i < n
-  pub few : n ≤ 65535
   pub level : recordAt w i .level ≡ depth + 1
   pub most : depth + 1 ≤ 64
 
@@ -299,9 +301,8 @@ module _ (w bytes old : List ℕ) (n : ℕ) (new : List ℕ) (os : List Kept) (d
       go true a =
           let g : i < n = ltb-true i n a in
           let m : depth < recordAt w i .level = rw (e, next-is w bytes old n new os depth i v g) at h in
-          let few = accepted w bytes (v .ok) .few in
           let most = deep-at w bytes (v .ok) i (omega (arith, v .all)) .most in
-          record { running = v; inside = g; few = omega (arith, v .all); level = omega (arith, v .near g); most = omega (arith, v .near g) }
+          record { running = v; inside = g; level = omega (arith, v .near g); most = omega (arith, v .near g) }
       go false a =
           let g : n ≤ i = ltb-false i n a in
           let m : depth < 1 = rw (e, le-leb n i g) at h in
@@ -337,7 +338,7 @@ module _ (w bytes old : List ℕ) (n : ℕ) (new : List ℕ) (os : List Kept) (d
   pub open-fits : (getD os depth unkept .kids ≤ 65535) × (getD os depth unkept .number ≤ 1000065534)
   unfolding Held keptOf
   open-fits =
-      let few = accepted w bytes (z .running .ok) .few in
+      let few = z .running .few in
       let o = z .running .held .0 in
       rw is-kept (omega (arith, o .few, z .running .within, z .running .all), omega (arith, o .small, o .few, z .running .within, z .running .all))
 
@@ -368,6 +369,7 @@ module _ (w bytes old : List ℕ) (n : ℕ) (new : List ℕ) (os : List Kept) (d
         record {
           ok = v .ok;
           all = v .all;
+          few = v .few;
           room = simp length-set (v .room);
           same = simp length-set (v .same);
           within = omega (arith, z .inside);

@@ -5,7 +5,7 @@ ghost use lib.ListN.{length};
 ghost use Rattle.sheet.specs.Sheet.{recordWords, recordsOf};
 ghost use Rattle.refusal.specs.Refusal.{judgeSheet};
 ghost use Rattle.refusal.specs.declared.judge.Judged.the-variants.{Accepted};
-ghost use Rattle.setting.specs.Setting.{afterRun, settingOf};
+ghost use Rattle.setting.specs.Setting.{stopNumber, refusalNumber, answerRecord, afterRun, settingOf};
 ghost use Rattle.setting.specs.Running.{nextLevel};
 use refusal::judge;
 use refusal::judge::Judged;
@@ -17,10 +17,46 @@ use stops::tests;
 
 // The answer: how many records were opened and closed, or the stop and its record, or why nothing was set.
 pub enum Setting {
-    Ended(usize),
-    Stopped(u32, usize),
+    Ended(u32),
+    Stopped(u32, u32),
     Refused(Judged),
     ShortMarks,
+}
+
+// The stop; 0 at the end, and where nothing was set.
+pub fn stop_number(s: Setting) -> u32
+    ensures { λ r. ⌜ r ≡ stopNumber s ⌝ }
+{
+    match s {
+        Setting::Ended(_) => 0,
+        Setting::Stopped(stop, _) => stop,
+        Setting::Refused(_) => 0,
+        Setting::ShortMarks => 0,
+    }
+}
+
+// Document 01's number of a refusal; 0 where the machine ran.
+pub fn refusal_number(s: Setting) -> u32
+    ensures { λ r. ⌜ r ≡ refusalNumber s ⌝ }
+{
+    match s {
+        Setting::Ended(_) => 0,
+        Setting::Stopped(_, _) => 0,
+        Setting::Refused(judged) => judge::number_of(judged),
+        Setting::ShortMarks => 12,
+    }
+}
+
+// The record of a stop or a refusal; the number of records at the end.
+pub fn answer_record(s: Setting) -> usize
+    ensures { λ r. ⌜ r ≡ answerRecord s ⌝ }
+{
+    match s {
+        Setting::Ended(records) => records as usize,
+        Setting::Stopped(_, i) => i as usize,
+        Setting::Refused(judged) => judge::record_of(judged),
+        Setting::ShortMarks => 0,
+    }
 }
 
 // The level from which open records close next: that of record `i`, and after the last every level.
@@ -46,7 +82,7 @@ fn run_records(sheet: &[u32], text: &[u8], marks: &mut [u32], n: usize) -> Setti
         let level = next_level(sheet, n, i) as usize;
         let k = open[depth];
         if level <= depth {
-            let r = record_at(sheet, k.at);
+            let r = record_at(sheet, k.at as usize);
             let around = open[depth - 1];
             let stop = tests::closing_stop(r, k, around);
             if stop != 0 {
@@ -59,14 +95,14 @@ fn run_records(sheet: &[u32], text: &[u8], marks: &mut [u32], n: usize) -> Setti
         let r = record_at(sheet, i);
         let stop = tests::opening_stop(text, r, k);
         if stop != 0 {
-            return Setting::Stopped(stop, i);
+            return Setting::Stopped(stop, i as u32);
         }
         marks[i] = tests::mark_of(r, k);
         depth = depth + 1;
-        open[depth] = kept::opened(i, r, k);
+        open[depth] = kept::opened(i as u32, r, k);
         i = i + 1;
     }
-    Setting::Ended(n)
+    Setting::Ended(n as u32)
 }
 
 // Refuses a malformed sheet by number, and marks that are too few, and leaves every mark; or runs the machine.

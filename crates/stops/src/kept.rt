@@ -13,7 +13,7 @@ use sheet::records::Rec;
 // What the stops and marks ask of an open record: of itself and what is open around it, and of its children that have closed.
 pub struct Kept {
     // its number, from 0
-    pub at: usize,
+    pub at: u32,
     // A of the nearest table
     pub columns: u32,
     // the kind of the nearest record that is no inline
@@ -53,7 +53,7 @@ pub fn the_sheet() -> Kept
 }
 
 // Record `i` once it has opened under `k`.
-pub fn opened(i: usize, r: Rec, k: Kept) -> Kept
+pub fn opened(i: u32, r: Rec, k: Kept) -> Kept
     ensures { λ q. ⌜ q ≡ openedIn i r k ⌝ }
 {
     Kept {
