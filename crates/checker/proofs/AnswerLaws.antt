@@ -24,7 +24,7 @@ use Rattle.checker.specs.Check.{answerNumber, answerValue, outcome}
 use Rattle.checker.specs.declared.check.Checked.{Checked}
 use Rattle.checker.specs.declared.check.Checked.the-variants.{Listed, Refused, ShortReport}
 
-few-numbers : (j : Judged) → numberOf j ≤ 10
+pub few-numbers : (j : Judged) → numberOf j ≤ 10
 few-numbers Accepted = omega arith
 few-numbers OddSheet = omega arith
 few-numbers LongSheet = omega arith
@@ -83,7 +83,7 @@ unfolding tagsFrom
 tags-record w n zero i = omega arith
 tags-record w n (suc k) i = either (lacksTags w n i) (TagsMissing i) (tagsFrom w n k (suc i)) (i + suc k) (omega arith) (omega (arith, tags-record w n k (suc i)))
 
-judged-record : (w bytes : List ℕ) → recordOf (judgeSheet w bytes) ≤ 65535
+pub judged-record : (w bytes : List ℕ) → recordOf (judgeSheet w bytes) ≤ 65535
 unfolding judgeSheet
 judged-record w bytes = go (ltb mostRecords (recordsOf w)) refl
   where

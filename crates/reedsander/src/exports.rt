@@ -1,10 +1,17 @@
 // The functions that C and Rust call.
 ghost use mathlib.Core.Path.{_≡_};
+ghost use Rattle.refusal.specs.Refusal.{numberOf, recordOf};
 ghost use Rattle.checker.specs.Check.{outcome};
-ghost use Rattle.reedsander.specs.Packed.{packed};
+ghost use Rattle.reedsander.specs.Packed.{packed, packedSetting, refusedAt};
+ghost use Prim.Native.Nat.{_+_, _*_, _^_, _≤_};
+ghost use Rattle.setting.specs.Setting.{settingOf};
 use checker::check::answer_number;
 use checker::check::answer_value;
 use checker::check::check;
+use refusal::judge;
+use refusal::judge::Judged;
+use setting::run::Setting;
+use setting::run::set;
 
 const NUMBER: u64 = 4294967296;
 
@@ -17,4 +24,42 @@ pub extern "C" fn reedsander_check(sheet: &[u32], text: &[u8], report: &mut [u32
     let number = answer_number(answer) as u64;
     let value = answer_value(answer) as u64;
     number * NUMBER + value
+}
+
+// What a refusal's number is added to, so that it is no stop.
+const REFUSED: u32 = 256;
+
+fn joined(number: u32, low: u32) -> u64
+    ensures { λ r. ⌜ r ≡ number * 2 ^ 32 + low ⌝ }
+{
+    (number as u64) * NUMBER + (low as u64)
+}
+
+fn packed_refusal(judged: Judged) -> u64
+    requires { ⌜ recordOf judged ≤ 65535 ⌝ }
+    ensures { λ r. ⌜ r ≡ (256 + numberOf judged) * 2 ^ 32 + recordOf judged ⌝ }
+{
+    let number = judge::number_of(judged);
+    joined(REFUSED + number, judge::record_of(judged) as u32)
+}
+
+// The machine's answer as one number.
+fn packed_setting(s: Setting) -> u64
+    requires { ⌜ refusedAt s ≤ 65535 ⌝ }
+    ensures { λ r. ⌜ r ≡ packedSetting s ⌝ }
+{
+    match s {
+        Setting::Ended(records) => records as u64,
+        Setting::Stopped(stop, i) => joined(stop, i),
+        Setting::Refused(judged) => packed_refusal(judged),
+        Setting::ShortMarks => joined(REFUSED + 12, 0),
+    }
+}
+
+// The setting machine, its answer as one number. Its promise is the machine's, for the answer and for every mark.
+#[no_mangle]
+pub extern "C" fn reedsander_set(sheet: &[u32], text: &[u8], marks: &mut [u32]) -> u64
+    ensures { λ r. ⌜ (r ≡ packedSetting (settingOf (now (sheet .entry)) (now (text .entry)) (now (marks .entry)) .0)) × (now (marks .exit) ≡ settingOf (now (sheet .entry)) (now (text .entry)) (now (marks .entry)) .1) ⌝ }
+{
+    packed_setting(set(sheet, text, marks))
 }
