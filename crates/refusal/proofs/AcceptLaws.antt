@@ -43,6 +43,19 @@ some-refused (TextOutside i) e = refl
 some-refused (NotUtf8 i) e = refl
 some-refused (TagsMissing i) e = refl
 
+pub is-accepted : (j : Judged) → isAccepted j ≡ true → j ≡ Accepted
+is-accepted Accepted h = refl
+is-accepted OddSheet h = absurd (false≢true h)
+is-accepted LongSheet h = absurd (false≢true h)
+is-accepted LongText h = absurd (false≢true h)
+is-accepted (UnknownKind i) h = absurd (false≢true h)
+is-accepted (BadLevel i) h = absurd (false≢true h)
+is-accepted (Misplaced i) h = absurd (false≢true h)
+is-accepted (BadField i) h = absurd (false≢true h)
+is-accepted (TextOutside i) h = absurd (false≢true h)
+is-accepted (NotUtf8 i) h = absurd (false≢true h)
+is-accepted (TagsMissing i) h = absurd (false≢true h)
+
 -- both are accepted where the first that is given is
 pub both-first : (j k : Judged) → isAccepted (orElse j k) ≡ true → isAccepted j ≡ true
 unfolding orElse

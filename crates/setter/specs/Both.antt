@@ -1,0 +1,20 @@
+-- What running both the check and the setting machine promises: the two equations, and demand 3 about what was written.
+use Prim.Native.Nat.{ℕ}
+use mathlib.Core.Path.{_≡_}
+use mathlib.Core.List.{List}
+use Rattle.report.specs.Report.{entriesIn}
+use Rattle.checker.specs.Check.{outcome}
+use Rattle.checker.specs.declared.check.Checked.{Checked}
+use Rattle.checker.specs.declared.check.Checked.the-variants.{Listed}
+use Rattle.setting.specs.Setting.{settingOf}
+use Rattle.setting.specs.declared.run.Setting.{Setting}
+use Rattle.demand.specs.Demand.{Agrees}
+
+-- a sheet, its text, the report and the marks before; the check's answer and the report after it; the machine's answer and the marks after it
+pub record Done (w bytes report marks : List ℕ) (checked : Checked) (written : List ℕ) (set : Setting) (marked : List ℕ) : Type 0 where
+  -- the check's equation
+  pub check : (checked, written) ≡ outcome w bytes report
+  -- the machine's equation
+  pub machine : (set, marked) ≡ settingOf w bytes marks
+  -- Demand 3, where the check accepts: "Its list is the entries the check wrote; its run and stop are the machine's on the same sheet and text." The entries are read back from the report's words.
+  pub demand : (entries : ℕ) → checked ≡ Listed entries → Agrees w bytes (entriesIn entries written)

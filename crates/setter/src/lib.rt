@@ -1,0 +1,2 @@
+// The check and the setting machine on one sheet and text.
+pub mod both;
