@@ -23,8 +23,8 @@ use Rattle.walks.proofs.WalkLaws.{behindKids, level-of, skip-tree}
 use Rattle.walks.proofs.PathLaws.{Paced, paced-room, paced-own, paced-call, paced-turn, kept-set, kept-below}
 use Rattle.heads.specs.declared.own.Before.{Before}
 use Rattle.heads.specs.Heads.{validateTakenBlock}
-use Rattle.containers.specs.Items.{itemNumber, validateItemNumber, validateItemBlankLines, validateTaskItem}
-use Rattle.containers.specs.declared.items.Number.{Number}
+use Rattle.items.specs.Items.{itemNumber, validateItemNumber, validateItemBlankLines, validateTaskItem}
+use Rattle.items.specs.declared.item.Number.{Number}
 use Rattle.oneblock.specs.OneBlock.{holdsBlocks, validateOwn}
 use Rattle.blocks.specs.Blocks.{first, beforeNext, validateBlock, validateBlocks, validateItem, validateItems}
 use Rattle.blocks.specs.At.{At, blockAt, beforeAt, indexAt}

@@ -12,7 +12,7 @@ use Rattle.sheet.specs.declared.records.Rec.{Rec}
 use Rattle.heads.specs.declared.own.Before.{Before}
 use Rattle.heads.specs.Heads.{validateTakenBlock}
 use Rattle.oneblock.specs.OneBlock.{holdsBlocks, validateOwn}
-use Rattle.containers.specs.Items.{itemNumber, validateItemNumber, validateItemBlankLines, validateTaskItem}
+use Rattle.items.specs.Items.{itemNumber, validateItemNumber, validateItemBlankLines, validateTaskItem}
 
 -- `validate_block`: what a block reports, and then its items or its blocks, from what these list
 unfoldable pub validateBlock : List ℕ → List ℕ → Rec → Forest → List Entry → List Entry → List Entry

@@ -10,7 +10,7 @@ ghost use Rattle.refusal.specs.Formed.{Sound};
 ghost use Rattle.walks.specs.Walk.{Begin, Done};
 ghost use Rattle.blocks.specs.Blocks.{first, validateBlocks, validateItems, validateItem, validateDocument};
 ghost use Rattle.blocks.specs.At.{At, blockAt, beforeAt, indexAt};
-use containers::items;
+use items::item;
 use heads::own::Before;
 use heads::own::validate_taken_block;
 use oneblock::block::holds_blocks;
@@ -228,11 +228,11 @@ fn validate_item(
     ensures { λ q. ⌜ Done (now (sheet .entry)) n (i + 1) level (validateItem (take len (now (path .entry))) ordered tight (eqb (count (under (now (sheet .entry)) n (i + 1 + size (under (now (sheet .entry)) n (i + 1) level)) outer)) 0) (recordAt (now (sheet .entry)) i) (under (now (sheet .entry)) n (i + 1) level) (validateBlocks (now (bytes .entry)) (take len (now (path .entry))) 0 first (under (now (sheet .entry)) n (i + 1) level))) tally (now (report .entry)) q (now (report .exit)) × (take len (now (path .exit)) ≡ take len (now (path .entry))) ⌝ }
 {
     let r = record_at(sheet, i);
-    let number = items::item_number(r.b, r.c);
+    let number = item::item_number(r.b, r.c);
     let own = &path[..len];
-    let out = items::validate_item_number(report, own, r.span, ordered, number, tally);
+    let out = item::validate_item_number(report, own, r.span, ordered, number, tally);
     let tight = tight == 1;
-    let out = items::validate_item_blank_lines(
+    let out = item::validate_item_blank_lines(
         sheet,
         report,
         path,
@@ -245,7 +245,7 @@ fn validate_item(
         out,
     );
     let own = &path[..len];
-    let out = items::validate_task_item(sheet, report, own, n, i + 1, level, r.span, r.a, out);
+    let out = item::validate_task_item(sheet, report, own, n, i + 1, level, r.span, r.a, out);
     validate_blocks(sheet, bytes, report, path, len, n, i + 1, level, out)
 }
 

@@ -21,8 +21,8 @@ use Rattle.walks.specs.Every.{validateOneLine}
 use Rattle.inlines.specs.Inlines.{validateInlineNodesAfter, validateInlineNodes, validateInlines}
 use Rattle.heads.specs.declared.own.Before.{Before}
 use Rattle.heads.specs.Heads.{validateHeading, validateFrontmatter, writtenMarker, takesIndentedCode, validateTakenBlock}
-use Rattle.containers.specs.Lists.{validateList}
-use Rattle.containers.specs.Items.{itemNumber, validateItemNumber}
+use Rattle.lists.specs.Lists.{validateList}
+use Rattle.items.specs.Items.{itemNumber, validateItemNumber}
 use Rattle.prose.specs.Prose.{beforeBlocks, validateParagraph, validateDirective}
 use Rattle.oneblock.specs.OneBlock
 use Rattle.oneblock.specs.OneBlock.{validateLeaf, validateHtml, validateContainer, validateOwn}

@@ -17,7 +17,7 @@ use Rattle.contents.specs.Beside.{finalBreakAfter, finalBreak}
 use Rattle.oneinline.specs.Inline.{validateTextDirective}
 use Rattle.heads.specs.Heads.{validateAlert, validateCodeBlock, validateDefinition}
 use Rattle.containers.specs.Footnotes.{blankLineAt, validateFootnoteDefinition}
-use Rattle.containers.specs.Items.{validateBlankLine, validateItemBlankLines, validateTaskItem}
+use Rattle.items.specs.Items.{validateBlankLine, validateItemBlankLines, validateTaskItem}
 use Rattle.containers.specs.Tags.{validateTags, validateHtmlContainer}
 use Rattle.demand.specs.Demand.{named}
 use Rattle.demand.proofs.Fits.{Clean, clean-none, clean-append, clean-noise}

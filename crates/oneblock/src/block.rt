@@ -9,7 +9,7 @@ ghost use Rattle.walks.specs.Walk.{Start, Begin};
 ghost use Rattle.oneblock.specs.OneBlock.{validateLeaf, validateHtml, validateContainer, validateOwn, holdsBlocks};
 use checks::rules;
 use containers::footnotes::validate_footnote_definition;
-use containers::lists::validate_list;
+use lists::list::validate_list;
 use containers::tags::validate_html_container;
 use heads::own;
 use inlines::nodes::validate_inlines;

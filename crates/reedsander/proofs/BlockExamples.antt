@@ -23,8 +23,8 @@ use Rattle.inlines.specs.Inlines.{allEmpty, finalBreak, finalBreakAfter, noInli
 use Rattle.heads.specs.Heads.{frontmatterKind, takesIndentedCode, validateAlert, validateCodeBlock, validateDefinition, validateFrontmatter, validateHeading, validateTakenBlock, writtenMarker}
 use Rattle.containers.specs.Tags.{validateHtmlContainer, validateTags}
 use Rattle.containers.specs.Footnotes.{blankLineAt, validateFootnoteDefinition}
-use Rattle.containers.specs.Items.{itemNumber, opensWithParagraph, validateBlankLine, validateItemBlankLines, validateItemNumber, validateTaskItem}
-use Rattle.containers.specs.Lists.{countFull, holdsOneBlock, validateList}
+use Rattle.items.specs.Items.{itemNumber, opensWithParagraph, validateBlankLine, validateItemBlankLines, validateItemNumber, validateTaskItem}
+use Rattle.lists.specs.Lists.{countFull, holdsOneBlock, validateList}
 use Rattle.tables.specs.Tables.{headerWidth, validateCell, validateCells, validateRows, validateTable}
 use Rattle.prose.specs.Prose.{beforeBlocks, validateDirective, validateParagraph}
 use Rattle.oneblock.specs.OneBlock.{holdsBlocks, validateContainer, validateHtml, validateLeaf, validateOwn}

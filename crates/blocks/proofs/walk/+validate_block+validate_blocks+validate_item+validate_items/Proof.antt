@@ -27,10 +27,10 @@ use Rattle.blocks.proofs.walk.validate_items.Kinds as validate-items-ki
 use Rattle.blocks.proofs.walk.+validate_block+validate_blocks+validate_item+validate_items.Lts-validate_items as validate-items-lts
 use Rattle.blocks.proofs.walk.before_at.Reads as before-at-reads
 use Rattle.blocks.proofs.walk.index_at.Reads as index-at-reads
-use Rattle.containers.proofs.items.item_number.Reads as item-number-reads
-use Rattle.containers.proofs.items.validate_item_blank_lines.Reads as validate-item-blank-lines-reads
-use Rattle.containers.proofs.items.validate_item_number.Reads as validate-item-number-reads
-use Rattle.containers.proofs.items.validate_task_item.Reads as validate-task-item-reads
+use Rattle.items.proofs.item.item_number.Reads as item-number-reads
+use Rattle.items.proofs.item.validate_item_blank_lines.Reads as validate-item-blank-lines-reads
+use Rattle.items.proofs.item.validate_item_number.Reads as validate-item-number-reads
+use Rattle.items.proofs.item.validate_task_item.Reads as validate-task-item-reads
 use Rattle.heads.proofs.own.validate_taken_block.Reads as validate-taken-block-reads
 use Rattle.oneblock.proofs.block.holds_blocks.Reads as holds-blocks-reads
 use Rattle.oneblock.proofs.block.validate_own.Reads as validate-own-reads
