@@ -18,7 +18,7 @@ use Rattle.report.specs.Report.{Entry, Lists, _⊕_}
 use Rattle.report.specs.declared.entries.Tally.{Tally}
 use Rattle.report.proofs.ReportLaws.{join-assoc, join-none, none-join, lists-none, lists-then}
 use Rattle.walks.specs.Walk.{Begin, Done}
-use Rattle.walks.specs.declared.every.Walked.{Walked}
+use Rattle.walks.specs.declared.trees.Walked.{Walked}
 use Rattle.walks.proofs.WalkLaws.{behindKids, level-of, skip-tree}
 use Rattle.walks.proofs.PathLaws.{Paced, paced-room, paced-own, paced-call, paced-turn, kept-set, kept-below}
 use Rattle.heads.specs.declared.own.Before.{Before}

@@ -19,8 +19,8 @@ use report::entries;
 use report::entries::Tally;
 use sheet::kinds;
 use sheet::records::record_at;
-use walks::every::Walked;
-use walks::every::skip;
+use walks::trees::Walked;
+use walks::trees::skip;
 
 // The block before the next tree: a blank line does not count, nor what is no block.
 fn before_at(before: Before, kind: u32, a: u32, b: u32) -> Before

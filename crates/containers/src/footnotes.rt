@@ -13,7 +13,7 @@ use sheet::kinds;
 use sheet::records::Span;
 use sheet::records::Text;
 use sheet::records::record_at;
-use walks::every::skip;
+use walks::trees::skip;
 use walks::trees::ends;
 
 // Rule 4: a blank line stands at neither end; one is reported.

@@ -17,7 +17,7 @@ use sheet::records;
 use sheet::records::Rec;
 use sheet::records::Span;
 use strings::bytes::choose;
-use walks::every::skip;
+use walks::trees::skip;
 
 pub struct Content {
     // an inline stands there

@@ -17,7 +17,7 @@ use Rattle.sheet.specs.declared.records.Text.{Text}
 use Rattle.report.specs.Report.{Entry, listIf, _⊕_}
 use Rattle.standing.specs.Places.{holdsBlocks, holdsNothing, parentGroup, otherGroup}
 use Rattle.facts.specs.Values.{isBreak}
-use Rattle.walks.specs.Every.{validateOneLine}
+use Rattle.depths.specs.Every.{validateOneLine}
 use Rattle.inlines.specs.Inlines.{validateInlineNodesAfter, validateInlineNodes, validateInlines}
 use Rattle.heads.specs.declared.own.Before.{Before}
 use Rattle.heads.specs.Heads.{validateHeading, validateFrontmatter, writtenMarker, takesIndentedCode, validateTakenBlock}

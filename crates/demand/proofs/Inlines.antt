@@ -16,7 +16,7 @@ use Rattle.report.specs.Report.{Entry, listIf, _⊕_}
 use Rattle.standing.specs.Places.{holdsInlines, holdsLabel, holdsNothing, parentGroup, otherGroup}
 use Rattle.facts.specs.Values.{isBreak, isPlainBreak, isLink}
 use Rattle.checks.specs.Single.{validateSiblings, validateText, validateCodeInline}
-use Rattle.walks.specs.Every.{eachRecord, validateOneLine, validateLinkText}
+use Rattle.depths.specs.Every.{eachRecord, validateOneLine, validateLinkText}
 use Rattle.contents.specs.Beside.{allEmpty}
 use Rattle.oneinline.specs.Inline.{validateEmphasisContainer, validateInlineValues, validateInline}
 use Rattle.inlines.specs.Inlines.{validateNode, validateInlineNodesAfter}

@@ -12,7 +12,7 @@ use Rattle.sheet.specs.declared.records.Span.{Span}
 use Rattle.sheet.specs.declared.records.Text.{Text}
 use Rattle.report.specs.Report.{Entry}
 use Rattle.checks.specs.Single.{validateDestination, validateIdentifier, validateEscape, validateMathInline, validateDirectiveName}
-use Rattle.walks.specs.Every.{validateDirectiveAttributes, eachRecord, validateCellValues}
+use Rattle.depths.specs.Every.{validateDirectiveAttributes, eachRecord, validateCellValues}
 use Rattle.contents.specs.Beside.{finalBreakAfter, finalBreak}
 use Rattle.oneinline.specs.Inline.{validateTextDirective}
 use Rattle.heads.specs.Heads.{validateAlert, validateCodeBlock, validateDefinition}

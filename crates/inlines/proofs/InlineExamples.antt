@@ -19,7 +19,7 @@ use Rattle.sheet.specs.declared.records.Rec.{Rec}
 use Rattle.sheet.specs.declared.records.Text.{Text}
 use Rattle.facts.specs.Values.{startsWhite, endsWhite, isUnwritable, isBadAttribute}
 use Rattle.checks.specs.Single.{validateDestination, validateIdentifier, validateText, validateEscape, validateCodeInline, validateMathInline, validateDirectiveName, validateSiblings}
-use Rattle.walks.specs.Every.{validateDirectiveAttributes, validateLinkText, validateCellValues, validateOneLine, eachRecord}
+use Rattle.depths.specs.Every.{validateDirectiveAttributes, validateLinkText, validateCellValues, validateOneLine, eachRecord}
 use Rattle.inlines.specs.Inlines.{noInline, allEmpty, startsWithWhitespace, endsWithWhitespaceAfter, endsWithWhitespace, holdsJoined, validateTextDirective, finalBreakAfter, finalBreak, validateEmphasisContainer, validateInline, validateInlineValues, validateNode, validateInlineNodesAfter, validateInlineNodes, validateInlines}
 
 -- ---- records over the text

@@ -21,7 +21,7 @@ use report::entries::list_if;
 use sheet::kinds;
 use sheet::records::Span;
 use sheet::records::record_at;
-use walks::every::skip;
+use walks::trees::skip;
 use walks::trees::ends;
 
 const MOST_NUMBER: u32 = 999999999;

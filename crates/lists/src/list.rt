@@ -17,7 +17,7 @@ use sheet::kinds;
 use sheet::records::Span;
 use sheet::records::level_at;
 use sheet::records::record_at;
-use walks::every::skip;
+use walks::trees::skip;
 use walks::trees::ends;
 
 // With one block more, which counts where it is no blank line.

@@ -15,14 +15,14 @@ use Rattle.report.specs.declared.entries.Tally.{Tally}
 use Rattle.report.proofs.ReportLaws.{lists-none, lists-then}
 use Rattle.contents.specs.Content.{contentOf}
 use Rattle.checks.specs.Single.{validateDirectiveName}
-use Rattle.walks.specs.Every.{validateDirectiveAttributes}
+use Rattle.depths.specs.Every.{validateDirectiveAttributes}
 use Rattle.contents.specs.Beside.{noInline}
 use Rattle.oneinline.specs.Inline.{validateTextDirective, validateEmphasisContainer, validateInlineValues, validateInline}
 use Rattle.checks.specs.Rules
 use Rattle.facts.specs.Values.{isEmphasisContainer}
 use Rattle.walks.specs.Walk.{Done}
 use Rattle.contents.specs.declared.content.Content.{Content}
-use Rattle.walks.specs.declared.every.Walked.{Walked}
+use Rattle.walks.specs.declared.trees.Walked.{Walked}
 use Rattle.contents.proofs.ContentLaws.{says-none, says-empty, says-starts, says-ends, says-joined, says-last}
 
 -- ---- by what was gathered of the children

@@ -14,7 +14,7 @@ use Rattle.sheet.specs.declared.records.Text.{Text}
 use Rattle.checks.specs.Rules
 use Rattle.facts.specs.Values.{isEmphasisContainer}
 use Rattle.checks.specs.Single.{validateDestination, validateIdentifier, validateText, validateEscape, validateCodeInline, validateMathInline, validateDirectiveName}
-use Rattle.walks.specs.Every.{validateDirectiveAttributes, validateLinkText}
+use Rattle.depths.specs.Every.{validateDirectiveAttributes, validateLinkText}
 use Rattle.contents.specs.Beside.{noInline, allEmpty, startsWithWhitespace, endsWithWhitespace, holdsJoined, finalBreak}
 
 -- `validate_text_directive`, up to the walk of its label: 54, then 55

@@ -4,7 +4,7 @@ ghost use lib.ListN.{length};
 ghost use Rattle.sheet.specs.Forest.{under};
 ghost use Rattle.report.specs.Report.{Lists, listIf, _⊕_};
 ghost use Rattle.checks.specs.Single.{validateDestination, validateIdentifier};
-ghost use Rattle.walks.specs.Every.{validateLinkText};
+ghost use Rattle.depths.specs.Every.{validateLinkText};
 ghost use Rattle.contents.specs.Beside.{noInline};
 ghost use Rattle.oneinline.specs.Inline.{validateTextDirective, validateEmphasisContainer, validateInlineValues, validateInline};
 ghost use Rattle.checks.specs.Rules;
@@ -17,7 +17,7 @@ use report::entries::Tally;
 use report::entries::list_if;
 use sheet::kinds;
 use sheet::records::Rec;
-use walks::every;
+use depths::every;
 
 // Rules 39 or 40, 41 and 30 of the container `r` whose children start at record `from`.
 fn validate_emphasis_container(

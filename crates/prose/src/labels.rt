@@ -14,8 +14,8 @@ use sheet::kinds;
 use sheet::records::Span;
 use sheet::records::Text;
 use sheet::records::record_at;
-use walks::every;
-use walks::every::skip;
+use depths::every;
+use walks::trees::skip;
 
 // The record where the blocks of a directive begin, or where it ends.
 fn label_end(sheet: &[u32], n: usize, from: usize, level: u32) -> usize

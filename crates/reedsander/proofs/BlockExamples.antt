@@ -18,7 +18,7 @@ use Rattle.report.specs.Report.{Entry, listIf, _⊕_}
 use Rattle.sheet.specs.Sheet.{recordAt}
 use Rattle.checks.specs.Single.{validateCodeInline, validateDestination, validateDirectiveName, validateSiblings, validateText}
 use Rattle.facts.specs.Values.{isBadAttribute, isUnwritable}
-use Rattle.walks.specs.Every.{eachRecord, validateCellValues, validateDirectiveAttributes, validateOneLine}
+use Rattle.depths.specs.Every.{eachRecord, validateCellValues, validateDirectiveAttributes, validateOneLine}
 use Rattle.inlines.specs.Inlines.{allEmpty, finalBreak, finalBreakAfter, noInline, validateInline, validateInlineValues, validateInlineNodes, validateInlineNodesAfter, validateInlines, validateNode}
 use Rattle.heads.specs.Heads.{frontmatterKind, takesIndentedCode, validateAlert, validateCodeBlock, validateDefinition, validateFrontmatter, validateHeading, validateTakenBlock, writtenMarker}
 use Rattle.containers.specs.Tags.{validateHtmlContainer, validateTags}

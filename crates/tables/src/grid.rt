@@ -12,8 +12,8 @@ use report::entries::list_if;
 use sheet::records::Span;
 use sheet::records::level_at;
 use sheet::records::record_at;
-use walks::every;
-use walks::every::Walked;
+use depths::every;
+use walks::trees::Walked;
 use walks::trees::count;
 use walks::trees::ends;
 

@@ -36,7 +36,7 @@ use Rattle.oneblock.proofs.block.holds_blocks.Reads as holds-blocks-reads
 use Rattle.oneblock.proofs.block.validate_own.Reads as validate-own-reads
 use Rattle.sheet.proofs.kinds.is_block.Reads as is-block-reads
 use Rattle.sheet.proofs.records.record_at.Reads as record-at-reads
-use Rattle.walks.proofs.every.skip.Reads as skip-reads
+use Rattle.walks.proofs.trees.skip.Reads as skip-reads
 use Rattle.blocks.proofs.walk.+validate_block+validate_blocks+validate_item+validate_items.{statement}
 use Rattle.blocks.proofs.walk.+validate_block+validate_blocks+validate_item+validate_items.Tie.{close}
 

@@ -1,11 +1,12 @@
--- `walks::every::validate_directive_attributes` meets its contract.
+-- `depths::every::validate_directive_attributes` meets its contract.
 use Prim.Native.Nat.{_-_}
-use Rattle.walks.proofs.WalkLaws.{Loop, attributes-none, attributes-turn, loop-end, loop-out, loop-start, skip-down}
-use Rattle.walks.specs.Every.{validateDirectiveAttributes}
+use Rattle.depths.proofs.EveryLaws.{attributes-none, attributes-turn}
+use Rattle.walks.proofs.WalkLaws.{Loop, loop-end, loop-out, loop-start, skip-down}
+use Rattle.depths.specs.Every.{validateDirectiveAttributes}
 use Rattle.sheet.specs.Forest.{under}
 use borrow.Author.Needs.{needs}
-use Rattle.walks.proofs.every.validate_directive_attributes.Statement.{statement}
-use Rattle.walks.proofs.every.validate_directive_attributes.Tie as tie
+use Rattle.depths.proofs.every.validate_directive_attributes.Statement.{statement}
+use Rattle.depths.proofs.every.validate_directive_attributes.Tie as tie
 
 abbrev Inv-loop : tie.InvT-loop
 Inv-loop sheet bytes report₀ path n from level no-span out₀ i₀ report out i = Loop (validateDirectiveAttributes bytes path (under sheet n «from» level)) (validateDirectiveAttributes bytes path) sheet path n «from» level out₀ report₀ i out report

@@ -1,13 +1,14 @@
--- `walks::every::validate_cell_values` meets its contract.
+-- `depths::every::validate_cell_values` meets its contract.
 use Prim.Native.Nat.{_-_}
-use Rattle.walks.proofs.WalkLaws.{Loop, each-none, each-turn, faultIn, loop-end, loop-out, loop-start}
-use Rattle.walks.specs.Every.{eachRecord, validateCellValues}
+use Rattle.depths.proofs.EveryLaws.{each-none, each-turn, faultIn}
+use Rattle.walks.proofs.WalkLaws.{Loop, loop-end, loop-out, loop-start}
+use Rattle.depths.specs.Every.{eachRecord, validateCellValues}
 use Rattle.facts.specs.Values.{isUnwritable}
 use Rattle.checks.specs.Rules
 use Rattle.sheet.specs.Forest.{under}
 use borrow.Author.Needs.{needs}
-use Rattle.walks.proofs.every.validate_cell_values.Statement.{statement}
-use Rattle.walks.proofs.every.validate_cell_values.Tie as tie
+use Rattle.depths.proofs.every.validate_cell_values.Statement.{statement}
+use Rattle.depths.proofs.every.validate_cell_values.Tie as tie
 
 abbrev Inv-loop : tie.InvT-loop
 Inv-loop sheet bytes report₀ path n from level out₀ i₀ report out i = Loop (validateCellValues bytes path (under sheet n «from» level)) (eachRecord (faultIn (isUnwritable bytes) Rules.pipeInCell path)) sheet path n «from» level out₀ report₀ i out report

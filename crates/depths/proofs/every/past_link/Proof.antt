@@ -1,7 +1,7 @@
--- `walks::every::past_link` meets its contract.
+-- `depths::every::past_link` meets its contract.
 use borrow.Author.Needs.{needs}
-use Rattle.walks.proofs.every.past_link.Statement.{statement}
-use Rattle.walks.proofs.every.past_link.Tie as tie
+use Rattle.depths.proofs.every.past_link.Statement.{statement}
+use Rattle.depths.proofs.every.past_link.Tie as tie
 
 returns : tie.Need-returns
 returns c = cc

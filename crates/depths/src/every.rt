@@ -1,24 +1,20 @@
-// Where a walk stands, and the walks over every record of some trees.
+// The walks over every record of some trees, at any depth.
 ghost use mathlib.Core.Path.{_≡_};
 ghost use Prim.Native.Nat.{_+_, _*_, _<_, _≤_};
 ghost use lib.ListN.{length};
 ghost use Rattle.strings.specs.Lists.{if_then_else_};
 ghost use Rattle.sheet.specs.Sheet.{recordWords};
 ghost use Rattle.sheet.specs.Forest.{under, size};
-ghost use Rattle.walks.specs.Every.{validateCellValues, validateDirectiveAttributes, validateLinkText, validateOneLine};
+ghost use Rattle.depths.specs.Every.{validateCellValues, validateDirectiveAttributes, validateLinkText, validateOneLine};
 ghost use Rattle.walks.specs.Walk.{Start, Done};
 use checks::rules;
 use facts::values;
 use report::entries;
 use report::entries::Tally;
 use sheet::records;
 use sheet::records::Span;
-
-// The record after those that were walked, and the tally of the list.
-pub struct Walked {
-    pub next: usize,
-    pub tally: Tally,
-}
+use walks::trees::Walked;
+use walks::trees::skip;
 
 // Rules 20, 22, 23: no break at any depth. Preorder is the sheet's order, so one loop goes through all depths.
 pub fn validate_one_line(
@@ -86,21 +82,6 @@ pub fn validate_cell_values(
         next: i,
         tally: out,
     }
-}
-
-// The record after those from `from` on that are deeper than `level`.
-pub fn skip(sheet: &[u32], n: usize, from: usize, level: u32) -> usize
-    requires { ⌜ (n * recordWords ≤ length (now sheet)) × (from ≤ n) ⌝ }
-    ensures { λ r. ⌜ r ≡ from + size (under (now (sheet .entry)) n from level) ⌝ }
-{
-    let mut i = from;
-    while i < n {
-        if records::level_at(sheet, i) <= level {
-            return i;
-        }
-        i = i + 1;
-    }
-    i
 }
 
 // The record to go on with: behind all that stands under record `i` where it is a link, else the next.

@@ -1,12 +1,13 @@
--- `walks::every::validate_one_line` meets its contract.
+-- `depths::every::validate_one_line` meets its contract.
 use Prim.Native.Nat.{_-_}
-use Rattle.walks.proofs.WalkLaws.{Loop, each-none, each-turn, faultIn, loop-end, loop-out, loop-start}
-use Rattle.walks.specs.Every.{eachRecord, validateOneLine}
+use Rattle.depths.proofs.EveryLaws.{each-none, each-turn, faultIn}
+use Rattle.walks.proofs.WalkLaws.{Loop, loop-end, loop-out, loop-start}
+use Rattle.depths.specs.Every.{eachRecord, validateOneLine}
 use Rattle.facts.specs.Values.{isBreak}
 use Rattle.sheet.specs.Forest.{under}
 use borrow.Author.Needs.{needs}
-use Rattle.walks.proofs.every.validate_one_line.Statement.{statement}
-use Rattle.walks.proofs.every.validate_one_line.Tie as tie
+use Rattle.depths.proofs.every.validate_one_line.Statement.{statement}
+use Rattle.depths.proofs.every.validate_one_line.Tie as tie
 
 abbrev Inv-loop : tie.InvT-loop
 Inv-loop sheet report₀ path n from level rule out₀ i₀ report out i = Loop (validateOneLine rule path (under sheet n «from» level)) (eachRecord (faultIn (λ r. isBreak (r .kind)) rule path)) sheet path n «from» level out₀ report₀ i out report

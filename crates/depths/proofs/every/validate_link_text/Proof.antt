@@ -1,11 +1,12 @@
--- `walks::every::validate_link_text` meets its contract.
+-- `depths::every::validate_link_text` meets its contract.
 use Prim.Native.Nat.{_-_}
-use Rattle.walks.proofs.WalkLaws.{Loop, links-down, links-none, links-turn, loop-end, loop-out, loop-start}
-use Rattle.walks.specs.Every.{validateLinkText}
+use Rattle.depths.proofs.EveryLaws.{links-down, links-none, links-turn}
+use Rattle.walks.proofs.WalkLaws.{Loop, loop-end, loop-out, loop-start}
+use Rattle.depths.specs.Every.{validateLinkText}
 use Rattle.sheet.specs.Forest.{under}
 use borrow.Author.Needs.{needs}
-use Rattle.walks.proofs.every.validate_link_text.Statement.{statement}
-use Rattle.walks.proofs.every.validate_link_text.Tie as tie
+use Rattle.depths.proofs.every.validate_link_text.Statement.{statement}
+use Rattle.depths.proofs.every.validate_link_text.Tie as tie
 
 abbrev Inv-loop : tie.InvT-loop
 Inv-loop sheet report₀ path n from level out₀ i₀ report out i = Loop (validateLinkText path (under sheet n «from» level)) (validateLinkText path) sheet path n «from» level out₀ report₀ i out report

@@ -1,8 +1,8 @@
--- `walks::every::skip` meets its contract.
+-- `walks::trees::skip` meets its contract.
 use Prim.Native.Nat.{_-_}
 use Rattle.walks.proofs.WalkLaws.{Skipping, skipping}
-use Rattle.walks.proofs.every.skip.Statement.{statement}
-use Rattle.walks.proofs.every.skip.Tie as tie
+use Rattle.walks.proofs.trees.skip.Statement.{statement}
+use Rattle.walks.proofs.trees.skip.Tie as tie
 
 abbrev Inv-loop : tie.InvT-loop
 Inv-loop sheet n from level i₀ i = Skipping sheet n «from» level i
