@@ -18,7 +18,8 @@ use Rattle.report.specs.declared.entries.Tally.{Tally}
 use Rattle.report.proofs.ReportLaws.{lists-then}
 use Rattle.checks.specs.Single.{validateDestination, validateIdentifier, validateText, validateEscape, validateCodeInline, validateMathInline, validateDirectiveName, validateSiblings}
 use Rattle.checks.specs.Rules
-use Rattle.facts.specs.Values.{isEmpty, isBreak, isPlainBreak}
+use Rattle.facts.specs.Values.{isEmpty}
+use Rattle.classes.specs.Classes.{isBreak, isPlainBreak}
 
 module _ (path : List ℕ) (span : Span) {s t : Tally} {x y : List ℕ} {p : Bool} where
   pub destination-law : (a : ℕ) (d : Text) → p ≡ isEmpty d → Lists s t x y (listIf (eqb a 0 && p) Rules.emptyBareDestination span path) → Lists s t x y (validateDestination path span a d)

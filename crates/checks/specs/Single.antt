@@ -13,7 +13,8 @@ use Rattle.report.specs.Report.{Entry, listIf, _⊕_}
 use Rattle.sheet.specs.declared.records.Span.{Span}
 use Rattle.sheet.specs.declared.records.Text.{Text}
 use Rattle.checks.specs.Rules
-use Rattle.facts.specs.Values.{isEmpty, isBreak, isPlainBreak}
+use Rattle.facts.specs.Values.{isEmpty}
+use Rattle.classes.specs.Classes.{isBreak, isPlainBreak}
 
 -- `validate_destination`: 25. A is 0 for a bare destination.
 unfoldable pub validateDestination : List ℕ → Span → ℕ → Text → List Entry

@@ -4,6 +4,7 @@ ghost use lib.ListN.{length};
 ghost use Rattle.report.specs.Report.{Lists};
 ghost use Rattle.checks.specs.Single.{validateDestination, validateIdentifier, validateText, validateEscape, validateCodeInline, validateMathInline, validateDirectiveName, validateSiblings};
 use crate::rules;
+use classes::class;
 use facts::values;
 use form::fields::text_of;
 use leaves::math::holds_backtick_dollar;
@@ -156,7 +157,7 @@ pub fn validate_siblings(
     requires { ⌜ length (now path) ≤ 64 ⌝ }
     ensures { λ r. ⌜ Lists tally r (now (report .entry)) (now (report .exit)) (validateSiblings (now (path .entry)) span before kind a) ⌝ }
 {
-    let blank_line = values::is_break(before) & values::is_plain_break(kind, a);
+    let blank_line = class::is_break(before) & class::is_plain_break(kind, a);
     let out = list_if(
         blank_line,
         report,

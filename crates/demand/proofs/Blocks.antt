@@ -16,7 +16,7 @@ use Rattle.sheet.specs.declared.records.Span.{Span}
 use Rattle.sheet.specs.declared.records.Text.{Text}
 use Rattle.report.specs.Report.{Entry, listIf, _⊕_}
 use Rattle.standing.specs.Places.{holdsBlocks, holdsNothing, parentGroup, otherGroup}
-use Rattle.facts.specs.Values.{isBreak}
+use Rattle.classes.specs.Classes.{isBreak}
 use Rattle.depths.specs.Every.{validateOneLine}
 use Rattle.inlines.specs.Inlines.{validateInlineNodesAfter, validateInlineNodes, validateInlines}
 use Rattle.heads.specs.declared.own.Before.{Before}

@@ -14,7 +14,7 @@ use Rattle.sheet.specs.declared.records.Rec.{Rec}
 use Rattle.form.specs.Fields.{textOf}
 use Rattle.report.specs.Report.{Entry, listIf, _⊕_}
 use Rattle.standing.specs.Places.{holdsInlines, holdsLabel, holdsNothing, parentGroup, otherGroup}
-use Rattle.facts.specs.Values.{isBreak, isPlainBreak, isLink}
+use Rattle.classes.specs.Classes.{isBreak, isPlainBreak, isLink}
 use Rattle.checks.specs.Single.{validateSiblings, validateText, validateCodeInline}
 use Rattle.depths.specs.Every.{eachRecord, validateOneLine, validateLinkText}
 use Rattle.contents.specs.Beside.{allEmpty}

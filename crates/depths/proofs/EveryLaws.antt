@@ -13,7 +13,8 @@ use Rattle.sheet.specs.declared.records.Rec.{Rec}
 use Rattle.sheet.specs.declared.records.Span.{Span}
 use Rattle.report.specs.declared.entries.Tally.{Tally}
 use Rattle.report.proofs.ReportLaws.{join-assoc, none-join}
-use Rattle.facts.specs.Values.{isBadAttribute, isLink}
+use Rattle.facts.specs.Values.{isBadAttribute}
+use Rattle.classes.specs.Classes.{isLink}
 use Rattle.checks.specs.Rules
 use Rattle.walks.proofs.WalkLaws.{Loop, Skipping, behindKids, loop-turn, skip-tree, skip-turn, spine-kids, spine-tree}
 use Rattle.depths.specs.Every.{eachRecord, validateDirectiveAttributes, validateLinkText}

@@ -7,7 +7,8 @@ use Rattle.sheet.specs.Forest.{Forest, none, tree}
 use Rattle.report.specs.Report.{Entry, listIf, _⊕_}
 use Rattle.sheet.specs.declared.records.Rec.{Rec}
 use Rattle.checks.specs.Rules
-use Rattle.facts.specs.Values.{isBreak, isLink, isUnwritable, isBadAttribute}
+use Rattle.facts.specs.Values.{isUnwritable, isBadAttribute}
+use Rattle.classes.specs.Classes.{isBreak, isLink}
 
 -- `validate_directive_attributes`: 55 for each attribute. Document 01: "for rule 55 it is the attribute, and the entry has no span".
 unfoldable pub validateDirectiveAttributes : List ℕ → List ℕ → Forest → List Entry

@@ -8,6 +8,7 @@ ghost use Rattle.sheet.specs.Forest.{under, size};
 ghost use Rattle.depths.specs.Every.{validateCellValues, validateDirectiveAttributes, validateLinkText, validateOneLine};
 ghost use Rattle.walks.specs.Walk.{Start, Done};
 use checks::rules;
+use classes::class;
 use facts::values;
 use report::entries;
 use report::entries::Tally;
@@ -40,7 +41,7 @@ pub fn validate_one_line(
                 tally: out,
             };
         }
-        let fault = values::is_break(r.kind);
+        let fault = class::is_break(r.kind);
         out = entries::list_if(fault, report, rule, r.span, path, out);
         i = i + 1;
     }
@@ -118,7 +119,7 @@ pub fn validate_link_text(
                 tally: out,
             };
         }
-        let found = values::is_link(r.kind);
+        let found = class::is_link(r.kind);
         out = entries::list_if(found, report, rules::LINK_IN_LINK, r.span, path, out);
         i = past_link(sheet, n, i, found, r.level);
     }

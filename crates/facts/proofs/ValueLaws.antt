@@ -18,7 +18,8 @@ use Rattle.form.specs.Fields.{textOf}
 use Rattle.sheet.specs.Kinds.{attribute, text, wikiLink}
 use Rattle.sheet.specs.declared.records.Rec.{Rec}
 use Rattle.sheet.specs.declared.records.Text.{Text}
-use Rattle.facts.specs.Values.{onlyIf, startsWhite, endsWhite, isPlainBreak, isBreak, namesOwnValue, namesLabel, isUnwritable, isBadAttribute}
+use Rattle.facts.specs.Values.{onlyIf, startsWhite, endsWhite, isUnwritable, isBadAttribute}
+use Rattle.classes.specs.Classes.{isPlainBreak, isBreak, namesOwnValue, namesLabel}
 
 -- the text 0, 0 has no bytes
 nothing : (bytes : List ℕ) → textOf bytes (record { start = 0; len = 0 }) ≡ []

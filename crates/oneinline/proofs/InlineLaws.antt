@@ -19,7 +19,7 @@ use Rattle.depths.specs.Every.{validateDirectiveAttributes}
 use Rattle.contents.specs.Beside.{noInline}
 use Rattle.oneinline.specs.Inline.{validateTextDirective, validateEmphasisContainer, validateInlineValues, validateInline}
 use Rattle.checks.specs.Rules
-use Rattle.facts.specs.Values.{isEmphasisContainer}
+use Rattle.classes.specs.Classes.{isEmphasisContainer}
 use Rattle.walks.specs.Walk.{Done}
 use Rattle.contents.specs.declared.content.Content.{Content}
 use Rattle.walks.specs.declared.trees.Walked.{Walked}

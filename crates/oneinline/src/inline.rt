@@ -12,7 +12,7 @@ ghost use Rattle.walks.specs.Walk.{Start};
 use checks::rules;
 use checks::single;
 use contents::content::gather;
-use facts::values;
+use classes::class;
 use report::entries::Tally;
 use report::entries::list_if;
 use sheet::kinds;
@@ -182,7 +182,7 @@ pub fn validate_inline(
     ensures { λ q. ⌜ Lists tally q (now (report .entry)) (now (report .exit)) (validateInline (now (bytes .entry)) (now (path .entry)) r (under (now (sheet .entry)) n from (r .level))) ⌝ }
 {
     let kind = r.kind;
-    if values::is_emphasis_container(kind) {
+    if class::is_emphasis_container(kind) {
         return validate_emphasis_container(sheet, bytes, report, path, n, from, r, tally);
     }
     match kind {

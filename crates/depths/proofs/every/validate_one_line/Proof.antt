@@ -3,7 +3,7 @@ use Prim.Native.Nat.{_-_}
 use Rattle.depths.proofs.EveryLaws.{each-none, each-turn, faultIn}
 use Rattle.walks.proofs.WalkLaws.{Loop, loop-end, loop-out, loop-start}
 use Rattle.depths.specs.Every.{eachRecord, validateOneLine}
-use Rattle.facts.specs.Values.{isBreak}
+use Rattle.classes.specs.Classes.{isBreak}
 use Rattle.sheet.specs.Forest.{under}
 use borrow.Author.Needs.{needs}
 use Rattle.depths.proofs.every.validate_one_line.Statement.{statement}
