@@ -8,11 +8,14 @@ ghost use Rattle.sheet.specs.Forest.{under, count, size};
 ghost use Rattle.report.specs.Report.{Lists, start};
 ghost use Rattle.refusal.specs.Formed.{Sound};
 ghost use Rattle.walks.specs.Walk.{Begin, Done};
-ghost use Rattle.blocks.specs.Blocks.{first, validateBlocks, validateItems, validateItem, validateDocument};
-ghost use Rattle.blocks.specs.At.{At, blockAt, beforeAt, indexAt};
+ghost use Rattle.neighbours.specs.Taken.{first};
+ghost use Rattle.blocks.specs.Blocks.{validateBlocks, validateItems, validateItem, validateDocument};
+ghost use Rattle.blocks.specs.At.{At, blockAt};
 use items::item;
-use heads::own::Before;
-use heads::own::validate_taken_block;
+use neighbours::taken::Before;
+use neighbours::taken::before_at;
+use neighbours::taken::index_at;
+use neighbours::taken::validate_taken_block;
 use oneblock::block::holds_blocks;
 use oneblock::block::validate_own;
 use report::entries;
@@ -21,27 +24,6 @@ use sheet::kinds;
 use sheet::records::record_at;
 use walks::trees::Walked;
 use walks::trees::skip;
-
-// The block before the next tree: a blank line does not count, nor what is no block.
-fn before_at(before: Before, kind: u32, a: u32, b: u32) -> Before
-    ensures { λ q. ⌜ q ≡ beforeAt before kind a b ⌝ }
-{
-    if !kinds::is_block(kind) {
-        return before;
-    }
-    if kind == kinds::BLANK_LINE {
-        return before;
-    }
-    Before { kind, a, b }
-}
-
-// The next tree's index: one more behind a block.
-fn index_at(k: u32, kind: u32) -> u32
-    requires { ⌜ k ≤ 65535 ⌝ }
-    ensures { λ q. ⌜ q ≡ indexAt k kind ⌝ }
-{
-    if kinds::is_block(kind) { k + 1 } else { k }
-}
 
 // The blocks from record `from` on that are deeper than `level`. The path of what holds them is the first `len` words of `path`.
 fn validate_blocks(

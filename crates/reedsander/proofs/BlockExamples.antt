@@ -20,7 +20,8 @@ use Rattle.checks.specs.Single.{validateCodeInline, validateDestination, valida
 use Rattle.facts.specs.Values.{isBadAttribute, isUnwritable}
 use Rattle.depths.specs.Every.{eachRecord, validateCellValues, validateDirectiveAttributes, validateOneLine}
 use Rattle.inlines.specs.Inlines.{allEmpty, finalBreak, finalBreakAfter, noInline, validateInline, validateInlineValues, validateInlineNodes, validateInlineNodesAfter, validateInlines, validateNode}
-use Rattle.heads.specs.Heads.{frontmatterKind, takesIndentedCode, validateAlert, validateCodeBlock, validateDefinition, validateFrontmatter, validateHeading, validateTakenBlock, writtenMarker}
+use Rattle.heads.specs.Heads.{frontmatterKind, validateAlert, validateCodeBlock, validateDefinition, validateFrontmatter, validateHeading}
+use Rattle.neighbours.specs.Taken.{takesIndentedCode, validateTakenBlock, writtenMarker, beforeNext}
 use Rattle.containers.specs.Tags.{validateHtmlContainer, validateTags}
 use Rattle.containers.specs.Footnotes.{blankLineAt, validateFootnoteDefinition}
 use Rattle.items.specs.Items.{itemNumber, opensWithParagraph, validateBlankLine, validateItemBlankLines, validateItemNumber, validateTaskItem}
@@ -28,7 +29,7 @@ use Rattle.lists.specs.Lists.{countFull, holdsOneBlock, validateList}
 use Rattle.tables.specs.Tables.{headerWidth, validateCell, validateCells, validateRows, validateTable}
 use Rattle.prose.specs.Prose.{beforeBlocks, validateDirective, validateParagraph}
 use Rattle.oneblock.specs.OneBlock.{holdsBlocks, validateContainer, validateHtml, validateLeaf, validateOwn}
-use Rattle.blocks.specs.Blocks.{beforeNext, validateBlock, validateBlocks, validateDocument, validateItem, validateItems}
+use Rattle.blocks.specs.Blocks.{validateBlock, validateBlocks, validateDocument, validateItem, validateItems}
 
 -- ---- sheets over the text `a \ | \ \ | - - - LF space`
 bytes : List ℕ

@@ -25,13 +25,13 @@ use Rattle.blocks.proofs.walk.+validate_block+validate_blocks+validate_
 use Rattle.blocks.proofs.walk.validate_items.Reads as validate-items
 use Rattle.blocks.proofs.walk.validate_items.Kinds as validate-items-kinds
 use Rattle.blocks.proofs.walk.+validate_block+validate_blocks+validate_item+validate_items.Lts-validate_items as validate-items-lts
-use Rattle.blocks.proofs.walk.before_at.Reads as before-at-reads
-use Rattle.blocks.proofs.walk.index_at.Reads as index-at-reads
+use Rattle.neighbours.proofs.taken.before_at.Reads as before-at-reads
+use Rattle.neighbours.proofs.taken.index_at.Reads as index-at-reads
 use Rattle.items.proofs.item.item_number.Reads as item-number-reads
 use Rattle.items.proofs.item.validate_item_blank_lines.Reads as validate-item-blank-lines-reads
 use Rattle.items.proofs.item.validate_item_number.Reads as validate-item-number-reads
 use Rattle.items.proofs.item.validate_task_item.Reads as validate-task-item-reads
-use Rattle.heads.proofs.own.validate_taken_block.Reads as validate-taken-block-reads
+use Rattle.neighbours.proofs.taken.validate_taken_block.Reads as validate-taken-block-reads
 use Rattle.oneblock.proofs.block.holds_blocks.Reads as holds-blocks-reads
 use Rattle.oneblock.proofs.block.validate_own.Reads as validate-own-reads
 use Rattle.sheet.proofs.kinds.is_block.Reads as is-block-reads

@@ -1,8 +1,8 @@
--- `heads::own::written_marker` meets its contract.
-use Rattle.heads.specs.Heads.{writtenMarker}
+-- `neighbours::taken::written_marker` meets its contract.
+use Rattle.neighbours.specs.Taken.{writtenMarker}
 use borrow.Author.Needs.{needs}
-use Rattle.heads.proofs.own.written_marker.Statement.{statement}
-use Rattle.heads.proofs.own.written_marker.Tie as tie
+use Rattle.neighbours.proofs.taken.written_marker.Statement.{statement}
+use Rattle.neighbours.proofs.taken.written_marker.Tie as tie
 
 returns : tie.Need-returns
 unfolding writtenMarker

@@ -1,8 +1,8 @@
--- `blocks::walk::before_at` meets its contract.
-use Rattle.blocks.proofs.BlockLaws.{before-other, before-blank, before-block}
+-- `neighbours::taken::before_at` meets its contract.
+use Rattle.neighbours.proofs.TakenLaws.{before-other, before-blank, before-block}
 use borrow.Author.Needs.{needs}
-use Rattle.blocks.proofs.walk.before_at.Statement.{statement}
-use Rattle.blocks.proofs.walk.before_at.Tie as tie
+use Rattle.neighbours.proofs.taken.before_at.Statement.{statement}
+use Rattle.neighbours.proofs.taken.before_at.Tie as tie
 
 returns : tie.Need-returns
 returns c = before-other _ _ _ _ (c .before .is-block .ensures) (c .if1 .taken)

@@ -1,8 +1,8 @@
--- `blocks::walk::index_at` meets its contract.
-use Rattle.blocks.proofs.BlockLaws.{index-block, index-other}
+-- `neighbours::taken::index_at` meets its contract.
+use Rattle.neighbours.proofs.TakenLaws.{index-block, index-other}
 use borrow.Author.Needs.{needs}
-use Rattle.blocks.proofs.walk.index_at.Statement.{statement}
-use Rattle.blocks.proofs.walk.index_at.Tie as tie
+use Rattle.neighbours.proofs.taken.index_at.Statement.{statement}
+use Rattle.neighbours.proofs.taken.index_at.Tie as tie
 
 returns : tie.Need-returns
 returns c = index-block _ _ (c .before .is-block .ensures) (c .if1 .taken)
