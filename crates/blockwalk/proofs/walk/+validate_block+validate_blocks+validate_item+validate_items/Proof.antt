@@ -9,22 +9,22 @@ use lib.ListN.{take}
 use Rattle.sheet.specs.Forest.{under}
 use Rattle.walks.proofs.WalkLaws.{done-down, level-of}
 use Rattle.walks.proofs.PathLaws.{Paced, begin-front, begin-long, begin-short, paced-start, paced-room, paced-place, paced-few, paced-out, paced-end}
 use Rattle.blocks.specs.Blocks.{validateBlocks, validateItems}
 use Rattle.blocks.proofs.BlockLaws.{begin-kept, block-blocks, block-items, block-leaf, block-other, blocks-none, blocks-turn, item-done, items-none, items-turn, own-begin, tree-at, tree-falls}
 use borrow.Fn.Kinds.{In}
 use borrow.Fn.PlainCycle.{Measures, is, falls, and}
-use Rattle.blocks.proofs.walk.validate_block.Reads as validate-block
-use Rattle.blocks.proofs.walk.validate_block.Kinds as validate-block-kinds
-use Rattle.blocks.proofs.walk.+validate_block+validate_blocks+validate_item+validate_items.Lts-validate_block as validate-block-lts
-use Rattle.blocks.proofs.walk.validate_blocks.Reads as validate-blocks
-use Rattle.blocks.proofs.walk.validate_blocks.Kinds as validate-blocks-kinds
-use Rattle.blocks.proofs.walk.+validate_block+validate_blocks+validate_item+validate_items.Lts-validate_blocks as validate-blocks-lts
-use Rattle.blocks.proofs.walk.validate_item.Reads as validate-item
-use Rattle.blocks.proofs.walk.validate_item.Kinds as validate-item-kinds
-use Rattle.blocks.proofs.walk.+validate_block+validate_blocks+validate_item+validate_items.Lts-validate_item as validate-item-lts
-use Rattle.blocks.proofs.walk.validate_items.Reads as validate-items
-use Rattle.blocks.proofs.walk.validate_items.Kinds as validate-items-kinds
-use Rattle.blocks.proofs.walk.+validate_block+validate_blocks+validate_item+validate_items.Lts-validate_items as validate-items-lts
+use Rattle.blockwalk.proofs.walk.validate_block.Reads as validate-block
+use Rattle.blockwalk.proofs.walk.validate_block.Kinds as validate-block-kinds
+use Rattle.blockwalk.proofs.walk.+validate_block+validate_blocks+validate_item+validate_items.Lts-validate_block as validate-block-lts
+use Rattle.blockwalk.proofs.walk.validate_blocks.Reads as validate-blocks
+use Rattle.blockwalk.proofs.walk.validate_blocks.Kinds as validate-blocks-kinds
+use Rattle.blockwalk.proofs.walk.+validate_block+validate_blocks+validate_item+validate_items.Lts-validate_blocks as validate-blocks-lts
+use Rattle.blockwalk.proofs.walk.validate_item.Reads as validate-item
+use Rattle.blockwalk.proofs.walk.validate_item.Kinds as validate-item-kinds
+use Rattle.blockwalk.proofs.walk.+validate_block+validate_blocks+validate_item+validate_items.Lts-validate_item as validate-item-lts
+use Rattle.blockwalk.proofs.walk.validate_items.Reads as validate-items
+use Rattle.blockwalk.proofs.walk.validate_items.Kinds as validate-items-kinds
+use Rattle.blockwalk.proofs.walk.+validate_block+validate_blocks+validate_item+validate_items.Lts-validate_items as validate-items-lts
 use Rattle.neighbours.proofs.taken.before_at.Reads as before-at-reads
 use Rattle.neighbours.proofs.taken.index_at.Reads as index-at-reads
 use Rattle.items.proofs.item.item_number.Reads as item-number-reads
@@ -37,8 +37,8 @@ use Rattle.oneblock.proofs.block.validate_own.Reads as validate-own-reads
 use Rattle.sheet.proofs.kinds.is_block.Reads as is-block-reads
 use Rattle.sheet.proofs.records.record_at.Reads as record-at-reads
 use Rattle.walks.proofs.trees.skip.Reads as skip-reads
-use Rattle.blocks.proofs.walk.+validate_block+validate_blocks+validate_item+validate_items.{statement}
-use Rattle.blocks.proofs.walk.+validate_block+validate_blocks+validate_item+validate_items.Tie.{close}
+use Rattle.blockwalk.proofs.walk.+validate_block+validate_blocks+validate_item+validate_items.{statement}
+use Rattle.blockwalk.proofs.walk.+validate_block+validate_blocks+validate_item+validate_items.Tie.{close}
 
 -- what a function is given at the measure t, and what a call of one asks below t
 abbrev at : (ps : List (PK 4)) → Measures 4 ps ℕ → In 4 ps → ℕ → In 4 ps

@@ -1,8 +1,8 @@
--- `blocks::walk::validate_document` meets its contract.
+-- `blockwalk::walk::validate_document` meets its contract.
 use Rattle.blocks.proofs.DocumentLaws.{document-begin, document-done}
 use borrow.Author.Needs.{needs}
-use Rattle.blocks.proofs.walk.validate_document.Statement.{statement}
-use Rattle.blocks.proofs.walk.validate_document.Tie as tie
+use Rattle.blockwalk.proofs.walk.validate_document.Statement.{statement}
+use Rattle.blockwalk.proofs.walk.validate_document.Tie as tie
 
 validate-blocks-requires : tie.Need-validate-blocks-requires
 validate-blocks-requires c κs = document-begin (c .before .before .before .before .before .before .pre .0) (c .before .before .before .before .before .before .pre .1) (search needs)
