@@ -15,7 +15,8 @@ use Rattle.form.specs.Fields.{textOf}
 use Rattle.report.specs.Report.{Entry, listIf, _⊕_}
 use Rattle.standing.specs.Places.{holdsInlines, holdsLabel, holdsNothing, parentGroup, otherGroup}
 use Rattle.classes.specs.Classes.{isBreak, isPlainBreak, isLink}
-use Rattle.checks.specs.Single.{validateSiblings, validateText, validateCodeInline}
+use Rattle.checks.specs.Single.{validateSiblings}
+use Rattle.literals.specs.Literals.{validateText, validateCodeInline}
 use Rattle.depths.specs.Every.{eachRecord, validateOneLine, validateLinkText}
 use Rattle.contents.specs.Beside.{allEmpty}
 use Rattle.oneinline.specs.Inline.{validateEmphasisContainer, validateInlineValues, validateInline}

@@ -11,7 +11,8 @@ use Rattle.sheet.specs.declared.records.Rec.{Rec}
 use Rattle.sheet.specs.declared.records.Span.{Span}
 use Rattle.sheet.specs.declared.records.Text.{Text}
 use Rattle.report.specs.Report.{Entry}
-use Rattle.checks.specs.Single.{validateDestination, validateIdentifier, validateEscape, validateMathInline, validateDirectiveName}
+use Rattle.checks.specs.Single.{validateDestination, validateIdentifier, validateEscape, validateDirectiveName}
+use Rattle.literals.specs.Literals.{validateMathInline}
 use Rattle.depths.specs.Every.{validateDirectiveAttributes, eachRecord, validateCellValues}
 use Rattle.contents.specs.Beside.{finalBreakAfter, finalBreak}
 use Rattle.oneinline.specs.Inline.{validateTextDirective}

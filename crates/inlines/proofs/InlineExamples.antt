@@ -18,7 +18,8 @@ use Rattle.report.specs.Report.{Entry, listIf, _⊕_}
 use Rattle.sheet.specs.declared.records.Rec.{Rec}
 use Rattle.sheet.specs.declared.records.Text.{Text}
 use Rattle.facts.specs.Values.{startsWhite, endsWhite, isUnwritable, isBadAttribute}
-use Rattle.checks.specs.Single.{validateDestination, validateIdentifier, validateText, validateEscape, validateCodeInline, validateMathInline, validateDirectiveName, validateSiblings}
+use Rattle.checks.specs.Single.{validateDestination, validateIdentifier, validateEscape, validateDirectiveName, validateSiblings}
+use Rattle.literals.specs.Literals.{validateText, validateCodeInline, validateMathInline}
 use Rattle.depths.specs.Every.{validateDirectiveAttributes, validateLinkText, validateCellValues, validateOneLine, eachRecord}
 use Rattle.inlines.specs.Inlines.{noInline, allEmpty, startsWithWhitespace, endsWithWhitespaceAfter, endsWithWhitespace, holdsJoined, validateTextDirective, finalBreakAfter, finalBreak, validateEmphasisContainer, validateInline, validateInlineValues, validateNode, validateInlineNodesAfter, validateInlineNodes, validateInlines}
 

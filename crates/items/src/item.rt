@@ -21,8 +21,8 @@ use report::entries::list_if;
 use sheet::kinds;
 use sheet::records::Span;
 use sheet::records::record_at;
-use walks::trees::skip;
 use walks::trees::ends;
+use walks::trees::skip;
 
 const MOST_NUMBER: u32 = 999999999;
 

@@ -17,8 +17,8 @@ use sheet::kinds;
 use sheet::records::Span;
 use sheet::records::level_at;
 use sheet::records::record_at;
-use walks::trees::skip;
 use walks::trees::ends;
+use walks::trees::skip;
 
 // With one block more, which counts where it is no blank line.
 fn with_block(full: usize, kind: u32) -> usize

@@ -13,7 +13,8 @@ use Rattle.sheet.specs.declared.records.Span.{Span}
 use Rattle.sheet.specs.declared.records.Text.{Text}
 use Rattle.checks.specs.Rules
 use Rattle.classes.specs.Classes.{isEmphasisContainer}
-use Rattle.checks.specs.Single.{validateDestination, validateIdentifier, validateText, validateEscape, validateCodeInline, validateMathInline, validateDirectiveName}
+use Rattle.checks.specs.Single.{validateDestination, validateIdentifier, validateEscape, validateDirectiveName}
+use Rattle.literals.specs.Literals.{validateText, validateCodeInline, validateMathInline}
 use Rattle.depths.specs.Every.{validateDirectiveAttributes, validateLinkText}
 use Rattle.contents.specs.Beside.{noInline, allEmpty, startsWithWhitespace, endsWithWhitespace, holdsJoined, finalBreak}
 

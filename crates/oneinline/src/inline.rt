@@ -11,13 +11,14 @@ ghost use Rattle.checks.specs.Rules;
 ghost use Rattle.walks.specs.Walk.{Start};
 use checks::rules;
 use checks::single;
-use contents::content::gather;
 use classes::class;
+use contents::content::gather;
+use depths::every;
+use literals::literal;
 use report::entries::Tally;
 use report::entries::list_if;
 use sheet::kinds;
 use sheet::records::Rec;
-use depths::every;
 
 // Rules 39 or 40, 41 and 30 of the container `r` whose children start at record `from`.
 fn validate_emphasis_container(
@@ -144,7 +145,7 @@ fn validate_inline_values(
 {
     let kind = r.kind;
     match kind {
-        kinds::TEXT => single::validate_text(bytes, report, path, r.span, r.first, tally),
+        kinds::TEXT => literal::validate_text(bytes, report, path, r.span, r.first, tally),
         kinds::IMAGE => single::validate_destination(report, path, r.span, r.a, r.first, tally),
         kinds::IMAGE_REFERENCE => {
             let rule = rules::EMPTY_IMAGE_REFERENCE;
@@ -159,9 +160,9 @@ fn validate_inline_values(
             let rule = rules::EMPTY_WIKI_LINK;
             single::validate_identifier(report, path, rule, r.span, r.first, tally)
         }
-        kinds::CODE => single::validate_code_inline(bytes, report, path, r.span, r.first, tally),
+        kinds::CODE => literal::validate_code_inline(bytes, report, path, r.span, r.first, tally),
         kinds::MATH => {
-            single::validate_math_inline(bytes, report, path, r.span, r.a, r.b, r.first, tally)
+            literal::validate_math_inline(bytes, report, path, r.span, r.a, r.b, r.first, tally)
         }
         _ => tally,
     }

@@ -16,7 +16,8 @@ use Rattle.sheet.specs.Forest.{count, deeper, forestAt, forestOf, grow, past}
 use Rattle.sheet.specs.Kinds.{paragraph, heading, blockQuote, alert, list, codeBlock, htmlContainer, definition, footnoteDefinition, table, frontmatter, leafDirective, containerDirective, blankLine, item, row, cell, htmlTag, text, code, softBreak}
 use Rattle.report.specs.Report.{Entry, listIf, _⊕_}
 use Rattle.sheet.specs.Sheet.{recordAt}
-use Rattle.checks.specs.Single.{validateCodeInline, validateDestination, validateDirectiveName, validateSiblings, validateText}
+use Rattle.checks.specs.Single.{validateDestination, validateDirectiveName, validateSiblings}
+use Rattle.literals.specs.Literals.{validateCodeInline, validateText}
 use Rattle.facts.specs.Values.{isBadAttribute, isUnwritable}
 use Rattle.depths.specs.Every.{eachRecord, validateCellValues, validateDirectiveAttributes, validateOneLine}
 use Rattle.inlines.specs.Inlines.{allEmpty, finalBreak, finalBreakAfter, noInline, validateInline, validateInlineValues, validateInlineNodes, validateInlineNodesAfter, validateInlines, validateNode}

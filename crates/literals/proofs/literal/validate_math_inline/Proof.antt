@@ -1,8 +1,8 @@
--- `checks::single::validate_math_inline` meets its contract.
+-- `literals::literal::validate_math_inline` meets its contract.
 use borrow.Author.Needs.{needs}
-use Rattle.checks.proofs.SingleLaws.{math-law}
-use Rattle.checks.proofs.single.validate_math_inline.Statement.{statement}
-use Rattle.checks.proofs.single.validate_math_inline.Tie as tie
+use Rattle.literals.proofs.LiteralLaws.{math-law}
+use Rattle.literals.proofs.literal.validate_math_inline.Statement.{statement}
+use Rattle.literals.proofs.literal.validate_math_inline.Tie as tie
 
 returns : tie.Need-returns
 returns c = math-law _ _ _ _ (c .before .before .before .before .before .text-of .ensures) (c .before .before .before .before .before .before .before .before .before .before .before .before .before .before .is-empty .ensures) _ _ (c .before .before .before .before .holds-backtick-dollar .ensures) (c .before .before .before .before .before .before .before .before .before .before .before .before .list-if .ensures) (c .before .before .before .before .before .before .before .before .list-if2 .ensures) (c .before .before .list-if3 .ensures)
