@@ -3,7 +3,7 @@ use Prim.Native.Nat.{ℕ}
 use mathlib.Core.Bool.{not, _&&_}
 use mathlib.Core.List.{List}
 use lib.Dec.{eqb}
-use Rattle.leaves.specs.Names.{isDirectiveName}
+use Rattle.names.specs.Names.{isDirectiveName}
 use Rattle.strings.specs.Punctuation.{isAsciiPunctuation}
 use Rattle.sheet.specs.Kinds.{delete}
 use Rattle.form.specs.Fields.{textOf}

@@ -7,7 +7,7 @@ use crate::rules;
 use classes::class;
 use facts::values;
 use form::fields::text_of;
-use leaves::names::is_directive_name;
+use names::name::is_directive_name;
 use report::entries::Tally;
 use report::entries::list_if;
 use sheet::kinds;

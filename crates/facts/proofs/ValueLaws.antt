@@ -9,7 +9,7 @@ use borrow.Author.Tests.{le-leb}
 use lib.Dec.{eqb}
 use lib.ListN.{length}
 use Rattle.strings.specs.Lists.{firstOr, lastOr}
-use Rattle.leaves.specs.Names.{isAttributeName}
+use Rattle.names.specs.Names.{isAttributeName}
 use Rattle.strings.specs.Part.{partOf}
 use Rattle.leaves.specs.Pipe.{hasOddEscapedPipe, oddPipeAfter}
 use Rattle.unicode.specs.Scalars.{scalars, decode}

@@ -4,7 +4,7 @@ use mathlib.Core.Bool.{Bool, not, _&&_, _||_}
 use mathlib.Core.List.{List}
 use lib.Dec.{eqb}
 use Rattle.strings.specs.Lists.{if_then_else_}
-use Rattle.leaves.specs.Names.{isAttributeName}
+use Rattle.names.specs.Names.{isAttributeName}
 use Rattle.leaves.specs.Pipe.{hasOddEscapedPipe}
 use Rattle.unicode.specs.White.{startsWithWhite, endsWithWhite}
 use Rattle.sheet.specs.Kinds.{attribute, text, wikiLink}

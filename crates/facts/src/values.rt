@@ -14,7 +14,7 @@ use classes::class::is_plain_break;
 use classes::class::names_label;
 use classes::class::names_own_value;
 use form::fields::text_of;
-use leaves::names::is_attribute_name;
+use names::name::is_attribute_name;
 use leaves::pipe::has_odd_escaped_pipe;
 use sheet::kinds;
 use sheet::records::Rec;

@@ -7,7 +7,7 @@ use borrow.Author.Needs.{needs}
 use lib.Dec.{eqb, ltb}
 use Rattle.multiline.specs.Fence.{holdsFenceLine}
 use Rattle.multiline.specs.Lines.{hasBlankEdgeLine}
-use Rattle.leaves.specs.Names.{isBlankIdentifier}
+use Rattle.names.specs.Names.{isBlankIdentifier}
 use Rattle.leaves.specs.Title.{isAlertTitle}
 use Rattle.multiline.specs.declared.fence.FrontmatterKind.{FrontmatterKind}
 use Rattle.form.specs.Fields.{textOf}

@@ -6,7 +6,7 @@ use lib.Dec.{eqb, ltb}
 use Rattle.strings.specs.Lists.{if_then_else_}
 use Rattle.multiline.specs.Fence.{holdsFenceLine}
 use Rattle.multiline.specs.Lines.{hasBlankEdgeLine}
-use Rattle.leaves.specs.Names.{isBlankIdentifier}
+use Rattle.names.specs.Names.{isBlankIdentifier}
 use Rattle.leaves.specs.Title.{isAlertTitle}
 use Rattle.multiline.specs.declared.fence.FrontmatterKind.{FrontmatterKind}
 use Rattle.multiline.specs.declared.fence.FrontmatterKind.the-variants.{Yaml, Toml}

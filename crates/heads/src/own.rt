@@ -15,7 +15,7 @@ use checks::rules;
 use checks::single;
 use facts::values::is_empty;
 use form::fields::text_of;
-use leaves::names::is_blank_identifier;
+use names::name::is_blank_identifier;
 use leaves::title::is_alert_title;
 use multiline::fence::FrontmatterKind;
 use multiline::fence::holds_fence_line;

@@ -5,7 +5,7 @@ use Prim.Native.Nat.{ℕ}
 use Rattle.strings.specs.Lists.{all, any, firstOr, lastOr}
 use Rattle.multiline.specs.Lines.{holdsLineEnding, longer, startsWith}
 use Rattle.leaves.specs.Math.{holdsBacktickDollar}
-use Rattle.leaves.specs.Names.{isDirectiveName, isRun, runs, isAttributeName}
+use Rattle.names.specs.Names.{isDirectiveName, isRun, runs, isAttributeName}
 use Rattle.strings.specs.Part.{partOf}
 use Rattle.leaves.specs.Pipe.{hasOddEscapedPipe, oddPipeAfter}
 use Rattle.unicode.specs.Scalars.{scalars, decode, emit, leadBits, trailBits}

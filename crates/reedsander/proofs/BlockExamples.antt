@@ -5,7 +5,7 @@ use Prim.Native.Nat.{ℕ, _+_}
 use Rattle.multiline.specs.Fence.{holdsFenceLine, isFence}
 use Rattle.multiline.specs.Lines.{hasBlankEdgeLine, holdsLineEnding, isBlank, isCrOfCrlf, lines, longer, startsWith}
 use Rattle.strings.specs.Lists.{all, any, none, firstOr, lastOr}
-use Rattle.leaves.specs.Names.{isAttributeName, isBlankIdentifier, isDirectiveName, isRun, runs}
+use Rattle.names.specs.Names.{isAttributeName, isBlankIdentifier, isDirectiveName, isRun, runs}
 use Rattle.strings.specs.Part.{partOf}
 use Rattle.leaves.specs.Pipe.{hasOddEscapedPipe, oddPipeAfter}
 use Rattle.strings.specs.Same.{sameBytes}

@@ -9,8 +9,8 @@ use lib.ListN.{length, getD}
 use Rattle.strings.specs.Bytes.{hyphen}
 use Rattle.strings.specs.Lists.{if_then_else_, all}
 use Rattle.multiline.specs.Lines.{longer}
-use Rattle.leaves.specs.Names.{runs, isRun, isDirectiveName, beginsRun, continuesRun, isAttributeName, beginsAttribute, continuesAttribute}
-use Rattle.leaves.specs.Scans.{nameFrom}
+use Rattle.names.specs.Names.{runs, isRun, isDirectiveName, beginsRun, continuesRun, isAttributeName, beginsAttribute, continuesAttribute}
+use Rattle.names.specs.Scans.{nameFrom}
 use Rattle.strings.proofs.Scan.{At}
 use Rattle.strings.proofs.Scan.{scan}
 use Rattle.multiline.proofs.Tests.{all-yes, all-no}

@@ -1,13 +1,13 @@
--- `leaves::names::is_directive_name` meets its contract.
+-- `names::name::is_directive_name` meets its contract.
 use Prim.Native.Nat.{_-_}
-use Rattle.leaves.proofs.Naming.{directive, naming}
+use Rattle.names.proofs.Naming.{directive, naming}
 use Rattle.strings.proofs.Scan.{At}
-use Rattle.leaves.specs.Names.{isDirectiveName}
-use Rattle.leaves.specs.Scans.{nameFrom}
+use Rattle.names.specs.Names.{isDirectiveName}
+use Rattle.names.specs.Scans.{nameFrom}
 use lib.ListN.{length}
 use native.Mathlib.Omega.{arith}
-use Rattle.leaves.proofs.names.is_directive_name.Statement.{statement}
-use Rattle.leaves.proofs.names.is_directive_name.Tie as tie
+use Rattle.names.proofs.name.is_directive_name.Statement.{statement}
+use Rattle.names.proofs.name.is_directive_name.Tie as tie
 
 abbrev Inv-loop : tie.InvT-loop
 Inv-loop s start₀ i₀ start i = At (isDirectiveName s) (nameFrom start) s i

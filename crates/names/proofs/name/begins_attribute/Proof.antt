@@ -1,7 +1,7 @@
--- `leaves::names::begins_attribute` meets its contract.
+-- `names::name::begins_attribute` meets its contract.
 use borrow.Author.Needs.{needs}
-use Rattle.leaves.proofs.names.begins_attribute.Statement.{statement}
-use Rattle.leaves.proofs.names.begins_attribute.Tie as tie
+use Rattle.names.proofs.name.begins_attribute.Statement.{statement}
+use Rattle.names.proofs.name.begins_attribute.Tie as tie
 
 returns : tie.Need-returns
 returns c = cc

@@ -5,7 +5,7 @@ use mathlib.Core.List.{List, [], _∷_}
 use lib.Dec.{eqb}
 use Rattle.strings.specs.Bytes.{hyphen}
 use Rattle.strings.specs.Lists.{if_then_else_}
-use Rattle.leaves.specs.Names.{beginsRun, continuesRun}
+use Rattle.names.specs.Names.{beginsRun, continuesRun}
 
 -- what is left is a directive's name, where a run has to start here (`start`) or one has begun
 unfoldable pub nameFrom : Bool → List ℕ → Bool

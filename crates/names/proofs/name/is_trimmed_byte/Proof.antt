@@ -1,7 +1,7 @@
--- `leaves::names::is_trimmed_byte` meets its contract.
+-- `names::name::is_trimmed_byte` meets its contract.
 use borrow.Author.Needs.{needs}
-use Rattle.leaves.proofs.names.is_trimmed_byte.Statement.{statement}
-use Rattle.leaves.proofs.names.is_trimmed_byte.Tie as tie
+use Rattle.names.proofs.name.is_trimmed_byte.Statement.{statement}
+use Rattle.names.proofs.name.is_trimmed_byte.Tie as tie
 
 returns : tie.Need-returns
 returns c = cc

@@ -1,12 +1,12 @@
--- `leaves::names::is_attribute_name` meets its contract.
-use Rattle.leaves.proofs.Naming.{naming}
+-- `names::name::is_attribute_name` meets its contract.
+use Rattle.names.proofs.Naming.{naming}
 use Prim.Native.Nat.{_-_}
 use Rattle.strings.proofs.Scan.{At}
 use Rattle.strings.specs.Lists.{all}
-use Rattle.leaves.specs.Names.{continuesAttribute, isAttributeName}
+use Rattle.names.specs.Names.{continuesAttribute, isAttributeName}
 use lib.ListN.{length}
-use Rattle.leaves.proofs.names.is_attribute_name.Statement.{statement}
-use Rattle.leaves.proofs.names.is_attribute_name.Tie as tie
+use Rattle.names.proofs.name.is_attribute_name.Statement.{statement}
+use Rattle.names.proofs.name.is_attribute_name.Tie as tie
 
 abbrev Inv-loop : tie.InvT-loop
 Inv-loop s i₀ i = At (isAttributeName s) (all continuesAttribute) s i

@@ -1,7 +1,7 @@
--- `leaves::names::continues_attribute` meets its contract.
+-- `names::name::continues_attribute` meets its contract.
 use borrow.Author.Needs.{needs}
-use Rattle.leaves.proofs.names.continues_attribute.Statement.{statement}
-use Rattle.leaves.proofs.names.continues_attribute.Tie as tie
+use Rattle.names.proofs.name.continues_attribute.Statement.{statement}
+use Rattle.names.proofs.name.continues_attribute.Tie as tie
 
 returns : tie.Need-returns
 returns c = cc

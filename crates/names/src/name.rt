@@ -1,6 +1,6 @@
 // Names of directives and attributes, and identifiers.
 ghost use mathlib.Core.Path.{_≡_};
-ghost use Rattle.leaves.specs.Names.{
+ghost use Rattle.names.specs.Names.{
   beginsRun,
   continuesRun,
   isDirectiveName,
