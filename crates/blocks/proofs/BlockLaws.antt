@@ -23,8 +23,9 @@ use Rattle.walks.proofs.WalkLaws.{behindKids, level-of, skip-tree}
 use Rattle.walks.proofs.PathLaws.{Paced, paced-room, paced-own, paced-call, paced-turn, kept-set, kept-below}
 use Rattle.neighbours.specs.declared.taken.Before.{Before}
 use Rattle.neighbours.specs.Taken.{first, beforeNext, validateTakenBlock, beforeAt, indexAt}
-use Rattle.items.specs.Items.{itemNumber, validateItemNumber, validateItemBlankLines, validateTaskItem}
-use Rattle.items.specs.declared.item.Number.{Number}
+use Rattle.items.specs.Items.{validateItemBlankLines, validateTaskItem}
+use Rattle.numbers.specs.Numbers.{itemNumber, validateItemNumber}
+use Rattle.numbers.specs.declared.number.Number.{Number}
 use Rattle.oneblock.specs.OneBlock.{holdsBlocks, validateOwn}
 use Rattle.blocks.specs.Blocks.{validateBlock, validateBlocks, validateItem, validateItems}
 use Rattle.blocks.specs.At.{At, blockAt}

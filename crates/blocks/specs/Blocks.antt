@@ -12,7 +12,8 @@ use Rattle.sheet.specs.declared.records.Rec.{Rec}
 use Rattle.neighbours.specs.declared.taken.Before.{Before}
 use Rattle.neighbours.specs.Taken.{first, beforeNext, validateTakenBlock}
 use Rattle.oneblock.specs.OneBlock.{holdsBlocks, validateOwn}
-use Rattle.items.specs.Items.{itemNumber, validateItemNumber, validateItemBlankLines, validateTaskItem}
+use Rattle.items.specs.Items.{validateItemBlankLines, validateTaskItem}
+use Rattle.numbers.specs.Numbers.{itemNumber, validateItemNumber}
 
 -- `validate_block`: what a block reports, and then its items or its blocks, from what these list
 unfoldable pub validateBlock : List ℕ → List ℕ → Rec → Forest → List Entry → List Entry → List Entry

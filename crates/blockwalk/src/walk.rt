@@ -16,6 +16,8 @@ use neighbours::taken::Before;
 use neighbours::taken::before_at;
 use neighbours::taken::index_at;
 use neighbours::taken::validate_taken_block;
+use numbers::number::item_number;
+use numbers::number::validate_item_number;
 use oneblock::block::holds_blocks;
 use oneblock::block::validate_own;
 use report::entries;
@@ -210,9 +212,9 @@ fn validate_item(
     ensures { λ q. ⌜ Done (now (sheet .entry)) n (i + 1) level (validateItem (take len (now (path .entry))) ordered tight (eqb (count (under (now (sheet .entry)) n (i + 1 + size (under (now (sheet .entry)) n (i + 1) level)) outer)) 0) (recordAt (now (sheet .entry)) i) (under (now (sheet .entry)) n (i + 1) level) (validateBlocks (now (bytes .entry)) (take len (now (path .entry))) 0 first (under (now (sheet .entry)) n (i + 1) level))) tally (now (report .entry)) q (now (report .exit)) × (take len (now (path .exit)) ≡ take len (now (path .entry))) ⌝ }
 {
     let r = record_at(sheet, i);
-    let number = item::item_number(r.b, r.c);
+    let number = item_number(r.b, r.c);
     let own = &path[..len];
-    let out = item::validate_item_number(report, own, r.span, ordered, number, tally);
+    let out = validate_item_number(report, own, r.span, ordered, number, tally);
     let tight = tight == 1;
     let out = item::validate_item_blank_lines(
         sheet,

@@ -23,7 +23,7 @@ use Rattle.neighbours.specs.declared.taken.Before.{Before}
 use Rattle.heads.specs.Heads.{validateHeading, validateFrontmatter}
 use Rattle.neighbours.specs.Taken.{writtenMarker, takesIndentedCode, validateTakenBlock, first, beforeNext}
 use Rattle.lists.specs.Lists.{validateList}
-use Rattle.items.specs.Items.{itemNumber, validateItemNumber}
+use Rattle.numbers.specs.Numbers.{itemNumber, validateItemNumber}
 use Rattle.prose.specs.Prose.{beforeBlocks, validateParagraph, validateDirective}
 use Rattle.oneblock.specs.OneBlock
 use Rattle.oneblock.specs.OneBlock.{validateLeaf, validateHtml, validateContainer, validateOwn}

@@ -21,28 +21,7 @@ use Rattle.walks.proofs.WalkLaws.{Skipping, behindKids, skip-tree, skip-out, sk
 use Rattle.walks.proofs.TreeLaws.{suc-some, count-end, count-out, count-in}
 use Rattle.walks.proofs.PathLaws.{Paced, kept-set, paced-own, paced-turn}
 use Rattle.checks.specs.Rules
-use Rattle.items.specs.Items.{itemNumber, opensWithParagraph, validateBlankLine, validateItemBlankLines, validateItemNumber, validateTaskItem}
-use Rattle.items.specs.declared.item.Number.{Number}
-use Rattle.items.specs.declared.item.Number.the-variants.{Absent, Present}
-
--- ---- its number
-module _ (b c : ℕ) where
-  pub number-some : b ≡ 1 → Present c ≡ itemNumber b c
-  unfolding itemNumber
-  number-some e = rw (eq-eqb b 1 e)
-
-  pub number-none : (b ≡ 1 → ⊥) → Absent ≡ itemNumber b c
-  unfolding itemNumber
-  number-none e = rw (ne-eqb b 1 e)
-
-module _ (path : List ℕ) (span : Span) (ordered : ℕ) {m : Number} where
-  pub number-absent : {s : Tally} {x : List ℕ} → m ≡ Absent → Lists s s x x (validateItemNumber path span ordered m)
-  unfolding validateItemNumber
-  number-absent e = rw e lists-none
-
-  pub number-present : {value : ℕ} {s t u : Tally} {x y z : List ℕ} → m ≡ Present value → Lists s t x y (listIf (not (eqb ordered 1)) Rules.bulletNumber span path) → Lists t u y z (listIf (eqb ordered 1 && ltb 999999999 value) Rules.longNumber span path) → Lists s u x z (validateItemNumber path span ordered m)
-  unfolding validateItemNumber
-  number-present e l k = rw e (lists-then l k)
+use Rattle.items.specs.Items.{opensWithParagraph, validateBlankLine, validateItemBlankLines, validateTaskItem}
 
 -- ---- its blank lines
 pub blank-law : (path : List ℕ) (span : Span) (blank tight first last : Bool) {s t u v : Tally} {x y z o : List ℕ} → Lists s t x y (listIf (blank && tight) Rules.blankLineInTightList span path) → Lists t u y z (listIf (blank && not tight && first) Rules.blankLineFirst span path) → Lists u v z o (listIf (blank && not tight && not first && last) Rules.blankLineLast span path) → Lists s v x o (validateBlankLine path span blank tight first last)

@@ -1,27 +1,15 @@
--- What an item reports, before its blocks: for each function of validate.rs a definition of the same name. `path` is the item's own.
+-- What an item reports by its blocks, before these: for each function of validate.rs a definition of the same name. `path` is the item's own.
 -- All that stands under an item is a block (document 01: "blocks under the sheet, quote, alert, item and footnote definition").
 use Prim.Native.Nat.{ℕ, suc}
 use mathlib.Core.Bool.{Bool, false, not, _&&_}
 use mathlib.Core.List.{List, [], _∷_, _++_}
-use lib.Dec.{eqb, ltb}
+use lib.Dec.{eqb}
 use Rattle.strings.specs.Lists.{if_then_else_}
 use Rattle.sheet.specs.Kinds.{paragraph, definition, blankLine}
 use Rattle.sheet.specs.Forest.{Forest, none, tree, count}
 use Rattle.report.specs.Report.{Entry, listIf, _⊕_}
 use Rattle.sheet.specs.declared.records.Span.{Span}
 use Rattle.checks.specs.Rules
-use Rattle.items.specs.declared.item.Number.{Number}
-use Rattle.items.specs.declared.item.Number.the-variants.{Absent, Present}
-
--- Document 01: "B: .. number present"; "C: .. item number (0 when absent)"
-unfoldable pub itemNumber : ℕ → ℕ → Number
-itemNumber b c = if eqb b 1 then Present c else Absent
-
--- `validate_item_number`: 49, or 50. Document 01: "absent, rules 49 and 50 pass". A list is ordered where its A is 1.
-unfoldable pub validateItemNumber : List ℕ → Span → ℕ → Number → List Entry
-validateItemNumber path span ordered Absent = []
-validateItemNumber path span ordered (Present number) =
-    listIf (not (eqb ordered 1)) Rules.bulletNumber span path ⊕ listIf (eqb ordered 1 && ltb 999999999 number) Rules.longNumber span path
 
 -- a block of an item: where it is a blank line 51, else 52, else 53. `first` for the item's first block, `last` for the last block of the list's last item.
 unfoldable pub validateBlankLine : List ℕ → Span → Bool → Bool → Bool → Bool → List Entry

@@ -25,7 +25,8 @@ use Rattle.heads.specs.Heads.{frontmatterKind, validateAlert, validateCodeBlock
 use Rattle.neighbours.specs.Taken.{takesIndentedCode, validateTakenBlock, writtenMarker, beforeNext}
 use Rattle.containers.specs.Tags.{validateHtmlContainer, validateTags}
 use Rattle.containers.specs.Footnotes.{blankLineAt, validateFootnoteDefinition}
-use Rattle.items.specs.Items.{itemNumber, opensWithParagraph, validateBlankLine, validateItemBlankLines, validateItemNumber, validateTaskItem}
+use Rattle.items.specs.Items.{opensWithParagraph, validateBlankLine, validateItemBlankLines, validateTaskItem}
+use Rattle.numbers.specs.Numbers.{itemNumber, validateItemNumber}
 use Rattle.lists.specs.Lists.{countFull, holdsOneBlock, validateList}
 use Rattle.tables.specs.Tables.{headerWidth, validateCell, validateCells, validateRows, validateTable}
 use Rattle.prose.specs.Prose.{beforeBlocks, validateDirective, validateParagraph}

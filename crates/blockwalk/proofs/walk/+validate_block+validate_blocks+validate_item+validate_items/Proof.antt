@@ -27,9 +27,9 @@ use Rattle.blockwalk.proofs.walk.validate_items.Kinds as validate-items
 use Rattle.blockwalk.proofs.walk.+validate_block+validate_blocks+validate_item+validate_items.Lts-validate_items as validate-items-lts
 use Rattle.neighbours.proofs.taken.before_at.Reads as before-at-reads
 use Rattle.neighbours.proofs.taken.index_at.Reads as index-at-reads
-use Rattle.items.proofs.item.item_number.Reads as item-number-reads
+use Rattle.numbers.proofs.number.item_number.Reads as item-number-reads
 use Rattle.items.proofs.item.validate_item_blank_lines.Reads as validate-item-blank-lines-reads
-use Rattle.items.proofs.item.validate_item_number.Reads as validate-item-number-reads
+use Rattle.numbers.proofs.number.validate_item_number.Reads as validate-item-number-reads
 use Rattle.items.proofs.item.validate_task_item.Reads as validate-task-item-reads
 use Rattle.neighbours.proofs.taken.validate_taken_block.Reads as validate-taken-block-reads
 use Rattle.oneblock.proofs.block.holds_blocks.Reads as holds-blocks-reads

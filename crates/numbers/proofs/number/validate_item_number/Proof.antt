@@ -1,8 +1,8 @@
--- `items::item::validate_item_number` meets its contract.
-use Rattle.items.proofs.ItemLaws.{number-absent, number-present}
+-- `numbers::number::validate_item_number` meets its contract.
+use Rattle.numbers.proofs.NumberLaws.{number-absent, number-present}
 use borrow.Author.Needs.{needs}
-use Rattle.items.proofs.item.validate_item_number.Statement.{statement}
-use Rattle.items.proofs.item.validate_item_number.Tie as tie
+use Rattle.numbers.proofs.number.validate_item_number.Statement.{statement}
+use Rattle.numbers.proofs.number.validate_item_number.Tie as tie
 
 returns : tie.Need-returns
 returns c = number-absent _ _ _ (c .enum-told .given .1)

@@ -1,7 +1,7 @@
--- `items::item::item_number` meets its contract.
-use Rattle.items.proofs.ItemLaws.{number-some, number-none}
-use Rattle.items.proofs.item.item_number.Statement.{statement}
-use Rattle.items.proofs.item.item_number.Tie as tie
+-- `numbers::number::item_number` meets its contract.
+use Rattle.numbers.proofs.NumberLaws.{number-some, number-none}
+use Rattle.numbers.proofs.number.item_number.Statement.{statement}
+use Rattle.numbers.proofs.number.item_number.Tie as tie
 
 returns : tie.Need-returns
 returns c = number-some _ _ (c .if1 .taken)
