@@ -19,7 +19,8 @@ use Rattle.checks.specs.Single.{validateSiblings}
 use Rattle.literals.specs.Literals.{validateText, validateCodeInline}
 use Rattle.depths.specs.Every.{eachRecord, validateOneLine, validateLinkText}
 use Rattle.contents.specs.Beside.{allEmpty}
-use Rattle.oneinline.specs.Inline.{validateEmphasisContainer, validateInlineValues, validateInline}
+use Rattle.inlinevalues.specs.InlineValues.{validateInlineValues}
+use Rattle.oneinline.specs.Inline.{validateEmphasisContainer, validateInline}
 use Rattle.inlines.specs.Inlines.{validateNode, validateInlineNodesAfter}
 use Rattle.machine.specs.Machine.{Frame, fresh, withKid, opens, closes, stopOf, openingTests, closingTests, pathOf, blockPath, nearest, inLink, behindBreak, onlyEmpty}
 use Rattle.demand.specs.Demand.{Begins, beside, named}

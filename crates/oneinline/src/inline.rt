@@ -6,7 +6,7 @@ ghost use Rattle.report.specs.Report.{Lists, listIf, _⊕_};
 ghost use Rattle.checks.specs.Single.{validateDestination, validateIdentifier};
 ghost use Rattle.depths.specs.Every.{validateLinkText};
 ghost use Rattle.contents.specs.Beside.{noInline};
-ghost use Rattle.oneinline.specs.Inline.{validateTextDirective, validateEmphasisContainer, validateInlineValues, validateInline};
+ghost use Rattle.oneinline.specs.Inline.{validateTextDirective, validateEmphasisContainer, validateInline};
 ghost use Rattle.checks.specs.Rules;
 ghost use Rattle.walks.specs.Walk.{Start};
 use checks::rules;
@@ -14,7 +14,7 @@ use checks::single;
 use classes::class;
 use contents::content::gather;
 use depths::every;
-use literals::literal;
+use inlinevalues::values::validate_inline_values;
 use report::entries::Tally;
 use report::entries::list_if;
 use sheet::kinds;
@@ -130,42 +130,6 @@ fn validate_inline_footnote(
         path,
         tally,
     )
-}
-
-// What an inline reports that is asked for its own values alone.
-fn validate_inline_values(
-    bytes: &[u8],
-    report: &mut [u32],
-    path: &[u32],
-    r: Rec,
-    tally: Tally,
-) -> Tally
-    requires { ⌜ length (now path) ≤ 64 ⌝ }
-    ensures { λ q. ⌜ Lists tally q (now (report .entry)) (now (report .exit)) (validateInlineValues (now (bytes .entry)) (now (path .entry)) r) ⌝ }
-{
-    let kind = r.kind;
-    match kind {
-        kinds::TEXT => literal::validate_text(bytes, report, path, r.span, r.first, tally),
-        kinds::IMAGE => single::validate_destination(report, path, r.span, r.a, r.first, tally),
-        kinds::IMAGE_REFERENCE => {
-            let rule = rules::EMPTY_IMAGE_REFERENCE;
-            single::validate_identifier(report, path, rule, r.span, r.first, tally)
-        }
-        kinds::ESCAPE => single::validate_escape(report, path, r.span, r.a, tally),
-        kinds::FOOTNOTE_REFERENCE => {
-            let rule = rules::EMPTY_FOOTNOTE_REFERENCE;
-            single::validate_identifier(report, path, rule, r.span, r.first, tally)
-        }
-        kinds::WIKI_LINK => {
-            let rule = rules::EMPTY_WIKI_LINK;
-            single::validate_identifier(report, path, rule, r.span, r.first, tally)
-        }
-        kinds::CODE => literal::validate_code_inline(bytes, report, path, r.span, r.first, tally),
-        kinds::MATH => {
-            literal::validate_math_inline(bytes, report, path, r.span, r.a, r.b, r.first, tally)
-        }
-        _ => tally,
-    }
 }
 
 // What one inline reports of itself, before its children, which start at record `from`.

@@ -1,9 +1,9 @@
--- `oneinline::inline::validate_inline_values` meets its contract.
-use Rattle.oneinline.specs.Inline.{validateInlineValues}
-use Rattle.oneinline.proofs.InlineLaws.{of-no-values}
+-- `inlinevalues::values::validate_inline_values` meets its contract.
+use Rattle.inlinevalues.specs.InlineValues.{validateInlineValues}
+use Rattle.inlinevalues.proofs.InlineValueLaws.{of-no-values}
 use borrow.Author.Needs.{needs}
-use Rattle.oneinline.proofs.inline.validate_inline_values.Statement.{statement}
-use Rattle.oneinline.proofs.inline.validate_inline_values.Tie as tie
+use Rattle.inlinevalues.proofs.values.validate_inline_values.Statement.{statement}
+use Rattle.inlinevalues.proofs.values.validate_inline_values.Tie as tie
 
 returns : tie.Need-returns
 unfolding validateInlineValues
