@@ -17,7 +17,7 @@ use Rattle.report.proofs.ReportLaws.{lists-then}
 use Rattle.checks.specs.Rules
 use Rattle.facts.specs.Values.{isEmptyText}
 use Rattle.walks.specs.Walk.{Done}
-use Rattle.walks.specs.declared.every.Walked.{Walked}
+use Rattle.walks.specs.declared.trees.Walked.{Walked}
 use Rattle.walks.proofs.WalkLaws.{behindKids}
 use Rattle.inlines.specs.Inlines.{allEmpty, validateInlines}
 use Rattle.prose.specs.Prose.{validateParagraph}
