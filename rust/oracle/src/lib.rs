@@ -36,7 +36,7 @@ mod serialize;
 mod swar;
 
 pub use document::{document, list};
-pub use machine::{set, Run, Step, Stop, STOP_RULES};
+pub use machine::{set, Run, Step, Stop, REFUSED, STOP_RULES};
 pub use messages::{rule, DROPPED, KEPT};
 pub use refusal::{refusal, RECORD_WORDS};
 

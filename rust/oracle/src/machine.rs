@@ -94,29 +94,40 @@ impl Run {
         machine.run.stop = machine.all().err();
         machine.run
     }
+
+    /// What a call with the sheet of the run, which has so many records, and
+    /// so many marks answers: "12 short marks: fewer marks than records
+    /// (setter)"; "end and record count, or stop and the record being opened
+    /// or closed."
+    pub fn answer(&self, records: usize, marks: usize) -> (u32, usize) {
+        match &self.stop {
+            _ if marks < records => (REFUSED + 12, 0),
+            None => (0, records),
+            Some(stop) => (stop.number, stop.record),
+        }
+    }
 }
 
-/// What a call with a sheet, its text and so many marks answers, and the run:
-/// "end and record count, or stop and the record being opened or closed"; 256
-/// and the number of a refusal, and its record. The number stands above the
-/// lower 32 bits. Nothing runs where the call is refused; a refusal 12 comes
-/// last: "then 11, or 12 for the setter".
+/// What is added to the number of a refusal in an answer.
+pub const REFUSED: u32 = 256;
+
+/// What a call with a sheet, its text and so many marks answers, its number
+/// above the lower 32 bits; and the run, which is nothing where the call is
+/// refused. 12 comes last of the refusals: "then 11, or 12 for the setter".
 pub fn set(sheet: &[u32], text: &[u8], marks: usize) -> (u64, Run) {
     let records = sheet.len() / RECORD_WORDS;
-    let refused = match refusal(sheet, text) {
-        (0, _) if marks < records => (12, 0),
-        refused => refused,
+    let ((number, low), run) = match refusal(sheet, text) {
+        (0, _) => {
+            let run = Run::of(sheet, text);
+            (run.answer(records, marks), run)
+        }
+        (number, record) => ((REFUSED + number, record), Run::default()),
     };
-    let run = match refused.0 {
-        0 => Run::of(sheet, text),
-        _ => Run::default(),
-    };
-    let (number, low) = match (refused, &run.stop) {
-        ((0, _), None) => (0, records),
-        ((0, _), Some(stop)) => (stop.number, stop.record),
-        ((number, record), _) => (256 + number, record),
-    };
-    (u64::from(number) << 32 | low as u64, run)
+    let answer = u64::from(number) << 32 | low as u64;
+    match number {
+        REFUSED.. => (answer, Run::default()),
+        _ => (answer, run),
+    }
 }
 
 struct Machine<'s> {
@@ -250,7 +261,7 @@ impl Machine<'_> {
                 if self.word(record, B) == 1 {
                     return self.word(record, C);
                 }
-                let before = self.siblings_before(record).last();
+                let before = self.siblings_before(record).next_back();
                 before.map_or(1, |before| self.run.marks[before] + 1)
             }
             _ => 0,
@@ -326,7 +337,7 @@ impl Machine<'_> {
     }
 
     fn is_after_break(&self, record: usize) -> bool {
-        let before = self.siblings_before(record).last();
+        let before = self.siblings_before(record).next_back();
         before.is_some_and(|before| is_break(self.kind(before)))
     }
 
