@@ -3,7 +3,6 @@ use mathlib.Core.Path.{_≡_}
 use mathlib.Core.Bool.{Bool, not, _&&_}
 use mathlib.Core.List.{List}
 use Prim.Native.Nat.{ℕ}
-use borrow.Author.Needs.{needs}
 use lib.Dec.{eqb}
 use Rattle.names.specs.Names.{isDirectiveName}
 use Rattle.strings.specs.Punctuation.{isAsciiPunctuation}
@@ -40,5 +39,3 @@ module _ (path : List ℕ) (span : Span) {s t : Tally} {x y : List ℕ} {p : Boo
     pub siblings-law : (before kind a : ℕ) → p ≡ isBreak before → q ≡ isPlainBreak kind a → Lists s t x y (listIf (p && q) Rules.breakAfterBreak span path) → Lists t u y z (listIf (eqb before delete && eqb kind delete) Rules.adjacentStrikethroughs span path) → Lists s u x z (validateSiblings path span before kind a)
     unfolding validateSiblings
     siblings-law before kind a e f l m = lists-then (rw (e, f) at l) m
-
-pub ruleset single = (destination-law, identifier-law, escape-law, name-law, siblings-law, needs)

@@ -3,7 +3,6 @@ use mathlib.Core.Path.{_≡_}
 use mathlib.Core.Bool.{Bool, not, _&&_, _||_}
 use mathlib.Core.List.{List}
 use Prim.Native.Nat.{ℕ}
-use borrow.Author.Needs.{needs}
 use lib.Dec.{eqb, ltb}
 use Rattle.multiline.specs.Fence.{holdsFenceLine}
 use Rattle.multiline.specs.Lines.{hasBlankEdgeLine}
@@ -42,5 +41,3 @@ module _ (path : List ℕ) (span : Span) {s t : Tally} {x y : List ℕ} where
     pub definition-law : (bytes : List ℕ) (a : ℕ) (identifier destination : Text) {n : List ℕ} {p : Bool} → n ≡ textOf bytes identifier → p ≡ isBlankIdentifier n → Lists s t x y (listIf p Rules.blankDefinition span path) → Lists t u y z (validateDestination path span a destination) → Lists s u x z (validateDefinition bytes path span a identifier destination)
     unfolding validateDefinition
     definition-law bytes a identifier destination f e l m = lists-then (rw (e, f) at l) m
-
-pub ruleset heads = (heading-law, alert-law, code-block-law, frontmatter-law, definition-law, needs)

@@ -19,6 +19,7 @@ use Rattle.sheet.proofs.Trees.{under-in, under-out, under-end, under-fits}
 use Rattle.report.proofs.ReportLaws.{lists-none, lists-then}
 use Rattle.walks.proofs.WalkLaws.{Skipping, behindKids, skip-tree, skip-out, skip-end}
 use Rattle.walks.proofs.TreeLaws.{suc-some, count-end, count-out, count-in}
+use Rattle.walks.proofs.DecideLaws.{Deciding, deciding-end, deciding-found, deciding-out, deciding-turn}
 use Rattle.walks.proofs.PathLaws.{Paced, kept-set, paced-own, paced-turn}
 use Rattle.checks.specs.Rules
 use Rattle.items.specs.Items.{opensWithParagraph, validateBlankLine, validateItemBlankLines, validateTaskItem}
@@ -63,36 +64,27 @@ lines-turn tight {w} {p} {n} {from} {len} {level} {outer} {i = i} {k} {q = q} v 
     (paced-turn v at (lines-step (take len p) tight (isLast w n from level outer) k w n i level b d′) (rw (e, g′, paced-own v room) at l) a (omega (arith, v .few)) (length-set q len k) (kept-set q len k))
 
 -- ---- its paragraph
-pub record Opening (w : List ℕ) (n from level i : ℕ) : Type 0 where
-  pub inside : i ≤ n
-  pub is : opensWithParagraph (under w n i level) ≡ opensWithParagraph (under w n from level)
+module _ (w : List ℕ) (n from level : ℕ) {i : ℕ} (v : Deciding opensWithParagraph w n from level i) where
+  pub opening-end : n ≤ i → false ≡ opensWithParagraph (under w n from level)
+  unfolding opensWithParagraph
+  opening-end h = deciding-end opensWithParagraph w n from level v h
 
-module _ (w : List ℕ) (n from level : ℕ) where
-  pub opening-start : from ≤ n → Opening w n from level from
-  opening-start h = record { inside = h; is = refl }
-
-  module _ {i : ℕ} (v : Opening w n from level i) where
-    pub opening-end : n ≤ i → false ≡ opensWithParagraph (under w n from level)
+  module _ {r : Rec} (b : i < n) (e : r ≡ recordAt w i) where
+    pub opening-out : r .level ≤ level → false ≡ opensWithParagraph (under w n from level)
     unfolding opensWithParagraph
-    opening-end h = (rw (under-end w n i level h) at (v .is))
+    opening-out d = deciding-out opensWithParagraph w n from level v b e d
 
-    module _ {r : Rec} (b : i < n) (e : r ≡ recordAt w i) where
-      pub opening-out : r .level ≤ level → false ≡ opensWithParagraph (under w n from level)
-      unfolding opensWithParagraph
-      opening-out d = rw (under-out w n i level b (rw e at d)) at (v .is)
+    pub opening-turn : {j : ℕ} → level < r .level → r .kind ≡ definition → j ≡ i + 1 + size (under w n (i + 1) (r .level)) → Deciding opensWithParagraph w n from level j
+    unfolding opensWithParagraph
+    opening-turn d k q =
+        let k′ : eqb (recordAt w i .kind) definition ≡ true = rw e at (eq-eqb _ _ k) in
+        deciding-turn opensWithParagraph w n from level v b e d (rw k′) q
 
-      pub opening-turn : {j : ℕ} → level < r .level → r .kind ≡ definition → j ≡ i + 1 + size (under w n (i + 1) (r .level)) → Opening w n from level j
-      unfolding opensWithParagraph
-      opening-turn {j} d k q =
-          let k′ : eqb (recordAt w i .kind) definition ≡ true = rw e at (eq-eqb _ _ k) in
-          let q′ : j ≡ behindKids w n i = rw e at q in
-          rw q′ (record { inside = under-fits w n (i + 1) (recordAt w i .level) (omega arith); is = (rw (under-in w n i level b (rw e at d), k′) at (v .is)) })
-
-      pub opening-found : {f : Bool} → level < r .level → (r .kind ≡ definition → ⊥) → f ≡ eqb (count (under w n (i + 1) (r .level))) 0 → (eqb (r .kind) paragraph && not f) ≡ opensWithParagraph (under w n from level)
-      unfolding opensWithParagraph
-      opening-found d k q =
-          let k′ : eqb (recordAt w i .kind) definition ≡ false = rw e at (ne-eqb _ _ k) in
-          rw (q, e) (rw (under-in w n i level b (rw e at d), k′) at (v .is))
+    pub opening-found : {f : Bool} → level < r .level → (r .kind ≡ definition → ⊥) → f ≡ eqb (count (under w n (i + 1) (r .level))) 0 → (eqb (r .kind) paragraph && not f) ≡ opensWithParagraph (under w n from level)
+    unfolding opensWithParagraph
+    opening-found d k q =
+        let k′ : eqb (recordAt w i .kind) definition ≡ false = rw e at (ne-eqb _ _ k) in
+        rw (q, e) (rw k′ at (deciding-found opensWithParagraph w n from level v b e d))
 
 module _ (path : List ℕ) (span : Span) (checked : ℕ) (w : List ℕ) (n from level : ℕ) where
   pub task-none : {s : Tally} {x : List ℕ} → checked ≡ 0 → Lists s s x x (validateTaskItem path span checked (under w n from level))

@@ -3,7 +3,6 @@ use mathlib.Core.Path.{_≡_}
 use mathlib.Core.Bool.{Bool, _&&_}
 use mathlib.Core.List.{List}
 use Prim.Native.Nat.{ℕ}
-use borrow.Author.Needs.{needs}
 use lib.Dec.{eqb}
 use Rattle.multiline.specs.Lines.{holdsLineEnding}
 use Rattle.leaves.specs.Math.{holdsBacktickDollar}
@@ -31,5 +30,3 @@ module _ (path : List ℕ) (span : Span) {s t : Tally} {x y : List ℕ} {p : Boo
       pub math-law : (a b : ℕ) {v : Tally} {o : List ℕ} → q ≡ holdsBacktickDollar n → Lists s t x y (listIf p Rules.emptyMath span path) → Lists t u y z (listIf (eqb a 0 && eqb b 0) Rules.mathWithoutFence span path) → Lists u v z o (listIf (eqb a 1 && q) Rules.backtickDollarInMath span path) → Lists s v x o (validateMathInline bytes path span a b value)
       unfolding validateMathInline
       math-law a b g l m k = lists-then (rw e at l) (lists-then m (rw (g, f) at k))
-
-pub ruleset literal = (text-law, code-law, math-law, needs)

@@ -1,19 +1,21 @@
 -- `items::item::opens_with_paragraph` meets its contract.
 use Prim.Native.Nat.{_-_}
-use Rattle.items.proofs.ItemLaws.{Opening, opening-start, opening-turn, opening-out, opening-end, opening-found}
+use Rattle.items.proofs.ItemLaws.{opening-turn, opening-out, opening-end, opening-found}
+use Rattle.items.specs.Items.{opensWithParagraph}
+use Rattle.walks.proofs.DecideLaws.{Deciding, deciding-start}
 use Rattle.walks.proofs.WalkLaws.{skip-down}
 use borrow.Author.Needs.{needs}
 use Rattle.items.proofs.item.opens_with_paragraph.Statement.{statement}
 use Rattle.items.proofs.item.opens_with_paragraph.Tie as tie
 
 abbrev Inv-loop : tie.InvT-loop
-Inv-loop sheet n from level i₀ i = Opening sheet n «from» level i
+Inv-loop sheet n from level i₀ i = Deciding opensWithParagraph sheet n «from» level i
 
 abbrev μ-loop : tie.MeasureT-loop
 μ-loop sheet n from level i₀ i = n - i
 
 loop-holds : tie.Need-loop-holds Inv-loop μ-loop
-loop-holds c = opening-start _ _ _ _ (search needs)
+loop-holds c = deciding-start _ _ _ _ _ (search needs)
 
 returns : tie.Need-returns Inv-loop μ-loop
 returns c = opening-out _ _ _ _ (c .before .before .before .before .loop .inv) (search needs) (c .before .before .record-at .ensures) (c .if1 .taken)
