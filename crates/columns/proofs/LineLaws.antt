@@ -8,7 +8,7 @@ use native.Mathlib.Numerals.{add-one}
 use native.Mathlib.Omega.{arith}
 use lib.Dec.{eqb, leb}
 use lib.ListN.{length, getD, set, take, drop, length-set, length-append, length-take, length-drop, List·getD-eq-default}
-use lib.Seq.{append-snoc, paste-zero, take-all, take-length, take-suc, take-suc-set, drop-drop, set-split}
+use lib.Seq.{append-snoc, paste-zero, getD-take, take-nil, take-take, take-all, take-length, take-suc, take-suc-set, drop-drop, set-split}
 use borrow.Author.Needs.{needs}
 use borrow.Author.Tests.{ne-eqb, leb-false}
 use Rattle.strings.specs.Bytes.{lf}
@@ -82,6 +82,11 @@ module _ {s old words : List ℕ} {good : Bool} {at k : ℕ} (r : Reading s old 
       let none : length old - k ≡ 0 = omega (arith, all-read) in
       sym (r .is ∙ rw none (append-nil (take k words) ∙ take-all k words h))
 
+pub numbers-long : (k : ℕ) (s : List ℕ) → length (numbers k s) ≡ k
+unfolding numbers
+numbers-long zero s = refl
+numbers-long (suc k) s = ap suc (numbers-long k (drop places s))
+
 pub ruleset lining = (line-start, line-next, line-good, line-words, needs)
 
 -- ---- `write_line`
@@ -151,3 +156,31 @@ module _ {old ns out : List ℕ} {at end i : ℕ} (w : Writing old ns out at end
         record { written = one ∙ rw (z, is) (over-two old (fields ns) (lf ∷ []) at (omega arith)); ends = omega (arith, line-long ns) }
 
 pub ruleset inking = (write-start, write-room, write-next, write-last, write-end, needs)
+
+-- ---- a line is decided by its own bytes: what is cut off behind them says nothing
+pub drop-take : (n k : ℕ) (s : List ℕ) → n ≤ k → drop n (take k s) ≡ take (k - n) (drop n s)
+drop-take zero k s h = rw sub-zero
+drop-take (suc n) zero s h = absurd (omega arith)
+drop-take (suc n) (suc k) [] h = sym (take-nil (suc k - suc n))
+drop-take (suc n) (suc k) (x ∷ s) h = let e : suc k - suc n ≡ k - n = omega arith in rw e (drop-take n k s (omega arith))
+
+module _ (m : ℕ) (s : List ℕ) (h : places ≤ m) where
+  first-take : take places (take m s) ≡ take places s
+  first-take = take-take places m s h
+
+  rest-take : drop places (take m s) ≡ take (m - places) (drop places s)
+  rest-take = drop-take places m s h
+
+are-take : (k m : ℕ) (s : List ℕ) → k * places ≤ m → areFields k (take m s) ≡ areFields k s
+unfolding areFields
+are-take zero m s h = refl
+are-take (suc k) m s h = rw (first-take m s (omega arith), rest-take m s (omega arith), are-take k (m - places) (drop places s) (omega arith))
+
+pub numbers-take : (k m : ℕ) (s : List ℕ) → k * places ≤ m → numbers k (take m s) ≡ numbers k s
+unfolding numbers
+numbers-take zero m s h = refl
+numbers-take (suc k) m s h = rw (first-take m s (omega arith), rest-take m s (omega arith), numbers-take k (m - places) (drop places s) (omega arith))
+
+pub line-take : (k m : ℕ) (s : List ℕ) → lineBytes k ≤ m → isLine k (take m s) ≡ isLine k s
+unfolding isLine
+line-take k m s h = rw (are-take k m s (omega arith), getD-take m s (k * places) 0 (omega arith))
