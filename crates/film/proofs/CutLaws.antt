@@ -10,7 +10,7 @@ use borrow.Author.Tests.{ne-eqb, ltb-false}
 use Rattle.sheet.specs.Sheet.{recordWords}
 use Rattle.columns.specs.Line.{lineBytes, isLine, numbers}
 use Rattle.columns.proofs.LineLaws.{drop-take, numbers-take, line-take}
-use Rattle.film.specs.Film.{countFields, recordCount, byteCount, areRecords, behindCounts, textBehind, mostRecords, mostBytes, mostInput, isBig, filmOf}
+use Rattle.film.specs.Film.{countFields, recordCount, byteCount, areRecords, behindCounts, textBehind, mostRecords, mostBytes, mostInput, isBig, filmNumber, filmOf}
 use Rattle.film.specs.declared.films.Film.{Film}
 use Rattle.film.specs.declared.films.Film.the-variants.{BadColumn, BigFilm, Ready}
 
@@ -19,15 +19,9 @@ unfolding areRecords
 records-take zero m s h = refl
 records-take (suc n) m s h = rw (line-take recordWords m s (omega arith), drop-take (lineBytes recordWords) m s (omega arith), records-take n (m - lineBytes recordWords) (drop (lineBytes recordWords) s) (omega arith))
 
--- a refusal, and no film
-abbrev pub isRefused : Film → Bool
-isRefused BadColumn = true
-isRefused BigFilm = true
-isRefused (Ready n) = false
-
 pub record Cut (s : List ℕ) : Type 0 where
   pub same : filmOf (take (suc mostInput) s) ≡ filmOf s
-  pub refused : isRefused (filmOf s) ≡ true
+  pub refused : eqb (filmNumber (filmOf s)) 0 ≡ false
 
 neither : (a b : Bool) → a || b ≡ false → (a ≡ false) × (b ≡ false)
 neither true b e = (e, absurd (let z : _≡_ {A = ℕ} 0 1 = cc in omega arith))

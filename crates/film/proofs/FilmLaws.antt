@@ -2,14 +2,16 @@
 use mathlib.Core.Path.{_≡_, refl, sym, ap, _∙_}
 use mathlib.Core.Bool.{Bool, true, false, not, _&&_, _||_}
 use mathlib.Core.List.{List, [], _∷_, _++_}
-use Prim.Native.Nat.{ℕ, _+_, _*_, _<_, _≤_}
+use Prim.Native.Nat.{ℕ, zero, suc, _+_, _*_, _<_, _≤_}
 use native.Mathlib.Omega.{arith}
-use lib.ListN.{length, getD, drop}
+use lib.Dec.{eqb, ltb}
+use lib.ListN.{length, getD, drop, length-append}
 use borrow.Author.Needs.{needs}
-use borrow.Author.Tests.{eq-eqb, ne-eqb, lt-ltb, le-ltb, not-true, not-false}
+use borrow.Author.Tests.{eq-eqb, ne-eqb, lt-ltb, le-ltb, ltb-false, not-true, not-false}
 use Rattle.sheet.specs.Sheet.{recordWords}
 use Rattle.columns.specs.Line.{lineBytes, isLine, numbers}
-use Rattle.film.specs.Film.{countFields, recordCount, byteCount, areRecords, sheetOf, behindCounts, filmSheet, textBehind, mostRecords, mostBytes, filmOf, filledSheet, Reads}
+use Rattle.columns.proofs.LineLaws.{numbers-long}
+use Rattle.film.specs.Film.{countFields, recordCount, byteCount, areRecords, sheetOf, behindCounts, filmSheet, textBehind, mostRecords, mostBytes, filmText, filmNumber, filmOf, filledSheet, Reads}
 use Rattle.film.specs.declared.films.Film.{Film}
 use Rattle.film.specs.declared.films.Film.the-variants.{BadColumn, BigFilm, Ready}
 
@@ -66,3 +68,30 @@ module _ (s old : List ℕ) {good : Bool} {counts : List ℕ} (first : (good ≡
               record { answer = rw (l-is, n-is, m-is, le-ltb _ _ few, le-ltb _ _ short, lines-is, not-false lines g, ← v, eq-eqb _ _ q); words = filled }
 
 pub ruleset films = (film-bad, film-many, film-long, film-lines, film-text, film-ready, needs)
+
+-- ---- a film that is ready has as many records as its first line says, and not too many
+pub record Good (s : List ℕ) : Type 0 where
+  pub answer : filmOf s ≡ Ready (recordCount s)
+  pub filled : (old : List ℕ) → filledSheet s old ≡ filmSheet s ++ drop (recordCount s * recordWords) old
+  pub few : recordCount s ≤ mostRecords
+
+pub good : (s : List ℕ) → filmNumber (filmOf s) ≡ 0 → Good s
+unfolding filmOf filledSheet
+good s z = go (isLine countFields s) refl (ltb mostRecords (recordCount s)) refl (ltb mostBytes (byteCount s)) refl (areRecords (recordCount s) (behindCounts s)) refl (eqb (length (filmText s)) (byteCount s)) refl
+  where
+    no : {m : ℕ} → m ≡ 0 → 0 < m → Good s
+    no e h = absurd (omega arith)
+
+    go : (a : Bool) → isLine countFields s ≡ a → (b : Bool) → ltb mostRecords (recordCount s) ≡ b → (c : Bool) → ltb mostBytes (byteCount s) ≡ c → (d : Bool) → areRecords (recordCount s) (behindCounts s) ≡ d → (e : Bool) → eqb (length (filmText s)) (byteCount s) ≡ e → Good s
+    go false p b q c r d t e u = no (rw p at z) (omega arith)
+    go true p true q c r d t e u = no (rw (p, q) at z) (omega arith)
+    go true p false q true r d t e u = no (rw (p, q, r) at z) (omega arith)
+    go true p false q false r false t e u = no (rw (p, q, r, t) at z) (omega arith)
+    go true p false q false r true t false u = no (rw (p, q, r, t, u) at z) (omega arith)
+    go true p false q false r true t true u =
+        record { answer = rw (p, q, r, t, u); filled = λ old. rw (p, q, r); few = ltb-false _ _ q }
+
+pub sheet-long : (n : ℕ) (s : List ℕ) → length (sheetOf n s) ≡ n * recordWords
+unfolding sheetOf
+sheet-long zero s = refl
+sheet-long (suc n) s = length-append (numbers recordWords s) (sheetOf n (drop (lineBytes recordWords) s)) ∙ omega (arith, numbers-long recordWords s, sheet-long n (drop (lineBytes recordWords) s))

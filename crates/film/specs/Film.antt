@@ -47,6 +47,10 @@ filmSheet s = sheetOf (recordCount s) (behindCounts s)
 unfoldable pub textBehind : ℕ → List ℕ → List ℕ
 textBehind n s = drop (lineBytes countFields + n * lineBytes recordWords) s
 
+-- the text of a film
+abbrev pub filmText : List ℕ → List ℕ
+filmText s = textBehind (recordCount s) s
+
 -- ---- the tests. "The program tests its first line (13, then 14), then each line, before the call".
 
 -- 14, big film: "over 512 records or 16,384 text bytes"
@@ -72,9 +76,21 @@ filmOf s =
     then BigFilm
     else if not (areRecords (recordCount s) (behindCounts s))
     then BadColumn
-    else if not (eqb (length (textBehind (recordCount s) s)) (byteCount s))
+    else if not (eqb (length (filmText s)) (byteCount s))
     then BadColumn
     else Ready (recordCount s)
+
+-- document 01's number of the answer: 13 "bad column", 14 "big film", 0 where the film is ready
+abbrev pub filmNumber : Film → ℕ
+filmNumber BadColumn = 13
+filmNumber BigFilm = 14
+filmNumber (Ready n) = 0
+
+-- how many records a film that is ready has
+abbrev pub filmRecords : Film → ℕ
+filmRecords BadColumn = 0
+filmRecords BigFilm = 0
+filmRecords (Ready n) = n
 
 -- ---- the words that the sheet is read into: those of the records where the counts are good, and behind them the old ones
 unfoldable pub filledSheet : List ℕ → List ℕ → List ℕ

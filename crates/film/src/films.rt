@@ -1,7 +1,7 @@
 // A film: its sheet and its text, or why it is refused.
 ghost use mathlib.Core.Path.{_≡_};
 ghost use Prim.Native.Nat.{_≤_};
-ghost use Rattle.film.specs.Film.{mostRecords, textBehind, Reads};
+ghost use Rattle.film.specs.Film.{mostRecords, textBehind, filmNumber, filmRecords, Reads};
 use crate::records::RECORD_BYTES;
 use crate::records::behind;
 use crate::records::read_records;
@@ -24,6 +24,28 @@ pub enum Film {
     BadColumn,
     BigFilm,
     Ready(usize),
+}
+
+// Document 01's number of a refused film; 0 where it is ready.
+pub fn film_number(f: Film) -> u32
+    ensures { λ r. ⌜ r ≡ filmNumber f ⌝ }
+{
+    match f {
+        Film::BadColumn => 13,
+        Film::BigFilm => 14,
+        Film::Ready(_) => 0,
+    }
+}
+
+// How many records a film that is ready has.
+pub fn film_records(f: Film) -> usize
+    ensures { λ r. ⌜ r ≡ filmRecords f ⌝ }
+{
+    match f {
+        Film::BadColumn => 0,
+        Film::BigFilm => 0,
+        Film::Ready(n) => n,
+    }
 }
 
 // The text of a film of `n` records: all that stands behind them.
