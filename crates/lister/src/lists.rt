@@ -10,7 +10,6 @@ ghost use Rattle.lister.specs.Listing.{sheetLines, listing};
 ghost use Rattle.lister.specs.RunRecord.{runRecord};
 use checker::check::answer_number;
 use checker::check::answer_value;
-use checker::check::check;
 use film::films::MOST_RECORDS;
 use film::films::SHEET_WORDS;
 use film::films::film_number;
@@ -21,8 +20,8 @@ use printing::print::OUTPUT_BYTES;
 use printing::print::REPORT_WORDS;
 use printing::print::write_list;
 use printing::print::write_refusal;
+use setter::both::check_and_set;
 use setting::run::Setting;
-use setting::run::set;
 use setting::run::stop_number;
 use sheet::records::RECORD_WORDS;
 
@@ -57,8 +56,9 @@ fn list_sheet(sheet: &[u32], text: &[u8], output: &mut [u8; OUTPUT_BYTES]) -> us
 {
     let mut report = report_words();
     let mut marks = no_marks();
-    let checked = check(sheet, text, &mut report);
-    let run = set(sheet, text, &mut marks);
+    let both = check_and_set(sheet, text, &mut report, &mut marks);
+    let checked = both.checked;
+    let run = both.set;
     let number = answer_number(checked);
     let value = answer_value(checked);
     if number != 0 {

@@ -142,6 +142,10 @@ prints-list {old} {mid} {new} {end} {r} w n stop at f g few long room =
 pub last-room : {old mid : List ℕ} {end : ℕ} (w : List ℕ) (n : ℕ) → Writes old 0 (linesIn n w) mid end → n ≤ reportWords → length w ≡ reportWords → length old ≡ outputBytes → length mid ≡ length old → end + lineBytes 3 ≤ length mid
 last-room w n f few long room same = omega (arith, f .ends, lines-most n w)
 
+-- what is printed is inside the output
+pub prints-within : {old bytes new : List ℕ} {n : ℕ} → Prints old bytes new n → n ≤ length new
+prints-within {old} {bytes} {new} p = omega (arith, p .count, ap length (p .printed) ∙ length-append bytes (drop (length bytes) old))
+
 -- ---- the lines of a report that holds a list
 entry-front : (e : Entry) (rest : List ℕ) → entryWords (words e ++ rest) ≡ length (words e)
 unfolding words
