@@ -146,6 +146,9 @@ last-room w n f few long room same = omega (arith, f .ends, lines-most n w)
 pub prints-within : {old bytes new : List ℕ} {n : ℕ} → Prints old bytes new n → n ≤ length new
 prints-within {old} {bytes} {new} p = omega (arith, p .count, ap length (p .printed) ∙ length-append bytes (drop (length bytes) old))
 
+pub prints-taken : {old bytes new : List ℕ} {n : ℕ} → Prints old bytes new n → n ≡ length (take n new)
+prints-taken {new = new} {n = n} p = let h = prints-within p in omega (arith, length-take n new)
+
 -- ---- the lines of a report that holds a list
 entry-front : (e : Entry) (rest : List ℕ) → entryWords (words e ++ rest) ≡ length (words e)
 unfolding words
