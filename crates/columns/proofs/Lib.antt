@@ -1,0 +1,4 @@
+pub mod FieldLaws
+pub mod FieldReadLaws
+pub mod LineLaws
+pub mod ColumnExamples

@@ -1,0 +1,14 @@
+-- `columns::fields::read_number` meets its contract.
+use Rattle.columns.proofs.FieldLaws.{reading}
+use Rattle.columns.proofs.fields.read_number.Statement.{statement}
+use Rattle.columns.proofs.fields.read_number.Tie as tie
+
+pub read-number-spec : {M : Type 1} → statement M
+read-number-spec =
+    tie.close
+    (tie.spec
+    (λ c. search reading)
+    (λ c. search reading)
+    (λ c. search reading)
+    (λ c κs. search reading)
+    (λ c. search reading))

@@ -1,0 +1,4 @@
+pub mod RecordLaws
+pub mod FilmLaws
+pub mod CutLaws
+pub mod FilmExamples

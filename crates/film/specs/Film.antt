@@ -1,0 +1,102 @@
+-- A film: what the program reads, a sheet and its text.
+-- Document 01: "The program reads a sheet on standard input: counts of records and text bytes; a line a record; the text."
+use Prim.Native.Nat.{ℕ, zero, suc, _+_, _*_}
+use mathlib.Core.Path.{_≡_}
+use mathlib.Core.Bool.{Bool, true, not, _&&_, _||_}
+use mathlib.Core.List.{List, [], _++_}
+use lib.Dec.{eqb, ltb}
+use lib.ListN.{length, getD, drop}
+use Rattle.strings.specs.Lists.{if_then_else_}
+use Rattle.sheet.specs.Sheet.{recordWords}
+use Rattle.columns.specs.Line.{lineBytes, isLine, numbers}
+use Rattle.film.specs.declared.films.Film.{Film}
+use Rattle.film.specs.declared.films.Film.the-variants.{BadColumn, BigFilm, Ready}
+
+-- ---- the first line: "counts of records and text bytes"
+
+abbrev pub countFields : ℕ
+countFields = 2
+
+abbrev pub recordCount : List ℕ → ℕ
+recordCount s = getD (numbers countFields s) 0 0
+
+abbrev pub byteCount : List ℕ → ℕ
+byteCount s = getD (numbers countFields s) 1 0
+
+-- ---- the records: "a line a record", a field for each of its words
+
+-- n lines of records stand at the front
+unfoldable pub areRecords : ℕ → List ℕ → Bool
+areRecords zero s = true
+areRecords (suc n) s = isLine recordWords s && areRecords n (drop (lineBytes recordWords) s)
+
+-- their words
+unfoldable pub sheetOf : ℕ → List ℕ → List ℕ
+sheetOf zero s = []
+sheetOf (suc n) s = numbers recordWords s ++ sheetOf n (drop (lineBytes recordWords) s)
+
+-- what stands behind the first line
+abbrev pub behindCounts : List ℕ → List ℕ
+behindCounts s = drop (lineBytes countFields) s
+
+-- the words of a film's sheet
+unfoldable pub filmSheet : List ℕ → List ℕ
+filmSheet s = sheetOf (recordCount s) (behindCounts s)
+
+-- ---- the text: all that stands behind n records
+unfoldable pub textBehind : ℕ → List ℕ → List ℕ
+textBehind n s = drop (lineBytes countFields + n * lineBytes recordWords) s
+
+-- the text of a film
+abbrev pub filmText : List ℕ → List ℕ
+filmText s = textBehind (recordCount s) s
+
+-- ---- the tests. "The program tests its first line (13, then 14), then each line, before the call".
+
+-- 14, big film: "over 512 records or 16,384 text bytes"
+abbrev pub mostRecords : ℕ
+mostRecords = 512
+
+abbrev pub mostBytes : ℕ
+mostBytes = 16384
+
+-- how many bytes the largest well-formed film has
+abbrev pub mostInput : ℕ
+mostInput = lineBytes countFields + mostRecords * lineBytes recordWords + mostBytes
+
+abbrev pub isBig : List ℕ → Bool
+isBig s = ltb mostRecords (recordCount s) || ltb mostBytes (byteCount s)
+
+-- 13, bad column: "malformed line, or text too short or long"
+unfoldable pub filmOf : List ℕ → Film
+filmOf s =
+    if not (isLine countFields s)
+    then BadColumn
+    else if isBig s
+    then BigFilm
+    else if not (areRecords (recordCount s) (behindCounts s))
+    then BadColumn
+    else if not (eqb (length (filmText s)) (byteCount s))
+    then BadColumn
+    else Ready (recordCount s)
+
+-- document 01's number of the answer: 13 "bad column", 14 "big film", 0 where the film is ready
+abbrev pub filmNumber : Film → ℕ
+filmNumber BadColumn = 13
+filmNumber BigFilm = 14
+filmNumber (Ready n) = 0
+
+-- how many records a film that is ready has
+abbrev pub filmRecords : Film → ℕ
+filmRecords BadColumn = 0
+filmRecords BigFilm = 0
+filmRecords (Ready n) = n
+
+-- ---- the words that the sheet is read into: those of the records where the counts are good, and behind them the old ones
+unfoldable pub filledSheet : List ℕ → List ℕ → List ℕ
+filledSheet s old = if isLine countFields s && not (isBig s) then filmSheet s ++ drop (recordCount s * recordWords) old else old
+
+-- what reading a film hands back: its answer, and the words of the sheet
+pub record Reads (s old new : List ℕ) (film : Film) : Type 0 where
+  pub answer : film ≡ filmOf s
+  pub words : new ≡ filledSheet s old

@@ -1,0 +1,3 @@
+// A film as the program reads it: counts, lines of records, text.
+pub mod films;
+pub mod records;

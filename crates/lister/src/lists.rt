@@ -1,0 +1,83 @@
+// A film is read, checked and set, and what was found is printed.
+ghost use mathlib.Core.Path.{_≡_};
+ghost use mathlib.Core.List.{_++_};
+ghost use Prim.Native.Nat.{_*_, _≤_};
+ghost use lib.ListN.{take, drop};
+ghost use Rattle.sheet.specs.Sheet.{recordWords, recordsOf};
+ghost use Rattle.film.specs.Film.{mostRecords, recordCount, filmSheet, filmText};
+ghost use Rattle.printing.specs.Printing.{Prints};
+ghost use Rattle.lister.specs.Listing.{sheetLines, listing};
+ghost use Rattle.lister.specs.RunRecord.{runRecord};
+use checker::check::answer_number;
+use checker::check::answer_value;
+use film::films::MOST_RECORDS;
+use film::films::SHEET_WORDS;
+use film::films::film_number;
+use film::films::film_records;
+use film::films::read_film;
+use film::films::text_behind;
+use printing::print::OUTPUT_BYTES;
+use printing::print::REPORT_WORDS;
+use printing::print::write_list;
+use printing::print::write_refusal;
+use setter::both::check_and_set;
+use setting::run::Setting;
+use setting::run::stop_number;
+use sheet::records::RECORD_WORDS;
+
+fn sheet_words() -> [u32; SHEET_WORDS] {
+    [0u32; SHEET_WORDS]
+}
+
+fn report_words() -> [u32; REPORT_WORDS] {
+    [0u32; REPORT_WORDS]
+}
+
+fn no_marks() -> [u32; MOST_RECORDS] {
+    [0u32; MOST_RECORDS]
+}
+
+// The record of a stop; the number of records at the end.
+fn run_record(s: Setting) -> u32
+    ensures { λ r. ⌜ r ≡ runRecord s ⌝ }
+{
+    match s {
+        Setting::Ended(records) => records,
+        Setting::Stopped(_, i) => i,
+        Setting::Refused(_) => 0,
+        Setting::ShortMarks => 0,
+    }
+}
+
+// Checks and sets a sheet and its text, and prints the list with the stop and its record, or the refusal.
+fn list_sheet(sheet: &[u32], text: &[u8], output: &mut [u8; OUTPUT_BYTES]) -> usize
+    requires { ⌜ recordsOf (now sheet) ≤ mostRecords ⌝ }
+    ensures { λ r. ⌜ Prints (now (output .entry)) (sheetLines (now (sheet .entry)) (now (text .entry))) (now (output .exit)) r ⌝ }
+{
+    let mut report = report_words();
+    let mut marks = no_marks();
+    let both = check_and_set(sheet, text, &mut report, &mut marks);
+    let checked = both.checked;
+    let run = both.set;
+    let number = answer_number(checked);
+    let value = answer_value(checked);
+    if number != 0 {
+        return write_refusal(output, number, value as u32);
+    }
+    write_list(output, &report, value, stop_number(run), run_record(run))
+}
+
+// Prints what is found in a film, or why it is refused; answers how many bytes are printed.
+pub fn list(input: &[u8], output: &mut [u8; OUTPUT_BYTES]) -> usize
+    ensures { λ r. ⌜ Prints (now (output .entry)) (listing (now (input .entry))) (now (output .exit)) r ⌝ }
+{
+    let mut sheet = sheet_words();
+    let film = read_film(input, &mut sheet);
+    let number = film_number(film);
+    if number != 0 {
+        return write_refusal(output, number, 0);
+    }
+    let n = film_records(film);
+    let end = n * RECORD_WORDS;
+    list_sheet(&sheet[..end], text_behind(input, n), output)
+}

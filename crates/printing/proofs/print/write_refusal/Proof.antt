@@ -1,0 +1,11 @@
+-- `printing::print::write_refusal` meets its contract.
+use Rattle.printing.proofs.PrintLaws.{prints-refusal}
+use borrow.Author.Needs.{needs}
+use Rattle.printing.proofs.print.write_refusal.Statement.{statement}
+use Rattle.printing.proofs.print.write_refusal.Tie as tie
+
+returns : tie.Need-returns
+returns c = prints-refusal _ _ (c .write-line .ensures) (search needs)
+
+pub write-refusal-spec : {M : Type 1} → statement M
+write-refusal-spec = tie.close (tie.spec (λ c. search needs) (λ c κs. search needs) returns)
