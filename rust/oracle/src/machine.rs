@@ -115,18 +115,16 @@ pub const REFUSED: u32 = 256;
 /// above the lower 32 bits; and the run, which is nothing where the call is
 /// refused. 12 comes last of the refusals: "then 11, or 12 for the setter".
 pub fn set(sheet: &[u32], text: &[u8], marks: usize) -> (u64, Run) {
-    let records = sheet.len() / RECORD_WORDS;
-    let ((number, low), run) = match refusal(sheet, text) {
-        (0, _) => {
-            let run = Run::of(sheet, text);
-            (run.answer(records, marks), run)
-        }
-        (number, record) => ((REFUSED + number, record), Run::default()),
-    };
-    let answer = u64::from(number) << 32 | low as u64;
-    match number {
-        REFUSED.. => (answer, Run::default()),
-        _ => (answer, run),
+    let packed = |(number, low): (u32, usize)| u64::from(number) << 32 | low as u64;
+    let (number, record) = refusal(sheet, text);
+    if number != 0 {
+        return (packed((REFUSED + number, record)), Run::default());
+    }
+    let run = Run::of(sheet, text);
+    let answer = run.answer(sheet.len() / RECORD_WORDS, marks);
+    match answer.0 {
+        0..REFUSED => (packed(answer), run),
+        REFUSED.. => (packed(answer), Run::default()),
     }
 }
 
@@ -168,8 +166,7 @@ impl Machine<'_> {
         Ok(())
     }
 
-    /// Opens a record, whose mark is "Each record opened without a stop gets
-    /// a mark".
+    /// Opens a record. "Each record opened without a stop gets a mark".
     fn open(&mut self, record: usize) -> Result<(), Stop> {
         if let Some(number) = self.opening_stop(record) {
             return Err(self.stop(number, record));
