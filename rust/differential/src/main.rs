@@ -1,13 +1,15 @@
 //! Compares `reedsander_check` and `reedsander_set` with the Rust reference
 //! and a plain reading of document 01, and tests demand 3 on their answers:
-//! `differential [--short] [--seed N]`.
+//! `differential [--short] [--seed N] [--trees N]`. With `--trees` it makes so
+//! many random trees, as many damaged ones, and those mended, and no other
+//! sheet.
 //!
 //! It exits with 1 where a call differs, or where a rule, a stop or a refusal
 //! was never seen.
 
 #![forbid(unsafe_code)]
 
-use std::{env, process::ExitCode, time::Instant};
+use std::{env, ops::Range, process::ExitCode, time::Instant};
 
 use differential::{Harness, Plan};
 
@@ -15,45 +17,55 @@ use differential::{Harness, Plan};
 const SEED: u64 = 1;
 
 fn main() -> ExitCode {
-    let Some(plan) = plan(env::args().skip(1)) else {
-        eprintln!("usage: differential [--short] [--seed N]");
+    let Some((plan, parts)) = plan(env::args().skip(1)) else {
+        eprintln!("usage: differential [--short] [--seed N] [--trees N]");
         return ExitCode::from(2);
     };
-    run(plan)
+    run(plan, parts)
 }
 
-fn plan(mut arguments: impl Iterator<Item = String>) -> Option<Plan> {
-    let (mut short, mut seed) = (false, SEED);
+/// How much is done, and which parts of it.
+fn plan(mut arguments: impl Iterator<Item = String>) -> Option<(Plan, &'static [Part])> {
+    let (mut short, mut seed, mut trees) = (false, SEED, None);
     while let Some(argument) = arguments.next() {
         match argument.as_str() {
             "--short" => short = true,
             "--seed" => seed = arguments.next()?.parse().ok()?,
+            "--trees" => trees = Some(arguments.next()?.parse().ok()?),
             _ => return None,
         }
     }
-    Some(match short {
+    let plan = match short {
         true => Plan::short(seed),
         false => Plan::full(seed),
+    };
+    Some(match trees {
+        Some(trees) => (Plan { trees, ..plan }, &PARTS[TREES]),
+        None => (plan, &PARTS),
     })
 }
 
 /// A part of the run.
 type Part = (&'static str, fn(&mut Harness, Plan));
 
-fn run(plan: Plan) -> ExitCode {
+const PARTS: [Part; 7] = [
+    ("limits", Harness::limits),
+    ("small sheets", Harness::small),
+    ("all small sheets", Harness::all_small),
+    ("random trees", Harness::trees),
+    ("damaged trees", Harness::damaged),
+    ("mended trees", Harness::mended),
+    ("reports and marks of every length", Harness::lengths),
+];
+
+/// The parts that make trees.
+const TREES: Range<usize> = 3..6;
+
+fn run(plan: Plan, parts: &[Part]) -> ExitCode {
     let last = plan.seed + plan.trees - 1;
     println!("seeds {} to {last}", plan.seed);
     let mut harness = Harness::new(plan.seed, |shown| println!("{shown}"));
-    let parts: [Part; 7] = [
-        ("limits", Harness::limits),
-        ("small sheets", Harness::small),
-        ("all small sheets", Harness::all_small),
-        ("random trees", Harness::trees),
-        ("damaged trees", Harness::damaged),
-        ("mended trees", Harness::mended),
-        ("reports and marks of every length", Harness::lengths),
-    ];
-    for (name, part) in parts {
+    for &(name, part) in parts {
         timed(name, &mut harness, |harness| part(harness, plan));
     }
     print!("{}", harness.counts);
