@@ -6,6 +6,7 @@
 pub mod damage;
 pub mod draft;
 pub mod exhaustive;
+pub mod films;
 pub mod letters;
 pub mod mend;
 pub mod numbers;

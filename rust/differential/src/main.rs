@@ -2,47 +2,106 @@
 //! and a plain reading of document 01, and tests demand 3 on their answers:
 //! `differential [--short] [--seed N] [--trees N]`. With `--trees` it makes so
 //! many random trees, as many damaged ones, and those mended, and no other
-//! sheet.
+//! sheet. With `--listing PROGRAM` it runs the listing program instead, on
+//! `--films N` of each sort of film.
 //!
-//! It exits with 1 where a call differs, or where a rule, a stop or a refusal
-//! was never seen.
+//! It exits with 1 where a call or a film differs, or where a rule, a stop or a
+//! refusal was never seen.
 
 #![forbid(unsafe_code)]
 
-use std::{env, ops::Range, process::ExitCode, time::Instant};
+use std::{env, ops::Range, path::PathBuf, process::ExitCode, time::Instant};
 
-use differential::{Harness, Plan};
+use differential::{Films, Harness, Plan};
 
 /// The seed without `--seed`.
 const SEED: u64 = 1;
 
-fn main() -> ExitCode {
-    let Some((plan, parts)) = plan(env::args().skip(1)) else {
-        eprintln!("usage: differential [--short] [--seed N] [--trees N]");
-        return ExitCode::from(2);
-    };
-    run(plan, parts)
+/// How many films of each sort without `--films`.
+const FILMS: u64 = 5000;
+
+/// What is to be done.
+enum Work {
+    Calls(Plan, &'static [Part]),
+    Films {
+        program: PathBuf,
+        seed: u64,
+        many: u64,
+    },
 }
 
-/// How much is done, and which parts of it.
-fn plan(mut arguments: impl Iterator<Item = String>) -> Option<(Plan, &'static [Part])> {
-    let (mut short, mut seed, mut trees) = (false, SEED, None);
+fn main() -> ExitCode {
+    match work(env::args().skip(1)) {
+        Some(Work::Calls(plan, parts)) => run(plan, parts),
+        Some(Work::Films {
+            program,
+            seed,
+            many,
+        }) => run_films(program, seed, many),
+        None => {
+            eprintln!("usage: differential [--short] [--seed N] [--trees N]");
+            eprintln!("       differential --listing PROGRAM [--films N] [--seed N]");
+            ExitCode::from(2)
+        }
+    }
+}
+
+fn work(mut arguments: impl Iterator<Item = String>) -> Option<Work> {
+    let (mut short, mut seed) = (false, SEED);
+    let (mut program, mut many, mut trees) = (None, None, None);
     while let Some(argument) = arguments.next() {
         match argument.as_str() {
             "--short" => short = true,
             "--seed" => seed = arguments.next()?.parse().ok()?,
             "--trees" => trees = Some(arguments.next()?.parse().ok()?),
+            "--listing" => program = Some(PathBuf::from(arguments.next()?)),
+            "--films" => many = Some(arguments.next()?.parse().ok()?),
             _ => return None,
         }
     }
-    let plan = match short {
-        true => Plan::short(seed),
-        false => Plan::full(seed),
-    };
-    Some(match trees {
-        Some(trees) => (Plan { trees, ..plan }, &PARTS[TREES]),
-        None => (plan, &PARTS),
-    })
+    match (program, many, short) {
+        (Some(program), many, false) => Some(Work::Films {
+            program,
+            seed,
+            many: many.unwrap_or(FILMS),
+        }),
+        (None, None, true) => Some(calls(Plan::short(seed), trees)),
+        (None, None, false) => Some(calls(Plan::full(seed), trees)),
+        _ => None,
+    }
+}
+
+/// The whole plan, or so many trees alone.
+fn calls(plan: Plan, trees: Option<u64>) -> Work {
+    match trees {
+        Some(trees) => Work::Calls(Plan { trees, ..plan }, &PARTS[TREES]),
+        None => Work::Calls(plan, &PARTS),
+    }
+}
+
+/// Runs the listing program on every film.
+fn run_films(program: PathBuf, seed: u64, many: u64) -> ExitCode {
+    let start = Instant::now();
+    let mut films = Films::new(program, |shown| println!("{shown}"));
+    if let Err(error) = films.all(seed, many) {
+        eprintln!("differential: the listing program: {error}");
+        return ExitCode::FAILURE;
+    }
+    print!("{films}");
+    let unseen = films.unseen();
+    for printed in &unseen {
+        println!("never seen: {printed}");
+    }
+    println!(
+        "films {}, differences {}, {:.1} s",
+        films.films(),
+        films.differences(),
+        start.elapsed().as_secs_f64()
+    );
+    match films.differences() == 0 && unseen.is_empty() {
+        true => ExitCode::SUCCESS,
+        false => ExitCode::FAILURE,
+    }
 }
 
 /// A part of the run.

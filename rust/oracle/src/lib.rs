@@ -17,7 +17,8 @@
 //! `validate.rs` itself. So compare with [`kept`], or drop by [`rule`].
 //!
 //! What the reference has not is read from document 01: the refusals
-//! ([`refusal()`]) and the setting machine ([`set`]).
+//! ([`refusal()`]), the setting machine ([`set`]) and the listing program
+//! ([`listing()`]).
 
 #![forbid(unsafe_code)]
 
@@ -28,6 +29,7 @@ include!(concat!(env!("OUT_DIR"), "/sources.rs"));
 mod decode;
 mod document;
 mod gemoji;
+mod listing;
 mod machine;
 mod messages;
 mod parse;
@@ -36,6 +38,7 @@ mod serialize;
 mod swar;
 
 pub use document::{document, list};
+pub use listing::listing;
 pub use machine::{set, Run, Step, Stop, REFUSED, STOP_RULES};
 pub use messages::{rule, DROPPED, KEPT};
 pub use refusal::{refusal, RECORD_WORDS};
