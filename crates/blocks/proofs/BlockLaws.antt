@@ -9,7 +9,7 @@ use borrow.Author.Tests.{not-true, not-false, eq-eqb, ne-eqb}
 use lib.Dec.{eqb}
 use lib.ListN.{length, take, set, length-set}
 use Rattle.strings.specs.Lists.{if_then_else_}
-use Rattle.sheet.specs.Kinds.{isBlock, list, blankLine}
+use Rattle.sheet.specs.Kinds.{isBlock, list}
 use Rattle.sheet.specs.Sheet.{recordAt}
 use Rattle.sheet.specs.Forest.{Forest, none, tree, under, count, size}
 use Rattle.sheet.specs.declared.records.Rec.{Rec}
@@ -18,16 +18,17 @@ use Rattle.report.specs.Report.{Entry, Lists, _⊕_}
 use Rattle.report.specs.declared.entries.Tally.{Tally}
 use Rattle.report.proofs.ReportLaws.{join-assoc, join-none, none-join, lists-none, lists-then}
 use Rattle.walks.specs.Walk.{Begin, Done}
-use Rattle.walks.specs.declared.every.Walked.{Walked}
+use Rattle.walks.specs.declared.trees.Walked.{Walked}
 use Rattle.walks.proofs.WalkLaws.{behindKids, level-of, skip-tree}
 use Rattle.walks.proofs.PathLaws.{Paced, paced-room, paced-own, paced-call, paced-turn, kept-set, kept-below}
-use Rattle.heads.specs.declared.own.Before.{Before}
-use Rattle.heads.specs.Heads.{validateTakenBlock}
-use Rattle.containers.specs.Items.{itemNumber, validateItemNumber, validateItemBlankLines, validateTaskItem}
-use Rattle.containers.specs.declared.items.Number.{Number}
+use Rattle.neighbours.specs.declared.taken.Before.{Before}
+use Rattle.neighbours.specs.Taken.{first, beforeNext, validateTakenBlock, beforeAt, indexAt}
+use Rattle.items.specs.Items.{validateItemBlankLines, validateTaskItem}
+use Rattle.numbers.specs.Numbers.{itemNumber, validateItemNumber}
+use Rattle.numbers.specs.declared.number.Number.{Number}
 use Rattle.oneblock.specs.OneBlock.{holdsBlocks, validateOwn}
-use Rattle.blocks.specs.Blocks.{first, beforeNext, validateBlock, validateBlocks, validateItem, validateItems}
-use Rattle.blocks.specs.At.{At, blockAt, beforeAt, indexAt}
+use Rattle.blocks.specs.Blocks.{validateBlock, validateBlocks, validateItem, validateItems}
+use Rattle.blocks.specs.At.{At, blockAt}
 
 -- ---- one tree
 abbrev itemsUnder : List ℕ → List ℕ → Rec → Forest → List Entry
@@ -80,29 +81,6 @@ module _ (bytes path : List ℕ) (before : Before) (w : List ℕ) (n i level : �
           let block : isBlock (recordAt w i .kind) ≡ true = not-false _ (rw (g, e) at h) in
           let m′ : holdsBlocks (recordAt w i .kind) (recordAt w i .a) ≡ false = rw (l, e) at m in
           record { next = j; lists = rw (at-leaf bytes path before (recordAt w i) (under w n (i + 1) level) block (ne-eqb _ _ (rw e at k)) m′) (lists-then (rw e at a) own) }
-
--- ---- the block before the next tree, and its index
-module _ (before : Before) (kind a b : ℕ) {f : Bool} (e : f ≡ isBlock kind) where
-  pub before-other : not f ≡ true → before ≡ beforeAt before kind a b
-  unfolding beforeAt
-  before-other h = let no : isBlock kind ≡ false = not-true _ (rw e at h) in rw no
-
-  pub before-blank : not f ≡ false → kind ≡ blankLine → before ≡ beforeAt before kind a b
-  unfolding beforeAt beforeNext
-  before-blank h k = let block : isBlock kind ≡ true = not-false _ (rw e at h) in rw (block, eq-eqb kind blankLine k)
-
-  pub before-block : not f ≡ false → (kind ≡ blankLine → ⊥) → record { kind = kind; a = a; b = b } ≡ beforeAt before kind a b
-  unfolding beforeAt beforeNext
-  before-block h k = let block : isBlock kind ≡ true = not-false _ (rw e at h) in rw (block, ne-eqb kind blankLine k)
-
-module _ (k kind : ℕ) {f : Bool} (e : f ≡ isBlock kind) where
-  pub index-block : f ≡ true → k + 1 ≡ indexAt k kind
-  unfolding indexAt
-  index-block h = let block : isBlock kind ≡ true = rw e at h in rw block
-
-  pub index-other : f ≡ false → k ≡ indexAt k kind
-  unfolding indexAt
-  index-other h = let no : isBlock kind ≡ false = rw e at h in rw no
 
 -- ---- one item
 pub item-done : (bytes path : List ℕ) (ordered tight : ℕ) (last : Bool) (w : List ℕ) (n i level : ℕ) {r : Rec} {k : Number} {s t u v : Tally} {x y z a b next : List ℕ} {q : Walked} → r ≡ recordAt w i → k ≡ itemNumber (r .b) (r .c) → Lists s t x y (validateItemNumber path (r .span) ordered k) → Lists t u y z (validateItemBlankLines path (eqb tight 1) last 0 (under w n (i + 1) level)) → next ≡ path → Lists u v z a (validateTaskItem next (r .span) (r .a) (under w n (i + 1) level)) → Done w n (i + 1) level (validateBlocks bytes next 0 first (under w n (i + 1) level)) v a q b → Done w n (i + 1) level (validateItem path ordered tight last (recordAt w i) (under w n (i + 1) level) (validateBlocks bytes path 0 first (under w n (i + 1) level))) s x q b

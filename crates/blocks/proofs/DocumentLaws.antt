@@ -13,9 +13,10 @@ use Rattle.report.specs.Report.{Lists, start}
 use Rattle.report.specs.declared.entries.Tally.{Tally}
 use Rattle.refusal.specs.Formed.{Formed, Sound}
 use Rattle.walks.specs.Walk.{Begin, Done}
-use Rattle.walks.specs.declared.every.Walked.{Walked}
+use Rattle.walks.specs.declared.trees.Walked.{Walked}
 use Rattle.walks.proofs.WalkLaws.{start-of}
-use Rattle.blocks.specs.Blocks.{first, validateBlocks, validateDocument}
+use Rattle.neighbours.specs.Taken.{first}
+use Rattle.blocks.specs.Blocks.{validateBlocks, validateDocument}
 
 formed-deeper : (bytes : List ℕ) (l : ℕ) (o : Open) (f : Forest) → Formed bytes l o f → deeper l f ≡ f
 unfolding Formed deeper

@@ -9,9 +9,9 @@ use Rattle.sheet.specs.Forest.{Forest}
 use Rattle.report.specs.Report.{Entry, _⊕_}
 use Rattle.sheet.specs.declared.records.Rec.{Rec}
 use Rattle.walks.specs.Walk.{Begin}
-use Rattle.heads.specs.declared.own.Before.{Before}
-use Rattle.heads.specs.Heads.{validateTakenBlock}
-use Rattle.blocks.specs.Blocks.{first, beforeNext, validateBlock, validateBlocks, validateItems}
+use Rattle.neighbours.specs.declared.taken.Before.{Before}
+use Rattle.neighbours.specs.Taken.{first, validateTakenBlock}
+use Rattle.blocks.specs.Blocks.{validateBlock, validateBlocks, validateItems}
 
 -- a beginning behind record i, whose level is given; the path is its own
 pub record At (w p : List ℕ) (n i len level : ℕ) : Type 0 where
@@ -24,10 +24,3 @@ blockAt bytes path before r kids =
     if isBlock (r .kind)
     then (validateTakenBlock path (r .span) before (r .kind) (r .a) (r .b) ⊕ validateBlock bytes path r kids (validateItems bytes path 0 (r .a) (r .c) kids) (validateBlocks bytes path 0 first kids))
     else []
-
--- the block before the next tree, and the next tree's index where it is a block
-unfoldable pub beforeAt : Before → ℕ → ℕ → ℕ → Before
-beforeAt before kind a b = if isBlock kind then beforeNext before kind a b else before
-
-unfoldable pub indexAt : ℕ → ℕ → ℕ
-indexAt k kind = if isBlock kind then k + 1 else k

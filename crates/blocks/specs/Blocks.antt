@@ -5,27 +5,20 @@ use mathlib.Core.Bool.{Bool}
 use mathlib.Core.List.{List, [], _∷_, _++_}
 use lib.Dec.{eqb}
 use Rattle.strings.specs.Lists.{if_then_else_}
-use Rattle.sheet.specs.Kinds.{isBlock, list, blankLine}
+use Rattle.sheet.specs.Kinds.{isBlock, list}
 use Rattle.sheet.specs.Forest.{Forest, none, tree, count, forestOf}
 use Rattle.report.specs.Report.{Entry, _⊕_}
 use Rattle.sheet.specs.declared.records.Rec.{Rec}
-use Rattle.heads.specs.declared.own.Before.{Before}
-use Rattle.heads.specs.Heads.{validateTakenBlock}
+use Rattle.neighbours.specs.declared.taken.Before.{Before}
+use Rattle.neighbours.specs.Taken.{first, beforeNext, validateTakenBlock}
 use Rattle.oneblock.specs.OneBlock.{holdsBlocks, validateOwn}
-use Rattle.containers.specs.Items.{itemNumber, validateItemNumber, validateItemBlankLines, validateTaskItem}
+use Rattle.items.specs.Items.{validateItemBlankLines, validateTaskItem}
+use Rattle.numbers.specs.Numbers.{itemNumber, validateItemNumber}
 
 -- `validate_block`: what a block reports, and then its items or its blocks, from what these list
 unfoldable pub validateBlock : List ℕ → List ℕ → Rec → Forest → List Entry → List Entry → List Entry
 validateBlock bytes path r kids items blocks =
     validateOwn bytes path r kids ⊕ (if eqb (r .kind) list then items else if holdsBlocks (r .kind) (r .a) then blocks else [])
-
--- no block stands before
-abbrev pub first : Before
-first = record { kind = 0; a = 0; b = 0 }
-
--- the block before the next one: "the block before each one is the last one before" blank lines (validate.rs)
-unfoldable pub beforeNext : Before → ℕ → ℕ → ℕ → Before
-beforeNext before kind a b = if eqb kind blankLine then before else record { kind = kind; a = a; b = b }
 
 -- an item of a list that is ordered where `ordered` is 1 and tight where `tight` is 1, from what its blocks list; `last` for the list's last
 unfoldable pub validateItem : List ℕ → ℕ → ℕ → Bool → Rec → Forest → List Entry → List Entry

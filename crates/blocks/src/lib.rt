@@ -1,2 +1,1 @@
-// The block walk: the whole list of a sheet.
-pub mod walk;
+// The definitions of the block walk, up to the whole list, and their laws: no code.

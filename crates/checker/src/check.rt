@@ -5,7 +5,7 @@ ghost use Rattle.report.specs.Report.{start, after};
 ghost use Rattle.refusal.specs.Formed.{Sound};
 ghost use Rattle.blocks.specs.Blocks.{validateDocument};
 ghost use Rattle.checker.specs.Check.{answerNumber, answerValue, outcome};
-use blocks::walk::validate_document;
+use blockwalk::walk::validate_document;
 use refusal::judge;
 use refusal::judge::Judged;
 use report::entries::Tally;

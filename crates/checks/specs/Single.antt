@@ -3,9 +3,7 @@ use Prim.Native.Nat.{ℕ}
 use mathlib.Core.Bool.{not, _&&_}
 use mathlib.Core.List.{List}
 use lib.Dec.{eqb}
-use Rattle.multiline.specs.Lines.{holdsLineEnding}
-use Rattle.leaves.specs.Math.{holdsBacktickDollar}
-use Rattle.leaves.specs.Names.{isDirectiveName}
+use Rattle.names.specs.Names.{isDirectiveName}
 use Rattle.strings.specs.Punctuation.{isAsciiPunctuation}
 use Rattle.sheet.specs.Kinds.{delete}
 use Rattle.form.specs.Fields.{textOf}
@@ -13,7 +11,8 @@ use Rattle.report.specs.Report.{Entry, listIf, _⊕_}
 use Rattle.sheet.specs.declared.records.Span.{Span}
 use Rattle.sheet.specs.declared.records.Text.{Text}
 use Rattle.checks.specs.Rules
-use Rattle.facts.specs.Values.{isEmpty, isBreak, isPlainBreak}
+use Rattle.facts.specs.Values.{isEmpty}
+use Rattle.classes.specs.Classes.{isBreak, isPlainBreak}
 
 -- `validate_destination`: 25. A is 0 for a bare destination.
 unfoldable pub validateDestination : List ℕ → Span → ℕ → Text → List Entry
@@ -23,25 +22,9 @@ validateDestination path span a destination = listIf (eqb a 0 && isEmpty destina
 unfoldable pub validateIdentifier : List ℕ → ℕ → Span → Text → List Entry
 validateIdentifier path rule span identifier = listIf (isEmpty identifier) rule span path
 
--- the match's arm for a text: 31
-unfoldable pub validateText : List ℕ → List ℕ → Span → Text → List Entry
-validateText bytes path span value = listIf (holdsLineEnding (textOf bytes value)) Rules.lineEndingInText span path
-
 -- `validate_escape`: 43
 unfoldable pub validateEscape : List ℕ → Span → ℕ → List Entry
 validateEscape path span a = listIf (not (isAsciiPunctuation a)) Rules.escapedValue span path
-
--- `validate_code_inline`: 44, 45
-unfoldable pub validateCodeInline : List ℕ → List ℕ → Span → Text → List Entry
-validateCodeInline bytes path span value =
-    listIf (isEmpty value) Rules.emptyCode span path ⊕ listIf (holdsLineEnding (textOf bytes value)) Rules.lineEndingInCode span path
-
--- `validate_math_inline`: 46; then 47 for a dollar fence of none (A is 0, B the dollars), or 48 for the code form (A is 1)
-unfoldable pub validateMathInline : List ℕ → List ℕ → Span → ℕ → ℕ → Text → List Entry
-validateMathInline bytes path span a b value =
-    listIf (isEmpty value) Rules.emptyMath span path
-    ⊕ listIf (eqb a 0 && eqb b 0) Rules.mathWithoutFence span path
-    ⊕ listIf (eqb a 1 && holdsBacktickDollar (textOf bytes value)) Rules.backtickDollarInMath span path
 
 -- `validate_directive_name`: 54
 unfoldable pub validateDirectiveName : List ℕ → List ℕ → Span → Text → List Entry

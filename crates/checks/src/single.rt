@@ -2,13 +2,12 @@
 ghost use Prim.Native.Nat.{_≤_};
 ghost use lib.ListN.{length};
 ghost use Rattle.report.specs.Report.{Lists};
-ghost use Rattle.checks.specs.Single.{validateDestination, validateIdentifier, validateText, validateEscape, validateCodeInline, validateMathInline, validateDirectiveName, validateSiblings};
+ghost use Rattle.checks.specs.Single.{validateDestination, validateIdentifier, validateEscape, validateDirectiveName, validateSiblings};
 use crate::rules;
+use classes::class;
 use facts::values;
 use form::fields::text_of;
-use leaves::math::holds_backtick_dollar;
-use leaves::names::is_directive_name;
-use multiline::lines::holds_line_ending;
+use names::name::is_directive_name;
 use report::entries::Tally;
 use report::entries::list_if;
 use sheet::kinds;
@@ -55,22 +54,6 @@ pub fn validate_identifier(
     list_if(fault, report, rule, span, path, tally)
 }
 
-// Rule 31: text holds no line ending.
-pub fn validate_text(
-    bytes: &[u8],
-    report: &mut [u32],
-    path: &[u32],
-    span: Span,
-    value: Text,
-    tally: Tally,
-) -> Tally
-    requires { ⌜ length (now path) ≤ 64 ⌝ }
-    ensures { λ r. ⌜ Lists tally r (now (report .entry)) (now (report .exit)) (validateText (now (bytes .entry)) (now (path .entry)) span value) ⌝ }
-{
-    let fault = holds_line_ending(text_of(bytes, value));
-    list_if(fault, report, rules::LINE_ENDING_IN_TEXT, span, path, tally)
-}
-
 // Rule 43: an escaped value is ASCII punctuation.
 pub fn validate_escape(report: &mut [u32], path: &[u32], span: Span, a: u32, tally: Tally) -> Tally
     requires { ⌜ length (now path) ≤ 64 ⌝ }
@@ -78,53 +61,6 @@ pub fn validate_escape(report: &mut [u32], path: &[u32], span: Span, a: u32, tal
 {
     let fault = !is_ascii_punctuation(a);
     list_if(fault, report, rules::ESCAPED_VALUE, span, path, tally)
-}
-
-// Rules 44, 45: inline code is not empty and holds no line ending.
-pub fn validate_code_inline(
-    bytes: &[u8],
-    report: &mut [u32],
-    path: &[u32],
-    span: Span,
-    value: Text,
-    tally: Tally,
-) -> Tally
-    requires { ⌜ length (now path) ≤ 64 ⌝ }
-    ensures { λ r. ⌜ Lists tally r (now (report .entry)) (now (report .exit)) (validateCodeInline (now (bytes .entry)) (now (path .entry)) span value) ⌝ }
-{
-    let empty = values::is_empty(value);
-    let out = list_if(empty, report, rules::EMPTY_CODE, span, path, tally);
-    let ends = holds_line_ending(text_of(bytes, value));
-    list_if(ends, report, rules::LINE_ENDING_IN_CODE, span, path, out)
-}
-
-// Rules 46, 47, 48: inline math is not empty; a dollar fence (`a` is 0) has `b` dollars, at least one; the code form holds no "`$".
-pub fn validate_math_inline(
-    bytes: &[u8],
-    report: &mut [u32],
-    path: &[u32],
-    span: Span,
-    a: u32,
-    b: u32,
-    value: Text,
-    tally: Tally,
-) -> Tally
-    requires { ⌜ length (now path) ≤ 64 ⌝ }
-    ensures { λ r. ⌜ Lists tally r (now (report .entry)) (now (report .exit)) (validateMathInline (now (bytes .entry)) (now (path .entry)) span a b value) ⌝ }
-{
-    let empty = values::is_empty(value);
-    let out = list_if(empty, report, rules::EMPTY_MATH, span, path, tally);
-    let bare = (a == 0) & (b == 0);
-    let out = list_if(bare, report, rules::MATH_WITHOUT_FENCE, span, path, out);
-    let closes = (a == 1) & holds_backtick_dollar(text_of(bytes, value));
-    list_if(
-        closes,
-        report,
-        rules::BACKTICK_DOLLAR_IN_MATH,
-        span,
-        path,
-        out,
-    )
 }
 
 // Rule 54.
@@ -156,7 +92,7 @@ pub fn validate_siblings(
     requires { ⌜ length (now path) ≤ 64 ⌝ }
     ensures { λ r. ⌜ Lists tally r (now (report .entry)) (now (report .exit)) (validateSiblings (now (path .entry)) span before kind a) ⌝ }
 {
-    let blank_line = values::is_break(before) & values::is_plain_break(kind, a);
+    let blank_line = class::is_break(before) & class::is_plain_break(kind, a);
     let out = list_if(
         blank_line,
         report,

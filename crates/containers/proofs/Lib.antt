@@ -1,4 +1,2 @@
 pub mod TagLaws
 pub mod FootnoteLaws
-pub mod ItemLaws
-pub mod ListLaws

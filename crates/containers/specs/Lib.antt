@@ -1,4 +1,2 @@
 pub mod Tags
-pub mod Items
-pub mod Lists
 pub mod Footnotes

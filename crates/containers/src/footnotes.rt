@@ -13,8 +13,8 @@ use sheet::kinds;
 use sheet::records::Span;
 use sheet::records::Text;
 use sheet::records::record_at;
-use walks::every::skip;
 use walks::trees::ends;
+use walks::trees::skip;
 
 // Rule 4: a blank line stands at neither end; one is reported.
 fn blank_line_at(

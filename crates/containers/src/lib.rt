@@ -1,5 +1,3 @@
-// What a container reports of itself by what it holds: HTML containers, footnote definitions, lists and their items.
+// What a container reports of itself by what it holds: HTML containers and footnote definitions.
 pub mod footnotes;
-pub mod items;
-pub mod lists;
 pub mod tags;

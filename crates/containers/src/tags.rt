@@ -14,8 +14,8 @@ use sheet::records::Rec;
 use sheet::records::Span;
 use sheet::records::record_at;
 use strings::same::same_bytes;
-use walks::every::skip;
 use walks::trees::ends;
+use walks::trees::skip;
 
 // Rules 5 to 9: names and sources that are not empty, and one name for both tags.
 fn validate_tags(

@@ -17,7 +17,8 @@ use Rattle.sheet.proofs.Trees.{under-in, under-out, under-end}
 use Rattle.contents.specs.Content.{noContent, withInline, contentAfter, contentOf}
 use Rattle.contents.specs.Beside.{noInline, allEmpty, startsWithWhitespace, endsWithWhitespaceAfter, endsWithWhitespace, holdsJoined, finalBreakAfter, finalBreak}
 use Rattle.checks.specs.Rules
-use Rattle.facts.specs.Values.{isEmptyText, startsWhite, endsWhite, isJoined}
+use Rattle.facts.specs.Values.{isEmptyText, startsWhite, endsWhite}
+use Rattle.classes.specs.Classes.{isJoined}
 use Rattle.contents.specs.declared.content.Content.{Content}
 use Rattle.walks.proofs.WalkLaws.{Skipping, skip-start, skip-tree, skip-down, behindKids}
 

@@ -9,7 +9,8 @@ use Rattle.sheet.specs.Kinds.{isInline, lineBreak}
 use Rattle.sheet.specs.Forest.{Forest, none, tree}
 use Rattle.report.specs.Report.{Entry, listIf}
 use Rattle.checks.specs.Rules
-use Rattle.facts.specs.Values.{isEmptyText, startsWhite, endsWhite, isJoined}
+use Rattle.facts.specs.Values.{isEmptyText, startsWhite, endsWhite}
+use Rattle.classes.specs.Classes.{isJoined}
 
 -- no inline stands here
 unfoldable pub noInline : Forest → Bool

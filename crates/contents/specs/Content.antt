@@ -7,7 +7,8 @@ use Rattle.strings.specs.Lists.{if_then_else_}
 use Rattle.sheet.specs.Kinds.{isInline, lineBreak}
 use Rattle.sheet.specs.Forest.{Forest, none, tree}
 use Rattle.sheet.specs.declared.records.Rec.{Rec}
-use Rattle.facts.specs.Values.{isEmptyText, startsWhite, endsWhite, isJoined}
+use Rattle.facts.specs.Values.{isEmptyText, startsWhite, endsWhite}
+use Rattle.classes.specs.Classes.{isJoined}
 use Rattle.contents.specs.declared.content.Content.{Content}
 
 -- what no inline gives

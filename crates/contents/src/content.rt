@@ -9,6 +9,7 @@ ghost use Rattle.walks.specs.Walk.{Start};
 ghost use Rattle.contents.specs.Beside.{finalBreak};
 ghost use Rattle.contents.specs.Content.{noContent, withInline, contentOf};
 use checks::rules;
+use classes::class;
 use facts::values;
 use report::entries::Tally;
 use report::entries::list_if;
@@ -17,7 +18,7 @@ use sheet::records;
 use sheet::records::Rec;
 use sheet::records::Span;
 use strings::bytes::choose;
-use walks::every::skip;
+use walks::trees::skip;
 
 pub struct Content {
     // an inline stands there
@@ -66,7 +67,7 @@ fn with_inline(bytes: &[u8], outer: u32, a: u32, c: Content, r: Rec) -> Content
         empty: c.empty & empty,
         starts: c.starts | (c.empty & !empty & values::starts_white(bytes, r)),
         ends: choose(empty, c.ends, values::ends_white(bytes, r)),
-        joined: !c.some & values::is_joined(outer, a, r.kind, r.a),
+        joined: !c.some & class::is_joined(outer, a, r.kind, r.a),
         breaks: r.kind == kinds::LINE_BREAK,
         last,
     }

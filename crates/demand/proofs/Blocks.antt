@@ -16,17 +16,18 @@ use Rattle.sheet.specs.declared.records.Span.{Span}
 use Rattle.sheet.specs.declared.records.Text.{Text}
 use Rattle.report.specs.Report.{Entry, listIf, _⊕_}
 use Rattle.standing.specs.Places.{holdsBlocks, holdsNothing, parentGroup, otherGroup}
-use Rattle.facts.specs.Values.{isBreak}
-use Rattle.walks.specs.Every.{validateOneLine}
+use Rattle.classes.specs.Classes.{isBreak}
+use Rattle.depths.specs.Every.{validateOneLine}
 use Rattle.inlines.specs.Inlines.{validateInlineNodesAfter, validateInlineNodes, validateInlines}
-use Rattle.heads.specs.declared.own.Before.{Before}
-use Rattle.heads.specs.Heads.{validateHeading, validateFrontmatter, writtenMarker, takesIndentedCode, validateTakenBlock}
-use Rattle.containers.specs.Lists.{validateList}
-use Rattle.containers.specs.Items.{itemNumber, validateItemNumber}
+use Rattle.neighbours.specs.declared.taken.Before.{Before}
+use Rattle.heads.specs.Heads.{validateHeading, validateFrontmatter}
+use Rattle.neighbours.specs.Taken.{writtenMarker, takesIndentedCode, validateTakenBlock, first, beforeNext}
+use Rattle.lists.specs.Lists.{validateList}
+use Rattle.numbers.specs.Numbers.{itemNumber, validateItemNumber}
 use Rattle.prose.specs.Prose.{beforeBlocks, validateParagraph, validateDirective}
 use Rattle.oneblock.specs.OneBlock
 use Rattle.oneblock.specs.OneBlock.{validateLeaf, validateHtml, validateContainer, validateOwn}
-use Rattle.blocks.specs.Blocks.{validateBlock, first, beforeNext, validateItem, validateBlocks, validateItems}
+use Rattle.blocks.specs.Blocks.{validateBlock, validateItem, validateBlocks, validateItems}
 use Rattle.machine.specs.Machine.{Frame, fresh, withKid, opens, closes, stopOf, openingTests, closingTests, pathOf, blockPath, position, nearest, inLink, behindBreak, behindList, onlyEmpty}
 use Rattle.demand.specs.Demand.{Begins, beside, named}
 use Rattle.demand.proofs.Flat.{walk, filled, pile}

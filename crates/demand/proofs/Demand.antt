@@ -14,7 +14,8 @@ use Rattle.refusal.specs.Formed.{Sound}
 use Rattle.refusal.specs.Refusal.{judgeSheet}
 use Rattle.refusal.specs.declared.judge.Judged.the-variants.{Accepted}
 use Rattle.refusal.proofs.FormedLaws.{accepted}
-use Rattle.blocks.specs.Blocks.{first, validateDocument}
+use Rattle.blocks.specs.Blocks.{validateDocument}
+use Rattle.neighbours.specs.Taken.{first}
 use Rattle.machine.specs.Machine.{theSheet, Step, stopOf, openAt, recordAtStep, pathOf, blockPath, inLink, Outcome, ended, stopped, outcomeOf, runOf, stepsOf, outcome, run}
 use Rattle.demand.specs.Demand.{Some, Named, Told, Row, stops, besideIn, namedIn, beside, named, Agrees, Demand}
 use Rattle.demand.proofs.Flat.{walk-of, once-of}

@@ -14,11 +14,13 @@ use Rattle.sheet.specs.declared.records.Rec.{Rec}
 use Rattle.form.specs.Fields.{textOf}
 use Rattle.report.specs.Report.{Entry, listIf, _⊕_}
 use Rattle.standing.specs.Places.{holdsInlines, holdsLabel, holdsNothing, parentGroup, otherGroup}
-use Rattle.facts.specs.Values.{isBreak, isPlainBreak, isLink}
-use Rattle.checks.specs.Single.{validateSiblings, validateText, validateCodeInline}
-use Rattle.walks.specs.Every.{eachRecord, validateOneLine, validateLinkText}
+use Rattle.classes.specs.Classes.{isBreak, isPlainBreak, isLink}
+use Rattle.checks.specs.Single.{validateSiblings}
+use Rattle.literals.specs.Literals.{validateText, validateCodeInline}
+use Rattle.depths.specs.Every.{eachRecord, validateOneLine, validateLinkText}
 use Rattle.contents.specs.Beside.{allEmpty}
-use Rattle.oneinline.specs.Inline.{validateEmphasisContainer, validateInlineValues, validateInline}
+use Rattle.inlinevalues.specs.InlineValues.{validateInlineValues}
+use Rattle.oneinline.specs.Inline.{validateEmphasisContainer, validateInline}
 use Rattle.inlines.specs.Inlines.{validateNode, validateInlineNodesAfter}
 use Rattle.machine.specs.Machine.{Frame, fresh, withKid, opens, closes, stopOf, openingTests, closingTests, pathOf, blockPath, nearest, inLink, behindBreak, onlyEmpty}
 use Rattle.demand.specs.Demand.{Begins, beside, named}

@@ -11,7 +11,7 @@ use Rattle.strings.specs.Lists.{if_then_else_}
 use Rattle.unicode.proofs.Decoding.{allBelow, each, and-right}
 use Rattle.sheet.specs.Kinds.{isBlock, isInline, isKind, htmlTag, attribute, blankLine, list}
 use Rattle.machine.specs.Machine.{inPath}
-use Rattle.facts.specs.Values.{isBreak, isLink}
+use Rattle.classes.specs.Classes.{isBreak, isLink}
 
 -- tags and attributes, then inlines, then blocks and the others
 unfoldable pub rank : ℕ → ℕ

@@ -11,13 +11,14 @@ use Rattle.sheet.specs.declared.records.Rec.{Rec}
 use Rattle.sheet.specs.declared.records.Span.{Span}
 use Rattle.sheet.specs.declared.records.Text.{Text}
 use Rattle.report.specs.Report.{Entry}
-use Rattle.checks.specs.Single.{validateDestination, validateIdentifier, validateEscape, validateMathInline, validateDirectiveName}
-use Rattle.walks.specs.Every.{validateDirectiveAttributes, eachRecord, validateCellValues}
+use Rattle.checks.specs.Single.{validateDestination, validateIdentifier, validateEscape, validateDirectiveName}
+use Rattle.literals.specs.Literals.{validateMathInline}
+use Rattle.depths.specs.Every.{validateDirectiveAttributes, eachRecord, validateCellValues}
 use Rattle.contents.specs.Beside.{finalBreakAfter, finalBreak}
 use Rattle.oneinline.specs.Inline.{validateTextDirective}
 use Rattle.heads.specs.Heads.{validateAlert, validateCodeBlock, validateDefinition}
 use Rattle.containers.specs.Footnotes.{blankLineAt, validateFootnoteDefinition}
-use Rattle.containers.specs.Items.{validateBlankLine, validateItemBlankLines, validateTaskItem}
+use Rattle.items.specs.Items.{validateBlankLine, validateItemBlankLines, validateTaskItem}
 use Rattle.containers.specs.Tags.{validateTags, validateHtmlContainer}
 use Rattle.demand.specs.Demand.{named}
 use Rattle.demand.proofs.Fits.{Clean, clean-none, clean-append, clean-noise}

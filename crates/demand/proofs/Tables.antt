@@ -13,7 +13,7 @@ use Rattle.sheet.specs.declared.records.Rec.{Rec}
 use Rattle.sheet.specs.declared.records.Span.{Span}
 use Rattle.report.specs.Report.{Entry, listIf, _⊕_}
 use Rattle.standing.specs.Places.{parentGroup}
-use Rattle.walks.specs.Every.{validateOneLine}
+use Rattle.depths.specs.Every.{validateOneLine}
 use Rattle.inlines.specs.Inlines.{validateInlineNodes, validateInlines}
 use Rattle.tables.specs.Tables.{validateCell, validateCells, validateRows, headerWidth, validateTable}
 use Rattle.machine.specs.Machine.{Frame, fresh, withKid, stopOf, openingTests, closingTests, pathOf, blockPath, nearest, inLink, columns}

@@ -9,7 +9,7 @@ use borrow.Author.Tests.{le-leb}
 use lib.Dec.{eqb}
 use lib.ListN.{length}
 use Rattle.strings.specs.Lists.{firstOr, lastOr}
-use Rattle.leaves.specs.Names.{isAttributeName}
+use Rattle.names.specs.Names.{isAttributeName}
 use Rattle.strings.specs.Part.{partOf}
 use Rattle.leaves.specs.Pipe.{hasOddEscapedPipe, oddPipeAfter}
 use Rattle.unicode.specs.Scalars.{scalars, decode}
@@ -18,7 +18,8 @@ use Rattle.form.specs.Fields.{textOf}
 use Rattle.sheet.specs.Kinds.{attribute, text, wikiLink}
 use Rattle.sheet.specs.declared.records.Rec.{Rec}
 use Rattle.sheet.specs.declared.records.Text.{Text}
-use Rattle.facts.specs.Values.{onlyIf, startsWhite, endsWhite, isPlainBreak, isBreak, namesOwnValue, namesLabel, isUnwritable, isBadAttribute}
+use Rattle.facts.specs.Values.{onlyIf, startsWhite, endsWhite, isUnwritable, isBadAttribute}
+use Rattle.classes.specs.Classes.{isPlainBreak, isBreak, namesOwnValue, namesLabel}
 
 -- the text 0, 0 has no bytes
 nothing : (bytes : List ℕ) → textOf bytes (record { start = 0; len = 0 }) ≡ []

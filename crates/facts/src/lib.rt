@@ -1,2 +1,2 @@
-// What is asked of one record's kind and of its own values.
+// What is asked of one record's own values.
 pub mod values;

@@ -3,15 +3,13 @@ use mathlib.Core.Path.{_≡_}
 use mathlib.Core.Bool.{Bool, not, _&&_, _||_}
 use mathlib.Core.List.{List}
 use Prim.Native.Nat.{ℕ}
-use borrow.Author.Needs.{needs}
 use lib.Dec.{eqb, ltb}
 use Rattle.multiline.specs.Fence.{holdsFenceLine}
 use Rattle.multiline.specs.Lines.{hasBlankEdgeLine}
-use Rattle.leaves.specs.Names.{isBlankIdentifier}
+use Rattle.names.specs.Names.{isBlankIdentifier}
 use Rattle.leaves.specs.Title.{isAlertTitle}
 use Rattle.multiline.specs.declared.fence.FrontmatterKind.{FrontmatterKind}
 use Rattle.form.specs.Fields.{textOf}
-use Rattle.sheet.specs.Kinds.{list, codeBlock}
 use Rattle.report.specs.Report.{Lists, listIf}
 use Rattle.sheet.specs.declared.records.Span.{Span}
 use Rattle.sheet.specs.declared.records.Text.{Text}
@@ -20,8 +18,7 @@ use Rattle.report.proofs.ReportLaws.{lists-then}
 use Rattle.checks.specs.Rules
 use Rattle.checks.specs.Single.{validateDestination}
 use Rattle.facts.specs.Values.{isEmpty}
-use Rattle.heads.specs.Heads.{frontmatterKind, takesIndentedCode, validateAlert, validateCodeBlock, validateDefinition, validateFrontmatter, validateHeading, validateTakenBlock, writtenMarker}
-use Rattle.heads.specs.declared.own.Before.{Before}
+use Rattle.heads.specs.Heads.{frontmatterKind, validateAlert, validateCodeBlock, validateDefinition, validateFrontmatter, validateHeading}
 
 module _ (path : List ℕ) (span : Span) {s t : Tally} {x y : List ℕ} where
   pub heading-law : (depth : ℕ) → Lists s t x y (listIf (eqb depth 0 || ltb 6 depth) Rules.headingDepth span path) → Lists s t x y (validateHeading path span depth)
@@ -44,9 +41,3 @@ module _ (path : List ℕ) (span : Span) {s t : Tally} {x y : List ℕ} where
     pub definition-law : (bytes : List ℕ) (a : ℕ) (identifier destination : Text) {n : List ℕ} {p : Bool} → n ≡ textOf bytes identifier → p ≡ isBlankIdentifier n → Lists s t x y (listIf p Rules.blankDefinition span path) → Lists t u y z (validateDestination path span a destination) → Lists s u x z (validateDefinition bytes path span a identifier destination)
     unfolding validateDefinition
     definition-law bytes a identifier destination f e l m = lists-then (rw (e, f) at l) m
-
-    pub taken-law : (before : Before) (kind a b : ℕ) {m n : ℕ} {q : Bool} → m ≡ writtenMarker (before .a) (before .b) → n ≡ writtenMarker a b → q ≡ takesIndentedCode (before .kind) (before .a) → Lists s t x y (listIf (eqb (before .kind) list && eqb kind list && eqb m n) Rules.adjacentLists span path) → Lists t u y z (listIf (eqb kind codeBlock && eqb a 1 && q) Rules.indentedCodeTaken span path) → Lists s u x z (validateTakenBlock path span before kind a b)
-    unfolding validateTakenBlock
-    taken-law before kind a b e f g l m = lists-then (rw (e, f) at l) (rw g at m)
-
-pub ruleset heads = (heading-law, alert-law, code-block-law, frontmatter-law, definition-law, taken-law, needs)

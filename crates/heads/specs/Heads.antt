@@ -1,16 +1,15 @@
--- What a block reports by its own record, and by the block before it: for each function of validate.rs a definition of the same name, which gives the list of its entries in its order. `path` is the block's own.
+-- What a block reports by its own record: for each function of validate.rs a definition of the same name, which gives the list of its entries in its order. `path` is the block's own.
 use Prim.Native.Nat.{ℕ}
-use mathlib.Core.Bool.{Bool, not, _&&_, _||_}
+use mathlib.Core.Bool.{not, _&&_, _||_}
 use mathlib.Core.List.{List}
 use lib.Dec.{eqb, ltb}
 use Rattle.strings.specs.Lists.{if_then_else_}
 use Rattle.multiline.specs.Fence.{holdsFenceLine}
 use Rattle.multiline.specs.Lines.{hasBlankEdgeLine}
-use Rattle.leaves.specs.Names.{isBlankIdentifier}
+use Rattle.names.specs.Names.{isBlankIdentifier}
 use Rattle.leaves.specs.Title.{isAlertTitle}
 use Rattle.multiline.specs.declared.fence.FrontmatterKind.{FrontmatterKind}
 use Rattle.multiline.specs.declared.fence.FrontmatterKind.the-variants.{Yaml, Toml}
-use Rattle.sheet.specs.Kinds.{list, codeBlock, footnoteDefinition}
 use Rattle.form.specs.Fields.{textOf}
 use Rattle.report.specs.Report.{Entry, listIf, _⊕_}
 use Rattle.sheet.specs.declared.records.Span.{Span}
@@ -18,9 +17,6 @@ use Rattle.sheet.specs.declared.records.Text.{Text}
 use Rattle.checks.specs.Rules
 use Rattle.checks.specs.Single.{validateDestination}
 use Rattle.facts.specs.Values.{isEmpty}
-use Rattle.heads.specs.declared.own.Before.{Before}
-
--- ---- one block
 
 -- `validate_heading`: 10
 unfoldable pub validateHeading : List ℕ → Span → ℕ → List Entry
@@ -48,26 +44,3 @@ validateFrontmatter bytes path span level a value =
 unfoldable pub validateDefinition : List ℕ → List ℕ → Span → ℕ → Text → Text → List Entry
 validateDefinition bytes path span a identifier destination =
     listIf (isBlankIdentifier (textOf bytes identifier)) Rules.blankDefinition span path ⊕ validateDestination path span a destination
-
--- ---- one block and the block before it
-
--- the leaf `written_marker`. Document 01: "written marker `*` or `+` for such bullets, `-` for other bullets, `)` for ordered paren, `.` for other ordered."
-unfoldable pub writtenMarker : ℕ → ℕ → ℕ
-writtenMarker ordered delimiter =
-    if eqb ordered 1
-    then (if eqb delimiter 4 then 0x29 else 0x2E)
-    else if eqb delimiter 1
-    then 0x2A
-    else if eqb delimiter 2
-    then 0x2B
-    else 0x2D
-
--- `takes_indented_code`
-unfoldable pub takesIndentedCode : ℕ → ℕ → Bool
-takesIndentedCode kind a = eqb kind codeBlock && eqb a 1 || eqb kind footnoteDefinition
-
--- the first part of `validate_blocks`, and `validate_taken_block`: 1, 15. `before` is the block before that is no blank line, of kind 0 where there is none.
-unfoldable pub validateTakenBlock : List ℕ → Span → Before → ℕ → ℕ → ℕ → List Entry
-validateTakenBlock path span before kind a b =
-    listIf (eqb (before .kind) list && eqb kind list && eqb (writtenMarker (before .a) (before .b)) (writtenMarker a b)) Rules.adjacentLists span path
-    ⊕ listIf (eqb kind codeBlock && eqb a 1 && takesIndentedCode (before .kind) (before .a)) Rules.indentedCodeTaken span path

@@ -1,2 +1,2 @@
-// What a block reports by its own record, and by the block before it.
+// What a block reports by its own record.
 pub mod own;

@@ -1,40 +1,29 @@
-// What a block reports by its own record, and by the block before it.
+// What a block reports by its own record.
 ghost use mathlib.Core.Path.{_≡_};
 ghost use Prim.Native.Nat.{_≤_};
 ghost use lib.ListN.{length};
 ghost use Rattle.report.specs.Report.{Lists};
 ghost use Rattle.heads.specs.Heads.{
   frontmatterKind,
-  takesIndentedCode,
   validateAlert,
   validateCodeBlock,
   validateDefinition,
   validateFrontmatter,
   validateHeading,
-  validateTakenBlock,
-  writtenMarker,
 };
 use checks::rules;
 use checks::single;
 use facts::values::is_empty;
 use form::fields::text_of;
-use leaves::names::is_blank_identifier;
 use leaves::title::is_alert_title;
 use multiline::fence::FrontmatterKind;
 use multiline::fence::holds_fence_line;
 use multiline::lines::has_blank_edge_line;
+use names::name::is_blank_identifier;
 use report::entries::Tally;
 use report::entries::list_if;
-use sheet::kinds;
 use sheet::records::Span;
 use sheet::records::Text;
-
-// What counts of the block before: kind 0 where there is none.
-pub struct Before {
-    pub kind: u32,
-    pub a: u32,
-    pub b: u32,
-}
 
 // Rule 10: a heading's depth is from 1 to 6.
 pub fn validate_heading(
@@ -135,43 +124,4 @@ pub fn validate_definition(
     let blank = is_blank_identifier(text_of(bytes, identifier));
     let out = list_if(blank, report, rules::BLANK_DEFINITION, span, path, tally);
     single::validate_destination(report, path, span, a, destination, out)
-}
-
-// The byte that a list's items are written with.
-pub fn written_marker(ordered: u32, delimiter: u32) -> u32
-    ensures { λ r. ⌜ r ≡ writtenMarker ordered delimiter ⌝ }
-{
-    let numbered = kinds::pick(delimiter == 4, 0x29, 0x2E);
-    let bullet = kinds::pick(delimiter == 2, 0x2B, 0x2D);
-    let bullet = kinds::pick(delimiter == 1, 0x2A, bullet);
-    kinds::pick(ordered == 1, numbered, bullet)
-}
-
-// Indented code, and a footnote definition, take the lines of indented code behind them.
-pub fn takes_indented_code(kind: u32, a: u32) -> bool
-    ensures { λ r. ⌜ r ≡ takesIndentedCode kind a ⌝ }
-{
-    ((kind == kinds::CODE_BLOCK) & (a == 1)) | (kind == kinds::FOOTNOTE_DEFINITION)
-}
-
-// Rule 1: two lists of one marker would read as one. Rule 15: indented code behind what takes its lines.
-pub fn validate_taken_block(
-    report: &mut [u32],
-    path: &[u32],
-    span: Span,
-    before: Before,
-    kind: u32,
-    a: u32,
-    b: u32,
-    tally: Tally,
-) -> Tally
-    requires { ⌜ length (now path) ≤ 64 ⌝ }
-    ensures { λ r. ⌜ Lists tally r (now (report .entry)) (now (report .exit)) (validateTakenBlock (now (path .entry)) span before kind a b) ⌝ }
-{
-    let same = written_marker(before.a, before.b) == written_marker(a, b);
-    let lists = (before.kind == kinds::LIST) & (kind == kinds::LIST) & same;
-    let out = list_if(lists, report, rules::ADJACENT_LISTS, span, path, tally);
-    let indented = (kind == kinds::CODE_BLOCK) & (a == 1);
-    let taken = indented & takes_indented_code(before.kind, before.a);
-    list_if(taken, report, rules::INDENTED_CODE_TAKEN, span, path, out)
 }

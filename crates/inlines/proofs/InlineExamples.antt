@@ -5,7 +5,7 @@ use Prim.Native.Nat.{ℕ}
 use Rattle.strings.specs.Lists.{all, any, firstOr, lastOr}
 use Rattle.multiline.specs.Lines.{holdsLineEnding, longer, startsWith}
 use Rattle.leaves.specs.Math.{holdsBacktickDollar}
-use Rattle.leaves.specs.Names.{isDirectiveName, isRun, runs, isAttributeName}
+use Rattle.names.specs.Names.{isDirectiveName, isRun, runs, isAttributeName}
 use Rattle.strings.specs.Part.{partOf}
 use Rattle.leaves.specs.Pipe.{hasOddEscapedPipe, oddPipeAfter}
 use Rattle.unicode.specs.Scalars.{scalars, decode, emit, leadBits, trailBits}
@@ -18,8 +18,9 @@ use Rattle.report.specs.Report.{Entry, listIf, _⊕_}
 use Rattle.sheet.specs.declared.records.Rec.{Rec}
 use Rattle.sheet.specs.declared.records.Text.{Text}
 use Rattle.facts.specs.Values.{startsWhite, endsWhite, isUnwritable, isBadAttribute}
-use Rattle.checks.specs.Single.{validateDestination, validateIdentifier, validateText, validateEscape, validateCodeInline, validateMathInline, validateDirectiveName, validateSiblings}
-use Rattle.walks.specs.Every.{validateDirectiveAttributes, validateLinkText, validateCellValues, validateOneLine, eachRecord}
+use Rattle.checks.specs.Single.{validateDestination, validateIdentifier, validateEscape, validateDirectiveName, validateSiblings}
+use Rattle.literals.specs.Literals.{validateText, validateCodeInline, validateMathInline}
+use Rattle.depths.specs.Every.{validateDirectiveAttributes, validateLinkText, validateCellValues, validateOneLine, eachRecord}
 use Rattle.inlines.specs.Inlines.{noInline, allEmpty, startsWithWhitespace, endsWithWhitespaceAfter, endsWithWhitespace, holdsJoined, validateTextDirective, finalBreakAfter, finalBreak, validateEmphasisContainer, validateInline, validateInlineValues, validateNode, validateInlineNodesAfter, validateInlineNodes, validateInlines}
 
 -- ---- records over the text

@@ -19,7 +19,7 @@ use Rattle.checks.specs.Single.{validateSiblings}
 use Rattle.inlines.specs.Inlines.{finalBreak, validateInline, validateNode, validateInlineNodesAfter, validateInlineNodes, validateInlines}
 use Rattle.walks.specs.Walk.{Done}
 use Rattle.inlines.specs.Here.{Here}
-use Rattle.walks.specs.declared.every.Walked.{Walked}
+use Rattle.walks.specs.declared.trees.Walked.{Walked}
 use Rattle.walks.proofs.WalkLaws.{Loop, behindKids, skip-tree, loop-turn}
 
 -- ---- one record: what its children list, by a call

@@ -9,7 +9,8 @@ use Rattle.report.specs.Report.{Entry, _⊕_}
 use Rattle.sheet.specs.declared.records.Rec.{Rec}
 use Rattle.checks.specs.Single.{validateSiblings}
 unfoldable pub use Rattle.contents.specs.Beside.{noInline, allEmpty, startsWithWhitespace, endsWithWhitespaceAfter, endsWithWhitespace, holdsJoined, finalBreakAfter, finalBreak}
-unfoldable pub use Rattle.oneinline.specs.Inline.{validateTextDirective, validateEmphasisContainer, validateInlineValues, validateInline}
+unfoldable pub use Rattle.inlinevalues.specs.InlineValues.{validateInlineValues}
+unfoldable pub use Rattle.oneinline.specs.Inline.{validateTextDirective, validateEmphasisContainer, validateInline}
 
 -- an inline with the one before it, then itself, then what its children list. Every kind that has children walks them last.
 unfoldable pub validateNode : List ℕ → List ℕ → ℕ → Rec → Forest → List Entry → List Entry

@@ -11,8 +11,8 @@ use oneinline::inline::validate_inline;
 use report::entries::Tally;
 use sheet::kinds;
 use sheet::records::record_at;
-use walks::every;
-use walks::every::Walked;
+use walks::trees::Walked;
+use walks::trees::skip;
 
 // Record `i`, of level `level`, behind an inline of the kind `before`: both side by side, then itself, then its children. A record that is no inline is passed over.
 fn validate_node(
@@ -32,7 +32,7 @@ fn validate_node(
     let r = record_at(sheet, i);
     if !kinds::is_inline(r.kind) {
         return Walked {
-            next: every::skip(sheet, n, i + 1, level),
+            next: skip(sheet, n, i + 1, level),
             tally,
         };
     }

@@ -1,4 +1,3 @@
 pub mod Tests
-pub mod Naming
 pub mod Titles
 pub mod Examples

@@ -1,5 +1,3 @@
 pub mod Title
-pub mod Names
 pub mod Pipe
 pub mod Math
-pub mod Scans

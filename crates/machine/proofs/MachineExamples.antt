@@ -9,7 +9,7 @@ use Rattle.sheet.specs.Kinds.{paragraph, heading, blockQuote, list, table, fron
 use Rattle.sheet.specs.Sheet.{recordAt}
 use Rattle.sheet.specs.Forest.{recordsFrom}
 use Rattle.form.specs.Fields.{textOf}
-use Rattle.heads.specs.Heads.{writtenMarker}
+use Rattle.neighbours.specs.Taken.{writtenMarker}
 use Rattle.machine.specs.Machine.{Outcome, ended, stopped, closings, remain, stepsFrom, stepsOf, columns, nearest, inLink, behindList, onlyEmpty, openingTests, closingTests, stopOf, position, pathOf, blockPath, outcomeOf, runOf, outcome, run, lastMark, markOf, marksOf}
 
 -- ---- sheets over the text `a LF`

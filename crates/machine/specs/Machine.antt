@@ -13,8 +13,9 @@ use Rattle.sheet.specs.Sheet.{recordsOf}
 use Rattle.sheet.specs.Forest.{recordsFrom}
 use Rattle.sheet.specs.declared.records.Rec.{Rec}
 use Rattle.form.specs.Fields.{textOf}
-use Rattle.facts.specs.Values.{isBreak, isPlainBreak, isEmphasisContainer, isEmptyText, isLink}
-use Rattle.heads.specs.Heads.{writtenMarker}
+use Rattle.facts.specs.Values.{isEmptyText}
+use Rattle.classes.specs.Classes.{isBreak, isPlainBreak, isEmphasisContainer, isLink}
+use Rattle.neighbours.specs.Taken.{writtenMarker}
 
 -- ---- openings and closings. "It opens records in order and closes innermost first: before a record opens, it closes every open one of that level or deeper; after the last, all that are open, and then it is at the end."
 

@@ -13,7 +13,7 @@ use Rattle.inlines.specs.Inlines.{validateInlines}
 use Rattle.heads.specs.Heads.{validateHeading, validateAlert, validateCodeBlock, validateFrontmatter, validateDefinition}
 use Rattle.containers.specs.Tags.{validateHtmlContainer}
 use Rattle.containers.specs.Footnotes.{validateFootnoteDefinition}
-use Rattle.containers.specs.Lists.{validateList}
+use Rattle.lists.specs.Lists.{validateList}
 use Rattle.prose.specs.Prose.{validateParagraph, validateLeafDirective, validateContainerDirective}
 use Rattle.tables.specs.Tables.{validateTable}
 

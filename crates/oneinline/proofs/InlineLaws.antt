@@ -5,24 +5,25 @@ use mathlib.Core.List.{List}
 use Prim.Native.Nat.{ℕ}
 use borrow.Author.Needs.{needs}
 use borrow.Author.Tests.{ne-eqb}
-use Rattle.sheet.specs.Kinds.{text, escape, code, link, image, linkReference, imageReference, math, footnoteReference, inlineFootnote, wikiLink, textDirective}
+use Rattle.sheet.specs.Kinds.{link, linkReference, inlineFootnote, textDirective}
 use Rattle.sheet.specs.Forest.{Forest, under}
 use Rattle.report.specs.Report.{Entry, Lists, listIf, _⊕_}
 use Rattle.sheet.specs.declared.records.Rec.{Rec}
 use Rattle.sheet.specs.declared.records.Span.{Span}
 use Rattle.sheet.specs.declared.records.Text.{Text}
 use Rattle.report.specs.declared.entries.Tally.{Tally}
-use Rattle.report.proofs.ReportLaws.{lists-none, lists-then}
+use Rattle.report.proofs.ReportLaws.{lists-then}
 use Rattle.contents.specs.Content.{contentOf}
 use Rattle.checks.specs.Single.{validateDirectiveName}
-use Rattle.walks.specs.Every.{validateDirectiveAttributes}
+use Rattle.depths.specs.Every.{validateDirectiveAttributes}
 use Rattle.contents.specs.Beside.{noInline}
-use Rattle.oneinline.specs.Inline.{validateTextDirective, validateEmphasisContainer, validateInlineValues, validateInline}
+use Rattle.oneinline.specs.Inline.{validateTextDirective, validateEmphasisContainer, validateInline}
+use Rattle.inlinevalues.specs.InlineValues.{validateInlineValues}
 use Rattle.checks.specs.Rules
-use Rattle.facts.specs.Values.{isEmphasisContainer}
+use Rattle.classes.specs.Classes.{isEmphasisContainer}
 use Rattle.walks.specs.Walk.{Done}
 use Rattle.contents.specs.declared.content.Content.{Content}
-use Rattle.walks.specs.declared.every.Walked.{Walked}
+use Rattle.walks.specs.declared.trees.Walked.{Walked}
 use Rattle.contents.proofs.ContentLaws.{says-none, says-empty, says-starts, says-ends, says-joined, says-last}
 
 -- ---- by what was gathered of the children
@@ -47,11 +48,6 @@ module _ {w : List ℕ} {n from level : ℕ} {s t : Tally} {x y z : List ℕ} {r
 pub ruleset parts = (footnote-law, emphasis-law, then-walked, directive-law, needs)
 
 -- ---- the kinds that no arm names, in the shape that a `match` gives for its `_`
-pub of-no-values : (bytes path : List ℕ) (r : Rec) {s : Tally} {x : List ℕ} → ((((((((Unit {0} × (r .kind ≡ text → ⊥)) × (r .kind ≡ image → ⊥)) × (r .kind ≡ imageReference → ⊥)) × (r .kind ≡ escape → ⊥)) × (r .kind ≡ footnoteReference → ⊥)) × (r .kind ≡ wikiLink → ⊥)) × (r .kind ≡ code → ⊥)) × (r .kind ≡ math → ⊥)) → Lists s s x x (validateInlineValues bytes path r)
-unfolding validateInlineValues
-of-no-values bytes path r none-of =
-    rw (ne-eqb (r .kind) text (none-of .0 .0 .0 .0 .0 .0 .0 .1), ne-eqb (r .kind) image (none-of .0 .0 .0 .0 .0 .0 .1), ne-eqb (r .kind) imageReference (none-of .0 .0 .0 .0 .0 .1), ne-eqb (r .kind) escape (none-of .0 .0 .0 .0 .1), ne-eqb (r .kind) footnoteReference (none-of .0 .0 .0 .1), ne-eqb (r .kind) wikiLink (none-of .0 .0 .1), ne-eqb (r .kind) code (none-of .0 .1), ne-eqb (r .kind) math (none-of .1)) lists-none
-
 pub of-others : (bytes path : List ℕ) (r : Rec) (kids : Forest) {s t : Tally} {x y : List ℕ} {f : Bool} → f ≡ isEmphasisContainer (r .kind) → f ≡ false → ((((Unit {0} × (r .kind ≡ link → ⊥)) × (r .kind ≡ linkReference → ⊥)) × (r .kind ≡ textDirective → ⊥)) × (r .kind ≡ inlineFootnote → ⊥)) → Lists s t x y (validateInlineValues bytes path r) → Lists s t x y (validateInline bytes path r kids)
 unfolding validateInline
 of-others bytes path r kids e f none-of l =

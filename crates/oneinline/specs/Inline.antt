@@ -1,20 +1,21 @@
--- What validate.rs reports of one inline by itself: for each of its functions a definition of the same name, which gives the list of its entries in its order. What it calls is in `Single` of `checks`, `Every` of `walks` and `Beside` of `contents`.
+-- What validate.rs reports of one inline by itself: for each of its functions a definition of the same name, which gives the list of its entries in its order. What it calls is in `Single` of `checks`, `InlineValues` of `inlinevalues`, `Every` of `depths` and `Beside` of `contents`.
 -- `kids` are the trees under the inline, and `path` is that of the enclosing block or cell.
 use Prim.Native.Nat.{ℕ}
 use mathlib.Core.Bool.{not, _&&_, _||_}
-use mathlib.Core.List.{List, []}
+use mathlib.Core.List.{List}
 use lib.Dec.{eqb}
 use Rattle.strings.specs.Lists.{if_then_else_}
-use Rattle.sheet.specs.Kinds.{text, escape, code, link, image, linkReference, imageReference, math, footnoteReference, inlineFootnote, wikiLink, textDirective}
+use Rattle.sheet.specs.Kinds.{link, linkReference, inlineFootnote, textDirective}
 use Rattle.sheet.specs.Forest.{Forest}
 use Rattle.report.specs.Report.{Entry, listIf, _⊕_}
 use Rattle.sheet.specs.declared.records.Rec.{Rec}
 use Rattle.sheet.specs.declared.records.Span.{Span}
 use Rattle.sheet.specs.declared.records.Text.{Text}
 use Rattle.checks.specs.Rules
-use Rattle.facts.specs.Values.{isEmphasisContainer}
-use Rattle.checks.specs.Single.{validateDestination, validateIdentifier, validateText, validateEscape, validateCodeInline, validateMathInline, validateDirectiveName}
-use Rattle.walks.specs.Every.{validateDirectiveAttributes, validateLinkText}
+use Rattle.classes.specs.Classes.{isEmphasisContainer}
+use Rattle.checks.specs.Single.{validateDestination, validateIdentifier, validateDirectiveName}
+use Rattle.inlinevalues.specs.InlineValues.{validateInlineValues}
+use Rattle.depths.specs.Every.{validateDirectiveAttributes, validateLinkText}
 use Rattle.contents.specs.Beside.{noInline, allEmpty, startsWithWhitespace, endsWithWhitespace, holdsJoined, finalBreak}
 
 -- `validate_text_directive`, up to the walk of its label: 54, then 55
@@ -29,29 +30,7 @@ validateEmphasisContainer bytes path span kind a kids =
     ⊕ listIf (holdsJoined kind a kids) Rules.joinedEmphasis span path
     ⊕ finalBreak path kids
 
--- The match of `validate_inline_nodes` on one inline, for the kinds that are asked for their own values alone.
--- Shortcodes, tags, autolinks and character references have only messages that are dropped; raw HTML and breaks have none.
-unfoldable pub validateInlineValues : List ℕ → List ℕ → Rec → List Entry
-validateInlineValues bytes path r =
-    if eqb (r .kind) text
-    then validateText bytes path (r .span) (r .first)
-    else if eqb (r .kind) image
-    then validateDestination path (r .span) (r .a) (r .first)
-    else if eqb (r .kind) imageReference
-    then validateIdentifier path Rules.emptyImageReference (r .span) (r .first)
-    else if eqb (r .kind) escape
-    then validateEscape path (r .span) (r .a)
-    else if eqb (r .kind) footnoteReference
-    then validateIdentifier path Rules.emptyFootnoteReference (r .span) (r .first)
-    else if eqb (r .kind) wikiLink
-    then validateIdentifier path Rules.emptyWikiLink (r .span) (r .first)
-    else if eqb (r .kind) code
-    then validateCodeInline bytes path (r .span) (r .first)
-    else if eqb (r .kind) math
-    then validateMathInline bytes path (r .span) (r .a) (r .b) (r .first)
-    else []
-
--- The whole of that match, up to the walk of the inline's children: the kinds that are asked for what they hold, and those above.
+-- The match of `validate_inline_nodes` on one inline, up to the walk of its children: the kinds that are asked for what they hold, and those of `InlineValues`.
 unfoldable pub validateInline : List ℕ → List ℕ → Rec → Forest → List Entry
 validateInline bytes path r kids =
     if isEmphasisContainer (r .kind)

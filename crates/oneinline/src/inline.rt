@@ -1,23 +1,22 @@
 // What one inline reports of itself, by its kind.
-ghost use Prim.Native.Nat.{_≤_};
-ghost use lib.ListN.{length};
 ghost use Rattle.sheet.specs.Forest.{under};
 ghost use Rattle.report.specs.Report.{Lists, listIf, _⊕_};
 ghost use Rattle.checks.specs.Single.{validateDestination, validateIdentifier};
-ghost use Rattle.walks.specs.Every.{validateLinkText};
+ghost use Rattle.depths.specs.Every.{validateLinkText};
 ghost use Rattle.contents.specs.Beside.{noInline};
-ghost use Rattle.oneinline.specs.Inline.{validateTextDirective, validateEmphasisContainer, validateInlineValues, validateInline};
+ghost use Rattle.oneinline.specs.Inline.{validateTextDirective, validateEmphasisContainer, validateInline};
 ghost use Rattle.checks.specs.Rules;
 ghost use Rattle.walks.specs.Walk.{Start};
 use checks::rules;
 use checks::single;
+use classes::class;
 use contents::content::gather;
-use facts::values;
+use depths::every;
+use inlinevalues::values::validate_inline_values;
 use report::entries::Tally;
 use report::entries::list_if;
 use sheet::kinds;
 use sheet::records::Rec;
-use walks::every;
 
 // Rules 39 or 40, 41 and 30 of the container `r` whose children start at record `from`.
 fn validate_emphasis_container(
@@ -131,42 +130,6 @@ fn validate_inline_footnote(
     )
 }
 
-// What an inline reports that is asked for its own values alone.
-fn validate_inline_values(
-    bytes: &[u8],
-    report: &mut [u32],
-    path: &[u32],
-    r: Rec,
-    tally: Tally,
-) -> Tally
-    requires { ⌜ length (now path) ≤ 64 ⌝ }
-    ensures { λ q. ⌜ Lists tally q (now (report .entry)) (now (report .exit)) (validateInlineValues (now (bytes .entry)) (now (path .entry)) r) ⌝ }
-{
-    let kind = r.kind;
-    match kind {
-        kinds::TEXT => single::validate_text(bytes, report, path, r.span, r.first, tally),
-        kinds::IMAGE => single::validate_destination(report, path, r.span, r.a, r.first, tally),
-        kinds::IMAGE_REFERENCE => {
-            let rule = rules::EMPTY_IMAGE_REFERENCE;
-            single::validate_identifier(report, path, rule, r.span, r.first, tally)
-        }
-        kinds::ESCAPE => single::validate_escape(report, path, r.span, r.a, tally),
-        kinds::FOOTNOTE_REFERENCE => {
-            let rule = rules::EMPTY_FOOTNOTE_REFERENCE;
-            single::validate_identifier(report, path, rule, r.span, r.first, tally)
-        }
-        kinds::WIKI_LINK => {
-            let rule = rules::EMPTY_WIKI_LINK;
-            single::validate_identifier(report, path, rule, r.span, r.first, tally)
-        }
-        kinds::CODE => single::validate_code_inline(bytes, report, path, r.span, r.first, tally),
-        kinds::MATH => {
-            single::validate_math_inline(bytes, report, path, r.span, r.a, r.b, r.first, tally)
-        }
-        _ => tally,
-    }
-}
-
 // What one inline reports of itself, before its children, which start at record `from`.
 pub fn validate_inline(
     sheet: &[u32],
@@ -182,7 +145,7 @@ pub fn validate_inline(
     ensures { λ q. ⌜ Lists tally q (now (report .entry)) (now (report .exit)) (validateInline (now (bytes .entry)) (now (path .entry)) r (under (now (sheet .entry)) n from (r .level))) ⌝ }
 {
     let kind = r.kind;
-    if values::is_emphasis_container(kind) {
+    if class::is_emphasis_container(kind) {
         return validate_emphasis_container(sheet, bytes, report, path, n, from, r, tally);
     }
     match kind {

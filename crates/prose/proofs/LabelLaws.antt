@@ -17,9 +17,9 @@ use Rattle.report.specs.Report.{Lists}
 use Rattle.report.specs.declared.entries.Tally.{Tally}
 use Rattle.report.proofs.ReportLaws.{lists-then}
 use Rattle.checks.specs.Single.{validateDirectiveName}
-use Rattle.walks.specs.Every.{validateDirectiveAttributes, validateOneLine}
+use Rattle.depths.specs.Every.{validateDirectiveAttributes, validateOneLine}
 use Rattle.walks.specs.Walk.{Start, Done}
-use Rattle.walks.specs.declared.every.Walked.{Walked}
+use Rattle.walks.specs.declared.trees.Walked.{Walked}
 use Rattle.walks.proofs.WalkLaws.{behindKids}
 use Rattle.inlines.specs.Inlines.{validateInlines}
 use Rattle.prose.specs.Prose.{beforeBlocks, validateDirective}

@@ -8,14 +8,14 @@ ghost use Rattle.report.specs.Report.{Lists};
 ghost use Rattle.walks.specs.Walk.{Start};
 ghost use Rattle.prose.specs.Prose.{beforeBlocks, validateDirective};
 use checks::single::validate_directive_name;
+use depths::every;
 use inlines::nodes::validate_inlines;
 use report::entries::Tally;
 use sheet::kinds;
 use sheet::records::Span;
 use sheet::records::Text;
 use sheet::records::record_at;
-use walks::every;
-use walks::every::skip;
+use walks::trees::skip;
 
 // The record where the blocks of a directive begin, or where it ends.
 fn label_end(sheet: &[u32], n: usize, from: usize, level: u32) -> usize

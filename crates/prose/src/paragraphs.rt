@@ -16,7 +16,7 @@ use report::entries::list_if;
 use sheet::kinds;
 use sheet::records::Span;
 use sheet::records::record_at;
-use walks::every::skip;
+use walks::trees::skip;
 
 // Whether every inline is an empty text.
 fn all_empty(sheet: &[u32], n: usize, from: usize, level: u32) -> bool

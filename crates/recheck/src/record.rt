@@ -1,13 +1,13 @@
-// A stored check: a head of four counts (words of the sheet, bytes of the text, words of the list, words of the report) and the answer; behind it the sheet, the text and the list.
+// A stored check and setting: a head of six counts (words of the sheet, bytes of the text, words of the list, words of the report, marks that are written, marks) and two answers (the check's, the setting machine's); behind it the sheet, the text, the list and the marks that are written.
 ghost use Prim.Native.Nat.{_≤_};
-use reedsander::exports::reedsander_check;
+use crate::front;
 use stored::read;
 use stored::tally::Tally;
 use stored::words;
 use strings::part::part;
 
 // How many bytes the head has.
-pub const HEAD: usize = 16;
+pub const HEAD: usize = 28;
 
 // The most words of a sheet.
 const SHEET: usize = 768;
@@ -18,48 +18,60 @@ const TEXT: usize = 256;
 // The most words of a report.
 const REPORT: usize = 512;
 
-// Every word of the report before the check.
+// The most marks.
+const MARKS: usize = 72;
+
+// Every word of the report and every mark before the calls.
 const BEFORE: u32 = 0xA5A5_A5A5;
 
 // Whether the counts are within their limits.
 pub fn fits(r: &[u8]) -> bool {
     let report = read::pair(r, 6);
+    let marks = read::pair(r, 10);
     (read::pair(r, 0) <= SHEET)
         & (read::pair(r, 2) <= TEXT)
         & (read::pair(r, 4) <= report)
         & (report <= REPORT)
+        & (read::pair(r, 8) <= marks)
+        & (marks <= MARKS)
 }
 
 // How many bytes stand behind the head.
 pub fn behind(r: &[u8]) -> usize
-    ensures { λ n. ⌜ n ≤ 589815 ⌝ }
+    ensures { λ n. ⌜ n ≤ 851955 ⌝ }
 {
-    read::pair(r, 0) * 4 + read::pair(r, 2) + read::pair(r, 4) * 4
+    read::pair(r, 0) * 4 + read::pair(r, 2) + read::pair(r, 4) * 4 + read::pair(r, 8) * 4
 }
 
-// The answer for the first `n` words as the sheet and the first `m` as the report, as the exported function gives it; the largest number, which is no answer, where there are fewer.
-fn answer(words: &[u32], n: usize, text: &[u8], report: &mut [u32], m: usize) -> u64 {
-    if words.len() < n {
-        return 0xFFFF_FFFF_FFFF_FFFF;
-    }
-    if report.len() < m {
-        return 0xFFFF_FFFF_FFFF_FFFF;
-    }
-    reedsander_check(&words[..n], text, &mut report[..m])
-}
-
-// The answer is compared, and each word of the report: behind the list it stays as it was, past the report's end too.
-pub fn replay_record(r: &[u8], tally: Tally) -> Tally {
-    let mut words = [0u32; SHEET];
+// The check's answer is compared, and each word of the report: behind the list it stays as it was, past the report's end too.
+fn replay_check(r: &[u8], sheet: &[u32], text: &[u8], list: &[u8], tally: Tally) -> Tally {
     let mut report = [BEFORE; REPORT];
     let n = read::pair(r, 0);
-    let bytes = read::pair(r, 2);
-    words::fill(&mut words, part(r, HEAD, n * 4));
-    let list = part(r, HEAD + n * 4 + bytes, read::pair(r, 4) * 4);
-    let text = part(r, HEAD + n * 4, bytes);
-    let found = answer(&words, n, text, &mut report, read::pair(r, 6));
+    let found = front::answer(front::CHECK, sheet, n, text, &mut report, read::pair(r, 6));
     tally
-        .record()
-        .compare(found == read::long_number(r, 8) as u64)
+        .compare(found == read::long_number(r, 12) as u64)
         .compare(words::same(&report, list, BEFORE))
+}
+
+// The machine's answer is compared, and each mark: those of records that it does not open stay as they were, and so does what is past them.
+fn replay_set(r: &[u8], sheet: &[u32], text: &[u8], written: &[u8], tally: Tally) -> Tally {
+    let mut marks = [BEFORE; MARKS];
+    let n = read::pair(r, 0);
+    let found = front::answer(front::SET, sheet, n, text, &mut marks, read::pair(r, 10));
+    tally
+        .compare(found == read::long_number(r, 20) as u64)
+        .compare(words::same(&marks, written, BEFORE))
+}
+
+pub fn replay_record(r: &[u8], tally: Tally) -> Tally {
+    let mut sheet = [0u32; SHEET];
+    let n = read::pair(r, 0) * 4;
+    let bytes = read::pair(r, 2);
+    let listed = read::pair(r, 4) * 4;
+    words::fill(&mut sheet, part(r, HEAD, n));
+    let text = part(r, HEAD + n, bytes);
+    let list = part(r, HEAD + n + bytes, listed);
+    let written = part(r, HEAD + n + bytes + listed, read::pair(r, 8) * 4);
+    let checked = replay_check(r, &sheet, text, list, tally.record());
+    replay_set(r, &sheet, text, written, checked)
 }

@@ -5,7 +5,7 @@ use Prim.Native.Nat.{ℕ, _+_}
 use Rattle.multiline.specs.Fence.{holdsFenceLine, isFence}
 use Rattle.multiline.specs.Lines.{hasBlankEdgeLine, holdsLineEnding, isBlank, isCrOfCrlf, lines, longer, startsWith}
 use Rattle.strings.specs.Lists.{all, any, none, firstOr, lastOr}
-use Rattle.leaves.specs.Names.{isAttributeName, isBlankIdentifier, isDirectiveName, isRun, runs}
+use Rattle.names.specs.Names.{isAttributeName, isBlankIdentifier, isDirectiveName, isRun, runs}
 use Rattle.strings.specs.Part.{partOf}
 use Rattle.leaves.specs.Pipe.{hasOddEscapedPipe, oddPipeAfter}
 use Rattle.strings.specs.Same.{sameBytes}
@@ -16,19 +16,22 @@ use Rattle.sheet.specs.Forest.{count, deeper, forestAt, forestOf, grow, past}
 use Rattle.sheet.specs.Kinds.{paragraph, heading, blockQuote, alert, list, codeBlock, htmlContainer, definition, footnoteDefinition, table, frontmatter, leafDirective, containerDirective, blankLine, item, row, cell, htmlTag, text, code, softBreak}
 use Rattle.report.specs.Report.{Entry, listIf, _⊕_}
 use Rattle.sheet.specs.Sheet.{recordAt}
-use Rattle.checks.specs.Single.{validateCodeInline, validateDestination, validateDirectiveName, validateSiblings, validateText}
+use Rattle.checks.specs.Single.{validateDestination, validateDirectiveName, validateSiblings}
+use Rattle.literals.specs.Literals.{validateCodeInline, validateText}
 use Rattle.facts.specs.Values.{isBadAttribute, isUnwritable}
-use Rattle.walks.specs.Every.{eachRecord, validateCellValues, validateDirectiveAttributes, validateOneLine}
+use Rattle.depths.specs.Every.{eachRecord, validateCellValues, validateDirectiveAttributes, validateOneLine}
 use Rattle.inlines.specs.Inlines.{allEmpty, finalBreak, finalBreakAfter, noInline, validateInline, validateInlineValues, validateInlineNodes, validateInlineNodesAfter, validateInlines, validateNode}
-use Rattle.heads.specs.Heads.{frontmatterKind, takesIndentedCode, validateAlert, validateCodeBlock, validateDefinition, validateFrontmatter, validateHeading, validateTakenBlock, writtenMarker}
+use Rattle.heads.specs.Heads.{frontmatterKind, validateAlert, validateCodeBlock, validateDefinition, validateFrontmatter, validateHeading}
+use Rattle.neighbours.specs.Taken.{takesIndentedCode, validateTakenBlock, writtenMarker, beforeNext}
 use Rattle.containers.specs.Tags.{validateHtmlContainer, validateTags}
 use Rattle.containers.specs.Footnotes.{blankLineAt, validateFootnoteDefinition}
-use Rattle.containers.specs.Items.{itemNumber, opensWithParagraph, validateBlankLine, validateItemBlankLines, validateItemNumber, validateTaskItem}
-use Rattle.containers.specs.Lists.{countFull, holdsOneBlock, validateList}
+use Rattle.items.specs.Items.{opensWithParagraph, validateBlankLine, validateItemBlankLines, validateTaskItem}
+use Rattle.numbers.specs.Numbers.{itemNumber, validateItemNumber}
+use Rattle.lists.specs.Lists.{countFull, holdsOneBlock, validateList}
 use Rattle.tables.specs.Tables.{headerWidth, validateCell, validateCells, validateRows, validateTable}
 use Rattle.prose.specs.Prose.{beforeBlocks, validateDirective, validateParagraph}
 use Rattle.oneblock.specs.OneBlock.{holdsBlocks, validateContainer, validateHtml, validateLeaf, validateOwn}
-use Rattle.blocks.specs.Blocks.{beforeNext, validateBlock, validateBlocks, validateDocument, validateItem, validateItems}
+use Rattle.blocks.specs.Blocks.{validateBlock, validateBlocks, validateDocument, validateItem, validateItems}
 
 -- ---- sheets over the text `a \ | \ \ | - - - LF space`
 bytes : List ℕ

@@ -4,4 +4,3 @@ pub mod TagLaws
 pub mod AcceptLaws
 pub mod FormedLaws
 pub mod ContainerLaws
-pub mod SheetExamples

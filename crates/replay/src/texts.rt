@@ -34,9 +34,9 @@ fn last_seven(s: &[u8]) -> u32
     )
         + flag(leaves::title::is_alert_title(s), 0x02)
         + flag(leaves::pipe::has_odd_escaped_pipe(s), 0x04)
-        + flag(leaves::names::is_directive_name(s), 0x08)
-        + flag(leaves::names::is_attribute_name(s), 0x10)
-        + flag(leaves::names::is_blank_identifier(s), 0x20)
+        + flag(names::name::is_directive_name(s), 0x08)
+        + flag(names::name::is_attribute_name(s), 0x10)
+        + flag(names::name::is_blank_identifier(s), 0x20)
         + flag(leaves::math::holds_backtick_dollar(s), 0x40)
 }
 

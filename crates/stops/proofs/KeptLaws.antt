@@ -14,7 +14,7 @@ use Rattle.sheet.specs.declared.records.Rec.{Rec}
 use Rattle.form.specs.Fields.{mostA, mostB, mostC, isSurrogate, badNumber, badField}
 use Rattle.unicode.proofs.Decoding.{and-left, and-right}
 use Rattle.standing.proofs.PlaceLaws.{or-left, or-right}
-use Rattle.heads.specs.Heads.{writtenMarker}
+use Rattle.neighbours.specs.Taken.{writtenMarker}
 use Rattle.machine.specs.Machine.{Frame, fresh, withKid, columns, nearest, inLink, behindList, onlyEmpty, lastMark, Seen, seen, Test, lowest, openingTests}
 use Rattle.stops.specs.Kept.{markerBehind, keptOf, seenBy, openedIn, joinedBy}
 

@@ -7,8 +7,9 @@ use lib.ListN.{length}
 use Rattle.strings.specs.Lists.{if_then_else_}
 use Rattle.sheet.specs.Kinds.{among, isInline, list, table, blankLine, link, linkReference}
 use Rattle.sheet.specs.declared.records.Rec.{Rec}
-use Rattle.facts.specs.Values.{isBreak, isEmptyText}
-use Rattle.heads.specs.Heads.{writtenMarker}
+use Rattle.classes.specs.Classes.{isBreak}
+use Rattle.facts.specs.Values.{isEmptyText}
+use Rattle.neighbours.specs.Taken.{writtenMarker}
 use Rattle.machine.specs.Machine.{Frame, Seen, columns, nearest, inLink, behindBreak, onlyEmpty, itemMark, lastMark}
 use Rattle.stops.specs.declared.kept.Kept.{Kept}
 

@@ -5,8 +5,9 @@ ghost use Rattle.machine.specs.Machine.{theSheet};
 ghost use Rattle.stops.specs.Kept.{keptOf, openedIn, joinedBy, nextMarker, mostKids, mostNumber};
 ghost use Rattle.machine.specs.Machine.{itemMark};
 ghost use mathlib.Core.List.{[]};
+use classes::class;
 use facts::values;
-use heads::own::written_marker;
+use neighbours::taken::written_marker;
 use sheet::kinds;
 use sheet::records::Rec;
 
@@ -98,7 +99,7 @@ pub fn joined(k: Kept, r: Rec) -> Kept
         linked: k.linked,
         ordered: k.ordered,
         kids: k.kids + 1,
-        broke: values::is_break(r.kind),
+        broke: class::is_break(r.kind),
         marker: next_marker(r, k.marker),
         empty: values::is_empty_text(r) & k.empty,
         number: item_mark(r, k.number),

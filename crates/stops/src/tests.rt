@@ -10,10 +10,10 @@ ghost use Rattle.machine.specs.Machine.{lowest, openingTests, closingTests, mar
 ghost use Rattle.stops.specs.Kept.{seenBy, mostKids, mostNumber};
 use crate::kept::Kept;
 use crate::kept::item_mark;
-use facts::values;
+use classes::class;
 use form::fields::text_of;
-use heads::own::written_marker;
 use multiline::lines::holds_line_ending;
+use neighbours::taken::written_marker;
 use sheet::kinds;
 use sheet::kinds::pick;
 use sheet::records::Rec;
@@ -47,12 +47,12 @@ pub fn opening_stop(bytes: &[u8], r: Rec, k: Kept) -> u32
     let item = r.kind == kinds::ITEM;
     let numbered = r.b == 1;
     let cell = (r.kind == kinds::CELL) & (k.columns <= k.kids);
-    let line = values::is_break(r.kind) & is_one_line(k.nearest);
-    let link = values::is_link(r.kind) & k.linked;
+    let line = class::is_break(r.kind) & is_one_line(k.nearest);
+    let link = class::is_link(r.kind) & k.linked;
     let heading = (r.kind == kinds::HEADING) & !between(1, 6, r.a);
     let large = item & k.ordered & numbered & (MOST_NUMBER < r.c);
     let bullet = item & !k.ordered & numbered;
-    let again = values::is_plain_break(r.kind, r.a) & k.broke;
+    let again = class::is_plain_break(r.kind, r.a) & k.broke;
     let inside = (r.kind == kinds::FRONTMATTER) & (1 < r.level);
     let text = is_broken_text(bytes, r);
     let list = (r.kind == kinds::LIST) & (k.marker == written_marker(r.a, r.b));
@@ -70,7 +70,7 @@ pub fn closing_stop(r: Rec, k: Kept, around: Kept) -> u32
     let row = (r.kind == kinds::ROW) & (k.kids < around.columns);
     let table = (r.kind == kinds::TABLE) & ((k.kids == 0) | (r.a == 0));
     let list = (r.kind == kinds::LIST) & (k.kids == 0);
-    let prose = (r.kind == kinds::PARAGRAPH) | values::is_emphasis_container(r.kind);
+    let prose = (r.kind == kinds::PARAGRAPH) | class::is_emphasis_container(r.kind);
     let stop = pick(list, 9, pick(prose & k.empty, 10, 0));
     pick(row, 2, pick(table, 3, stop))
 }

@@ -16,9 +16,9 @@ use Rattle.report.specs.Report.{Entry, Lists, listIf, _⊕_}
 use Rattle.report.specs.declared.entries.Tally.{Tally}
 use Rattle.report.proofs.ReportLaws.{lists-then, join-assoc}
 use Rattle.checks.specs.Rules
-use Rattle.walks.specs.Every.{validateCellValues, validateOneLine}
+use Rattle.depths.specs.Every.{validateCellValues, validateOneLine}
 use Rattle.walks.specs.Walk.{Done}
-use Rattle.walks.specs.declared.every.Walked.{Walked}
+use Rattle.walks.specs.declared.trees.Walked.{Walked}
 use Rattle.walks.proofs.WalkLaws.{behindKids, level-of, skip-tree}
 use Rattle.walks.proofs.PathLaws.{Paced, paced-room, paced-own, paced-turn, kept-set, kept-below}
 use Rattle.walks.proofs.TreeLaws.{Stands, ends-some}

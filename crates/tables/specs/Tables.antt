@@ -8,7 +8,7 @@ use Rattle.sheet.specs.Forest.{Forest, none, tree, count}
 use Rattle.report.specs.Report.{Entry, listIf, _⊕_}
 use Rattle.sheet.specs.declared.records.Span.{Span}
 use Rattle.checks.specs.Rules
-use Rattle.walks.specs.Every.{validateCellValues, validateOneLine}
+use Rattle.depths.specs.Every.{validateCellValues, validateOneLine}
 use Rattle.inlines.specs.Inlines.{validateInlines}
 
 -- one cell: its inlines, then 21, then 20

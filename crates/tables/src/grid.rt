@@ -6,14 +6,14 @@ ghost use Rattle.report.specs.Report.{Lists};
 ghost use Rattle.walks.specs.Walk.{Start, Begin, Done};
 ghost use Rattle.tables.specs.Tables.{validateCell, validateCells, validateRows, validateTable};
 use checks::rules;
+use depths::every;
 use inlines::nodes::validate_inlines;
 use report::entries::Tally;
 use report::entries::list_if;
 use sheet::records::Span;
 use sheet::records::level_at;
 use sheet::records::record_at;
-use walks::every;
-use walks::every::Walked;
+use walks::trees::Walked;
 use walks::trees::count;
 use walks::trees::ends;
 

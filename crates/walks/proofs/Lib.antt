@@ -1,3 +1,4 @@
 pub mod WalkLaws
 pub mod TreeLaws
 pub mod PathLaws
+pub mod DecideLaws

@@ -7,7 +7,7 @@ use Rattle.sheet.specs.Sheet.{recordAt, recordWords}
 use Rattle.sheet.specs.Forest.{under, size}
 use Rattle.report.specs.Report.{Entry, Lists}
 use Rattle.report.specs.declared.entries.Tally.{Tally}
-use Rattle.walks.specs.declared.every.Walked.{Walked}
+use Rattle.walks.specs.declared.trees.Walked.{Walked}
 
 -- a sheet of n records as acceptance leaves it, a record to start from, and a path
 pub record Start (w path : List ℕ) (n from : ℕ) : Type 0 where

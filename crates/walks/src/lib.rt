@@ -1,3 +1,2 @@
-// Where a walk stands, and the walks over every record of some trees.
-pub mod every;
+// Where a walk stands, and what it is given and hands back.
 pub mod trees;

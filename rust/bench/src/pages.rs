@@ -48,6 +48,45 @@ pub fn others() -> Vec<Page> {
     all
 }
 
+/// The pages that are set to their end.
+pub fn set_to_the_end() -> Vec<Page> {
+    vec![
+        paragraphs(),
+        nested_lists(),
+        good_headings(),
+        numbered(),
+        one_row(),
+        long_texts("8 texts of 1 MiB, ASCII", "printer lights 26 25 29 "),
+        long_texts("8 texts of 1 MiB, not ASCII", "Lichtbestimmung für 3½ €"),
+    ]
+}
+
+/// Headings of every depth.
+fn good_headings() -> Page {
+    let depths = (1..=6).cycle().take(MOST_RECORDS);
+    let blocks: Vec<Block<'_>> = depths.map(|depth| Block::heading(depth, [])).collect();
+    page(format!("{MOST_RECORDS} headings"), &blocks)
+}
+
+/// One list of numbered items, every tenth with its own number.
+fn numbered() -> Page {
+    let count = MOST_RECORDS - 1;
+    let item = |at: usize| match at % 10 {
+        0 => Item::new([]).number(at as u32),
+        _ => Item::new([]),
+    };
+    let list = Block::tight_list(Marker::PERIOD, (0..count).map(item));
+    page(format!("a list of {count} items"), &[list])
+}
+
+/// One row of cells.
+fn one_row() -> Page {
+    let count = MOST_RECORDS - 2;
+    let row = Row::new((0..count).map(|_| Cell::new([])));
+    let table = Block::table(count as u32, [row]);
+    page(format!("a row of {count} cells"), &[table])
+}
+
 /// Paragraphs of five inlines of 40 bytes, no two alike: 20,000 of them would
 /// be 120,000 records, so as many as a sheet may have.
 fn paragraphs() -> Page {

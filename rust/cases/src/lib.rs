@@ -7,6 +7,7 @@ pub mod damage;
 pub mod draft;
 pub mod exhaustive;
 pub mod letters;
+pub mod mend;
 pub mod numbers;
 pub mod random;
 pub mod templates;

@@ -33,6 +33,8 @@ pub fn limits(long: bool) -> Vec<Limit> {
     all.extend(texts());
     all.extend(levels());
     all.extend(values());
+    all.extend(markers());
+    all.extend(numbers());
     all.extend(records());
     if long {
         all.extend(long_records());
@@ -225,6 +227,61 @@ fn values() -> Vec<Limit> {
     all
 }
 
+/// Two lists of every two markers, with what may stand between them.
+fn markers() -> Vec<Limit> {
+    let list = |marker: u32| {
+        let list = with(6, marker % 5, with(5, marker / 5, plain(6, 1)));
+        [with(7, 1, list), plain(20, 2)]
+    };
+    let betweens: [&[Record]; 5] = [
+        &[],
+        &[plain(17, 1)],
+        &[plain(17, 1), plain(17, 1)],
+        &[plain(3, 1)],
+        &[plain(17, 1), plain(3, 1), plain(17, 1)],
+    ];
+    let mut all = Vec::new();
+    for left in 0..10 {
+        for right in 0..10 {
+            for between in betweens {
+                let records = [&list(left)[..], between, &list(right)].concat();
+                let name = format!("lists {left} and {right}, {} between", between.len());
+                all.push(limit(name, &records, b""));
+            }
+        }
+    }
+    all
+}
+
+/// Items with each two numbers at a bound, and one without behind them.
+fn numbers() -> Vec<Limit> {
+    let numbers = [
+        None,
+        Some(0),
+        Some(1),
+        Some(999_999_998),
+        Some(999_999_999),
+        Some(1_000_000_000),
+        Some(u32::MAX),
+    ];
+    let item = |number: Option<u32>| match number {
+        Some(number) => with(7, number, with(6, 1, plain(20, 2))),
+        None => plain(20, 2),
+    };
+    let mut all = Vec::new();
+    for ordered in 0..2 {
+        let list = with(5, ordered, plain(6, 1));
+        for first in numbers {
+            for second in numbers {
+                let records = [list, item(first), item(second), plain(20, 2)];
+                let name = format!("ordered {ordered}, items {first:?} and {second:?}");
+                all.push(limit(name, &records, b""));
+            }
+        }
+    }
+    all
+}
+
 /// As many records as may be, and one more. The plain reading looks back for
 /// each parent, which stands near here.
 fn records() -> Vec<Limit> {
@@ -262,16 +319,23 @@ fn long_records() -> Vec<Limit> {
         records.resize(MOST_RECORDS, plain(kind, level));
         records
     };
+    // The highest number that an item may have of its own, and the others
+    // behind it.
+    let highest = with(7, 999_999_999, with(6, 1, plain(20, 2)));
+    let numbered = [with(5, 1, plain(6, 1)), highest];
+    let aligned = [with(5, 65_533, plain(12, 1)), plain(21, 2)];
     vec![
         limit("65,535 headings", &flat(2, 1, &[]), b""),
         limit("65,534 breaks", &flat(46, 2, &[plain(1, 1)]), b""),
         limit("65,534 items", &flat(20, 2, &[plain(6, 1)]), b""),
+        limit("65,534 numbered items", &flat(20, 2, &numbered), b""),
         limit("65,534 attributes", &flat(24, 2, &[plain(15, 1)]), b""),
         limit(
             "65,533 cells",
             &flat(22, 3, &[plain(12, 1), plain(21, 2)]),
             b"",
         ),
+        limit("65,533 cells, all aligned", &flat(22, 3, &aligned), b""),
         limit("65,534 rows", &flat(21, 2, &[plain(12, 1)]), b""),
     ]
 }

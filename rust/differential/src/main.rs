@@ -1,8 +1,9 @@
-//! Compares `reedsander_check` with the Rust reference and a plain reading of
-//! document 01: `differential [--short] [--seed N]`.
+//! Compares `reedsander_check` and `reedsander_set` with the Rust reference
+//! and a plain reading of document 01, and tests demand 3 on their answers:
+//! `differential [--short] [--seed N]`.
 //!
-//! It exits with 1 where a call differs, or where a rule or a refusal was
-//! never seen.
+//! It exits with 1 where a call differs, or where a rule, a stop or a refusal
+//! was never seen.
 
 #![forbid(unsafe_code)]
 
@@ -43,13 +44,14 @@ fn run(plan: Plan) -> ExitCode {
     let last = plan.seed + plan.trees - 1;
     println!("seeds {} to {last}", plan.seed);
     let mut harness = Harness::new(plan.seed, |shown| println!("{shown}"));
-    let parts: [Part; 6] = [
+    let parts: [Part; 7] = [
         ("limits", Harness::limits),
         ("small sheets", Harness::small),
         ("all small sheets", Harness::all_small),
         ("random trees", Harness::trees),
         ("damaged trees", Harness::damaged),
-        ("reports of every length", Harness::reports),
+        ("mended trees", Harness::mended),
+        ("reports and marks of every length", Harness::lengths),
     ];
     for (name, part) in parts {
         timed(name, &mut harness, |harness| part(harness, plan));
@@ -74,12 +76,12 @@ fn timed(name: &str, harness: &mut Harness, part: impl FnOnce(&mut Harness)) {
 }
 
 fn verdict(harness: &Harness) -> ExitCode {
-    let (rules, refusals) = harness.counts.unseen();
-    if !rules.is_empty() || !refusals.is_empty() {
-        println!("never seen: rules {rules:?}, refusals {refusals:?}");
+    let unseen = harness.counts.unseen();
+    if !unseen.is_empty() {
+        println!("never seen: {}", unseen.join(", "));
     }
     println!("differences {}", harness.differences);
-    match harness.differences == 0 && rules.is_empty() && refusals.is_empty() {
+    match harness.differences == 0 && unseen.is_empty() {
         true => ExitCode::SUCCESS,
         false => ExitCode::FAILURE,
     }

@@ -3,19 +3,22 @@
 use cases::{
     damage,
     exhaustive::{beginnings, nothing, Spelling},
-    random, templates, Numbers, Sheet,
+    mend, random, templates, Numbers, Sheet,
 };
 
 use crate::{
-    call::differ,
+    call::{compared, differ},
     counts::Counts,
-    expected::Expected,
+    expected::{Call, Expected},
     limits::limits,
     shrink::{describe, shrunk},
 };
 
 /// How many differences are shrunk and printed.
 const MOST_PRINTED: u64 = 5;
+
+/// How often one tree is mended at most.
+const MOST_MENDED: usize = 100;
 
 /// How much a run does.
 #[derive(Clone, Copy, PartialEq, Eq, Debug)]
@@ -69,55 +72,83 @@ impl Harness {
         }
     }
 
-    /// Compares one sheet with a report that is long enough and one that is
-    /// not, and says whether longer sheets may be accepted.
+    /// Compares one sheet with a report and marks that are long enough and
+    /// ones that are not, and says whether longer sheets may be accepted.
     fn sheet(&mut self, name: &str, sheet: &[u32], text: &[u8]) -> bool {
         let expected = Expected::of(sheet, text);
-        let lengths = self.lengths(&expected);
-        self.calls(name, sheet, text, &expected, &lengths);
+        let calls = self.both(&expected);
+        self.calls(name, sheet, text, &expected, &calls);
         matches!(expected.refusal.0, 0 | 10)
     }
 
-    /// The reports that a sheet is called with.
-    fn lengths(&mut self, expected: &Expected) -> Vec<usize> {
+    /// Calls of both functions.
+    fn both(&mut self, expected: &Expected) -> Vec<Call> {
+        [self.checks(expected), self.sets(expected)].concat()
+    }
+
+    /// The reports that a sheet is checked with.
+    fn checks(&mut self, expected: &Expected) -> Vec<Call> {
         let full = expected.list.len();
         let long = full + self.numbers.one(&[0, 0, 1, 2, 7, 40]);
-        if full == 0 {
-            return vec![long];
-        }
-        let short = match self.numbers.below(4) {
+        let short = (full > 0).then(|| self.shorter(full));
+        let lengths = [Some(long), short].into_iter().flatten();
+        lengths.map(Call::Check).collect()
+    }
+
+    /// The marks that a sheet is set with: of one that is refused any.
+    fn sets(&mut self, expected: &Expected) -> Vec<Call> {
+        let full = expected.records;
+        let long = full + self.numbers.one(&[0, 0, 0, 1, 3, 20]);
+        let short = (full > 0).then(|| self.shorter(full));
+        let lengths = match expected.is_accepted() {
+            true => [Some(long), short],
+            false if self.numbers.once_in(2) => [short, None],
+            false => [Some(long), None],
+        };
+        lengths.into_iter().flatten().map(Call::Set).collect()
+    }
+
+    /// A length that is too short: by one, by any, or none.
+    fn shorter(&mut self, full: usize) -> usize {
+        match self.numbers.below(4) {
             0 | 1 => full - 1,
             2 => self.numbers.index(full),
             _ => 0,
-        };
-        vec![long, short]
+        }
     }
 
+    /// Compares each call, and tests demand 3.
     fn calls(
         &mut self,
         name: &str,
         sheet: &[u32],
         text: &[u8],
         expected: &Expected,
-        lengths: &[usize],
+        calls: &[Call],
     ) {
         self.counts.sheet(expected);
-        for &length in lengths {
-            self.counts.call(expected.answer(length).0);
-            if differ(sheet, text, length, expected).is_some() {
-                self.differs(name, sheet, text, length);
+        for &call in calls {
+            let compared = compared(sheet, text, call, expected);
+            self.counts
+                .call(call, expected.answer(call).0, compared.found);
+            if compared.difference.is_some() {
+                self.differs(name, sheet, text, Some(call));
             }
+        }
+        if differ(sheet, text, None, expected).is_some() {
+            self.differs(name, sheet, text, None);
         }
     }
 
-    fn differs(&mut self, name: &str, sheet: &[u32], text: &[u8], length: usize) {
+    fn differs(&mut self, name: &str, sheet: &[u32], text: &[u8], call: Option<Call>) {
         self.differences += 1;
         if self.differences > MOST_PRINTED {
             return;
         }
-        let (sheet, text, length) =
-            shrunk(sheet, text, length).unwrap_or_else(|| (sheet.to_vec(), text.to_vec(), length));
-        let shown = describe(&sheet, &text, length);
+        let shown = match shrunk(sheet, text, call) {
+            Some(found) => describe(&found.sheet, &found.text, found.call),
+            None => describe(sheet, text, call),
+        };
         (self.print)(&format!("DIFFERENCE in {name}, shrunk\n{shown}"));
     }
 
@@ -167,29 +198,57 @@ impl Harness {
         }
     }
 
-    /// Every limit, each with a report exactly full, longer, one word short
-    /// and empty.
-    pub fn limits(&mut self, plan: Plan) {
-        for limit in limits(plan.long) {
-            let expected = Expected::of(&limit.sheet, &limit.text);
-            let full = expected.list.len();
-            let mut lengths = vec![full, full + 1, full + 100];
-            if full > 0 {
-                lengths.extend([full - 1, 0, self.numbers.index(full)]);
+    /// Random trees with each stop of the machine mended in turn, until it
+    /// comes to the end: without this it stops near the beginning of most.
+    pub fn mended(&mut self, plan: Plan) {
+        for seed in plan.seed..plan.seed + plan.trees / 5 {
+            let mut numbers = Numbers::new(!seed);
+            let mut sheet = tree(seed);
+            for turn in 0..MOST_MENDED {
+                let (words, text) = &sheet;
+                let expected = Expected::of(words, text);
+                let calls = self.both(&expected);
+                let name = format!("tree {seed}, mended {turn} times");
+                self.calls(&name, words, text, &expected, &calls);
+                let Some(stop) = &expected.run.stop else {
+                    break;
+                };
+                sheet = mend::mended(&mut numbers, sheet, stop.number, stop.record);
             }
-            let (sheet, text) = (&limit.sheet, &limit.text);
-            self.calls(&limit.name, sheet, text, &expected, &lengths);
         }
     }
 
-    /// Every length of the report, from empty to one word more than needed.
-    pub fn reports(&mut self, plan: Plan) {
+    /// Every limit, each with a report and with marks exactly full, longer,
+    /// one word short and empty.
+    pub fn limits(&mut self, plan: Plan) {
+        for limit in limits(plan.long) {
+            let (sheet, text) = (&limit.sheet, &limit.text);
+            let expected = Expected::of(sheet, text);
+            let mut lengths = |full: usize| {
+                let short = [full.wrapping_sub(1), 0, self.numbers.index(full.max(1))];
+                let short = short.into_iter().filter(move |&length| length < full);
+                [full, full + 1, full + 100].into_iter().chain(short)
+            };
+            let calls: Vec<Call> = lengths(expected.list.len())
+                .map(Call::Check)
+                .chain(lengths(expected.records).map(Call::Set))
+                .collect();
+            self.calls(&limit.name, sheet, text, &expected, &calls);
+        }
+    }
+
+    /// Every length of the report and of the marks, from empty to one word
+    /// more than needed.
+    pub fn lengths(&mut self, plan: Plan) {
         for seed in plan.seed..plan.seed + plan.trees / 100 {
             let (sheet, text) = tree(seed);
             let expected = Expected::of(&sheet, &text);
-            let lengths: Vec<usize> = (0..=expected.list.len() + 1).collect();
-            let name = format!("reports of tree {seed}");
-            self.calls(&name, &sheet, &text, &expected, &lengths);
+            let calls: Vec<Call> = (0..=expected.list.len() + 1)
+                .map(Call::Check)
+                .chain((0..=expected.records + 1).map(Call::Set))
+                .collect();
+            let name = format!("lengths of tree {seed}");
+            self.calls(&name, &sheet, &text, &expected, &calls);
         }
     }
 }
@@ -224,9 +283,27 @@ mod tests {
         };
         harness.trees(plan);
         harness.damaged(plan);
-        harness.reports(plan);
+        harness.mended(plan);
+        harness.lengths(plan);
         assert_eq!((harness.differences, printed.get()), (0, 0));
-        assert_eq!(harness.counts.unseen(), (vec![], vec![2, 3]));
-        assert_eq!(harness.counts.sheets, 10_050);
+        let unseen = ["check refusal 2", "check refusal 3"]
+            .into_iter()
+            .chain(["set refusal 2", "set refusal 3"]);
+        assert!(harness.counts.unseen().iter().eq(unseen));
+        assert!(harness.counts.sheets > 12_000, "{}", harness.counts.sheets);
+    }
+
+    /// What is mended stays accepted, and comes to the end.
+    #[test]
+    fn mended_to_the_end() {
+        let mut harness = Harness::new(0, |_| {});
+        let plan = Plan {
+            trees: 1000,
+            ..Plan::short(0)
+        };
+        harness.mended(plan);
+        let counts = harness.counts;
+        assert_eq!((counts.sheets, counts.ended), (counts.accepted, 200));
+        assert!(counts.sheets > 400, "{}", counts.sheets);
     }
 }

@@ -4,33 +4,41 @@ use cases::RECORD_WORDS;
 
 use crate::{
     call::{differ, Difference},
-    expected::{entries, Expected},
+    expected::{entries, Call, Expected},
 };
 
 /// How often a smaller sheet is tried at most.
 const MOST_TRIALS: usize = 200_000;
 
-/// A call that differs.
+/// What differs: a call, or without one what demand 3 says of both functions.
 #[derive(Clone, PartialEq, Eq, Debug)]
-struct Found {
-    sheet: Vec<u32>,
-    text: Vec<u8>,
-    report_words: usize,
+pub struct Found {
+    pub sheet: Vec<u32>,
+    pub text: Vec<u8>,
+    pub call: Option<Call>,
     difference: Difference,
 }
 
-/// The call of this sheet that differs: with the report's length as it was,
-/// or exactly full, longer, one short, or empty.
-fn found(sheet: Vec<u32>, text: Vec<u8>, report_words: usize) -> Option<Found> {
+/// The call of this sheet that differs: of the same function, with the length
+/// as it was, or exactly full, longer, one short, or empty.
+fn found(sheet: Vec<u32>, text: Vec<u8>, call: Option<Call>) -> Option<Found> {
     let expected = Expected::of(&sheet, &text);
-    let full = expected.list.len();
-    let lengths = [full + 3, full, full.saturating_sub(1), 0, report_words];
-    lengths.into_iter().find_map(|report_words| {
-        let difference = differ(&sheet, &text, report_words, &expected)?;
+    let lengths = |full: usize| [full + 3, full, full.saturating_sub(1), 0];
+    let calls: Vec<Option<Call>> = match call {
+        Some(Call::Check(_)) => lengths(expected.list.len())
+            .map(|words| Some(Call::Check(words)))
+            .into(),
+        Some(Call::Set(_)) => lengths(expected.records)
+            .map(|marks| Some(Call::Set(marks)))
+            .into(),
+        None => vec![],
+    };
+    calls.into_iter().chain([call]).find_map(|call| {
+        let difference = differ(&sheet, &text, call, &expected)?;
         Some(Found {
             sheet: sheet.clone(),
             text: text.clone(),
-            report_words,
+            call,
             difference,
         })
     })
@@ -48,7 +56,7 @@ impl Shrinker {
             return false;
         }
         self.trials += 1;
-        let smaller = found(sheet, text, self.best.report_words);
+        let smaller = found(sheet, text, self.best.call);
         smaller.map(|smaller| self.best = smaller).is_some()
     }
 
@@ -237,45 +245,71 @@ impl Shrinker {
     }
 }
 
-/// A smaller sheet, text and length of the report that differ too; None where
-/// these do not differ.
-pub fn shrunk(
-    sheet: &[u32],
-    text: &[u8],
-    report_words: usize,
-) -> Option<(Vec<u32>, Vec<u8>, usize)> {
-    let best = found(sheet.to_vec(), text.to_vec(), report_words)?;
+/// What differs, with as small a sheet and text as can be; None where this
+/// does not differ.
+pub fn shrunk(sheet: &[u32], text: &[u8], call: Option<Call>) -> Option<Found> {
+    let best = found(sheet.to_vec(), text.to_vec(), call)?;
     let mut shrinker = Shrinker { best, trials: 0 };
     shrinker.all();
-    let best = shrinker.best;
-    Some((best.sheet, best.text, best.report_words))
+    Some(shrinker.best)
 }
 
-/// The listing of a call, and both its lists.
-pub fn describe(sheet: &[u32], text: &[u8], report_words: usize) -> String {
+/// The listing of a call, and what is wanted and found of both functions.
+pub fn describe(sheet: &[u32], text: &[u8], call: Option<Call>) -> String {
     let expected = Expected::of(sheet, text);
-    let mut lines = match differ(sheet, text, report_words, &expected) {
+    let mut lines = match differ(sheet, text, call, &expected) {
         Some(difference) => format!("difference: {difference}\n"),
         None => "no difference\n".into(),
     };
-    lines += &format!("report words: {report_words}\n");
+    lines += &match call {
+        Some(Call::Check(words)) => format!("check, report words: {words}\n"),
+        Some(Call::Set(marks)) => format!("set, marks: {marks}\n"),
+        None => "check and set\n".into(),
+    };
     lines += &String::from_utf8_lossy(&reedsander::listing(sheet, b""));
     lines += &format!("text: \"{}\"\n", text.escape_ascii());
-    let (number, low) = expected.answer(report_words);
-    lines += &format!("wanted: {number} {low}\n");
+    if !matches!(call, Some(Call::Set(_))) {
+        lines += &described_check(sheet, text, call, &expected);
+    }
+    if !matches!(call, Some(Call::Check(_))) {
+        lines += &described_set(sheet, text, call, &expected);
+    }
+    lines
+}
+
+/// The check's list as it is wanted, and as it is found.
+fn described_check(sheet: &[u32], text: &[u8], call: Option<Call>, expected: &Expected) -> String {
+    let long = Call::Check(expected.list.len() + 4096);
+    let (number, low) = expected.answer(call.unwrap_or(long));
+    let mut lines = format!("wanted: {number} {low}\n");
     lines += &shown(&expected.list);
     let mut report = vec![0; expected.list.len() + 4096];
-    let answer = reedsander::check_raw(sheet, text, &mut report);
-    lines += &format!(
-        "found with a long report: {} {}\n",
-        answer >> 32,
-        answer as u32
-    );
-    if answer >> 32 == 0 {
-        let listed = entries(&report).take(answer as u32 as usize);
+    let answer = long.made(sheet, text, &mut report);
+    let (number, low) = (answer >> 32, answer as u32);
+    lines += &format!("found with a long report: {number} {low}\n");
+    if number == 0 {
+        let listed = entries(&report).take(low as usize);
         let words: usize = listed.map(<[u32]>::len).sum();
         lines += &shown(&report[..words]);
     }
+    lines
+}
+
+/// The machine's run as it is wanted, and its answer and marks as they are
+/// found; a mark that was not written is 4294967295.
+fn described_set(sheet: &[u32], text: &[u8], call: Option<Call>, expected: &Expected) -> String {
+    let enough = Call::Set(expected.records);
+    let (number, low) = expected.answer(call.unwrap_or(enough));
+    let mut lines = format!("wanted of the machine: {number} {low}\n");
+    if let Some(stop) = &expected.run.stop {
+        lines += &format!("  in the block {:?}\n", stop.path);
+    }
+    lines += &format!("  marks {:?}\n", expected.run.marks);
+    let mut marks = vec![u32::MAX; expected.records];
+    let answer = enough.made(sheet, text, &mut marks);
+    let (number, low) = (answer >> 32, answer as u32);
+    lines += &format!("found of the machine with marks enough: {number} {low}\n");
+    lines += &format!("  marks {marks:?}\n");
     lines
 }
 
@@ -295,12 +329,26 @@ mod tests {
 
     #[test]
     fn nothing_to_shrink() {
-        assert_eq!(shrunk(&[], b"", 0), None);
         let heading = cases::plain(2, 1);
-        assert_eq!(shrunk(&heading, b"", 6), None);
-        let shown = describe(&heading, b"\n", 6);
-        assert!(shown.starts_with("no difference\nreport words: 6\n"));
-        assert!(shown.contains("wanted: 0 1\n  [10, 0, 0, 0, 1, 0] heading depth\n"));
-        assert!(shown.contains("text: \"\\n\"\n"));
+        for call in [Some(Call::Check(6)), Some(Call::Set(1)), None] {
+            assert_eq!(shrunk(&[], b"", call), None);
+            assert_eq!(shrunk(&heading, b"", call), None);
+        }
+    }
+
+    #[test]
+    fn descriptions() {
+        let heading = cases::plain(2, 1);
+        let of_check = describe(&heading, b"\n", Some(Call::Check(6)));
+        assert!(of_check.starts_with("no difference\ncheck, report words: 6\n"));
+        assert!(of_check.contains("wanted: 0 1\n  [10, 0, 0, 0, 1, 0] heading depth\n"));
+        assert!(of_check.contains("text: \"\\n\"\n"));
+        let of_set = describe(&heading, b"", Some(Call::Set(0)));
+        assert!(of_set.starts_with("no difference\nset, marks: 0\n"));
+        assert!(of_set.contains("wanted of the machine: 268 0\n  in the block [0]\n  marks []\n"));
+        assert!(of_set.ends_with("marks enough: 6 0\n  marks [4294967295]\n"));
+        let of_both = describe(&heading, b"", None);
+        assert!(of_both.contains("wanted: 0 1\n"));
+        assert!(of_both.contains("wanted of the machine: 6 0\n"));
     }
 }

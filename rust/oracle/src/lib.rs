@@ -15,6 +15,9 @@
 //! not silence all of them: the tag message is decided by
 //! `unicode_letters.rs`, and the second message on tight items partly in
 //! `validate.rs` itself. So compare with [`kept`], or drop by [`rule`].
+//!
+//! What the reference has not is read from document 01: the refusals
+//! ([`refusal()`]) and the setting machine ([`set`]).
 
 #![forbid(unsafe_code)]
 
@@ -25,6 +28,7 @@ include!(concat!(env!("OUT_DIR"), "/sources.rs"));
 mod decode;
 mod document;
 mod gemoji;
+mod machine;
 mod messages;
 mod parse;
 mod refusal;
@@ -32,6 +36,7 @@ mod serialize;
 mod swar;
 
 pub use document::{document, list};
+pub use machine::{set, Run, Step, Stop, REFUSED, STOP_RULES};
 pub use messages::{rule, DROPPED, KEPT};
 pub use refusal::{refusal, RECORD_WORDS};
 

@@ -1,4 +1,4 @@
-//! Answers and refusals.
+//! The checker's answers, and the refusals.
 
 use std::{error::Error, fmt};
 
@@ -37,8 +37,10 @@ pub enum Refusal {
     NotUtf8 { record: u32 },
     /// 10: the record is an HTML container with fewer than two tags.
     TagsMissing { record: u32 },
-    /// 11: the list needs more words than the report has.
+    /// 11, of a check alone: the list needs more words than the report has.
     ShortReport,
+    /// 12, of the setting machine alone: there are fewer marks than records.
+    ShortMarks,
 }
 
 impl Answer {
@@ -52,7 +54,9 @@ impl Answer {
         if number == 0 {
             return Some(Self::Accepted { entries: low });
         }
-        Refusal::of(number, low).map(Self::Refused)
+        Refusal::of(number, low)
+            .filter(|refusal| *refusal != Refusal::ShortMarks)
+            .map(Self::Refused)
     }
 }
 
@@ -69,7 +73,8 @@ impl From<Answer> for u64 {
 }
 
 impl Refusal {
-    /// The refusal of a number and a record, which is 0 for 1, 2, 3 and 11.
+    /// The refusal of a number and a record, which is 0 for 1, 2, 3, 11
+    /// and 12.
     /// None for a number that is no refusal.
     pub fn of(number: u32, record: u32) -> Option<Self> {
         Some(match (number, record) {
@@ -84,11 +89,12 @@ impl Refusal {
             (9, _) => Self::NotUtf8 { record },
             (10, _) => Self::TagsMissing { record },
             (11, 0) => Self::ShortReport,
+            (12, 0) => Self::ShortMarks,
             _ => return None,
         })
     }
 
-    /// Its number, 1 to 11.
+    /// Its number, 1 to 12.
     pub fn number(self) -> u32 {
         match self {
             Self::OddSheet => 1,
@@ -102,13 +108,18 @@ impl Refusal {
             Self::NotUtf8 { .. } => 9,
             Self::TagsMissing { .. } => 10,
             Self::ShortReport => 11,
+            Self::ShortMarks => 12,
         }
     }
 
     /// The record that it is about, where it is about one.
     pub fn record(self) -> Option<u32> {
         match self {
-            Self::OddSheet | Self::LongSheet | Self::LongText | Self::ShortReport => None,
+            Self::OddSheet
+            | Self::LongSheet
+            | Self::LongText
+            | Self::ShortReport
+            | Self::ShortMarks => None,
             Self::UnknownKind { record }
             | Self::BadLevel { record }
             | Self::Misplaced { record }
@@ -133,6 +144,7 @@ impl Refusal {
             Self::NotUtf8 { .. } => "not UTF-8",
             Self::TagsMissing { .. } => "tags missing",
             Self::ShortReport => "short report",
+            Self::ShortMarks => "short marks",
         }
     }
 }
@@ -175,13 +187,17 @@ mod tests {
             "not UTF-8",
             "tags missing",
             "short report",
+            "short marks",
         ];
         for (name, number) in names.into_iter().zip(1..) {
             let about = (4..=10).contains(&number);
             let record = if about { 65_534 } else { 0 };
             let answer = u64::from(number) << 32 | u64::from(record);
             let refusal = Refusal::of(number, record).unwrap();
-            assert_eq!(Answer::of(answer), Some(Answer::Refused(refusal)));
+            // A check does not refuse for its marks: it has none.
+            let of_check = refusal != Refusal::ShortMarks;
+            let wanted = of_check.then_some(Answer::Refused(refusal));
+            assert_eq!(Answer::of(answer), wanted);
             assert_eq!(u64::from(Answer::Refused(refusal)), answer);
             assert_eq!((refusal.number(), refusal.name()), (number, name));
             assert_eq!(refusal.record(), about.then_some(record));
@@ -197,6 +213,7 @@ mod tests {
         assert_eq!(Answer::of(11 << 32 | 1), None);
         assert_eq!(Answer::of(12 << 32), None);
         assert_eq!(Answer::of(u64::MAX), None);
-        assert_eq!(Refusal::of(0, 0), None);
+        assert_eq!((Refusal::of(0, 0), Refusal::of(13, 0)), (None, None));
+        assert_eq!(Refusal::of(12, 1), None);
     }
 }

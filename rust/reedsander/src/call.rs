@@ -1,4 +1,4 @@
-//! The one call to C.
+//! The two calls to C.
 
 extern "C" {
     fn reedsander_check(
@@ -8,6 +8,15 @@ extern "C" {
         text_bytes: usize,
         report: *mut u32,
         report_words: usize,
+    ) -> u64;
+
+    fn reedsander_set(
+        sheet: *const u32,
+        sheet_words: usize,
+        text: *const u8,
+        text_bytes: usize,
+        marks: *mut u32,
+        marks_words: usize,
     ) -> u64;
 }
 
@@ -27,6 +36,23 @@ pub fn check_raw(sheet: &[u32], text: &[u8], report: &mut [u32]) -> u64 {
             text.len(),
             report.as_mut_ptr(),
             report.len(),
+        )
+    }
+}
+
+/// The C function's own answer, as `include/reedsander.h` describes it; see
+/// [`Setting::of`](crate::Setting::of). [`set`](crate::set()) is more
+/// convenient.
+pub fn set_raw(sheet: &[u32], text: &[u8], marks: &mut [u32]) -> u64 {
+    // SAFETY: as in `check_raw`, with the marks in place of the report.
+    unsafe {
+        reedsander_set(
+            sheet.as_ptr(),
+            sheet.len(),
+            text.as_ptr(),
+            text.len(),
+            marks.as_mut_ptr(),
+            marks.len(),
         )
     }
 }

@@ -1,7 +1,8 @@
-//! Reedsander checks the grade notes of films before they are set. The
-//! checker is proved, and is a C function; this crate calls it.
+//! Reedsander checks the grade notes of films before they are set, and sets
+//! them. The checker and the setting machine are proved, and are C functions;
+//! this crate calls them.
 //!
-//! A call lends the checker a sheet, its text and a report. The sheet is the
+//! A check lends the checker a sheet, its text and a report. The sheet is the
 //! tree of notes as records of [`RECORD_WORDS`] words; [`Sheet::new`] makes
 //! it from a [`tree`]. Either the sheet is refused, see [`Refusal`], and
 //! nothing is changed; or it is accepted, and the report holds an [`Entry`]
@@ -52,6 +53,70 @@
 //! assert_eq!(sheet.check_into(&mut short), Err(Refusal::ShortReport));
 //! # Ok::<(), Refusal>(())
 //! ```
+//!
+//! # A setter
+//!
+//! The setting machine ([`set`]) opens and closes the records of a sheet in
+//! order, and gives each a mark: a heading its depth, a cell its column, an
+//! item of a numbered list its number. Where it cannot go on it stops, see
+//! [`Stop`]. It does not read the checker's list, but the two agree: it stops
+//! exactly when the list has an entry of a rule that belongs to a stop. So a
+//! sheet whose list is empty is set to its end.
+//!
+//! A setter that sets nothing while there is something in the list, and marks
+//! each fault where its path leads:
+//!
+//! ```
+//! use reedsander::{
+//!     tree::{Block, Inline, Item, Marker},
+//!     Refusal, Setting, Sheet,
+//! };
+//!
+//! /// What goes to the setting room.
+//! #[derive(PartialEq, Debug)]
+//! enum Page {
+//!     /// A mark for each record.
+//!     Set(Vec<u32>),
+//!     /// The records that are at fault, and what each fault is.
+//!     Faulty(Vec<(usize, String)>),
+//! }
+//!
+//! fn page(sheet: &Sheet) -> Result<Page, Refusal> {
+//!     let report = sheet.check()?;
+//!     if !report.is_empty() {
+//!         let faults = report.entries().map(|entry| {
+//!             let record = sheet.record_at(entry.path).expect("a path of this sheet");
+//!             (record, entry.name().to_string())
+//!         });
+//!         return Ok(Page::Faulty(faults.collect()));
+//!     }
+//!     match sheet.set() {
+//!         (Setting::Ended { .. }, marks) => Ok(Page::Set(marks)),
+//!         (Setting::Refused(refusal), _) => Err(refusal),
+//!         (Setting::Stopped { .. }, _) => unreachable!("the list is empty"),
+//!     }
+//! }
+//!
+//! /// Two numbered passes, the first of which is the seventh of the reel.
+//! fn passes(first: &str) -> Sheet {
+//!     let pass = |text| [Block::paragraph([Inline::text(text)])];
+//!     let items = [Item::new(pass(first)).number(7), Item::new(pass("timing"))];
+//!     Sheet::new(&[
+//!         Block::heading(2, [Inline::text("Reel 2")]),
+//!         Block::tight_list(Marker::PERIOD, items),
+//!     ])
+//! }
+//!
+//! // Heading, its text, list, item 7, its paragraph and text, item 8 ...
+//! let set = page(&passes("density"))?;
+//! assert_eq!(set, Page::Set(vec![2, 0, 0, 7, 0, 0, 8, 0, 0]));
+//!
+//! // A paragraph of nothing: record 4, under the first item.
+//! let faulty = page(&passes(""))?;
+//! let fault = (4, "empty paragraph".to_string());
+//! assert_eq!(faulty, Page::Faulty(vec![fault]));
+//! # Ok::<(), Refusal>(())
+//! ```
 
 #![deny(unsafe_code)]
 
@@ -60,12 +125,14 @@ mod answer;
 mod call;
 mod report;
 pub mod rules;
+mod setting;
 mod sheet;
 pub mod tree;
 
 pub use answer::{Answer, Refusal};
-pub use call::check_raw;
+pub use call::{check_raw, set_raw};
 pub use report::{Entries, Entry, Report};
+pub use setting::{Setting, Stop};
 pub use sheet::{listing, Sheet, RECORD_WORDS};
 
 /// How many words the first report of [`check_to_vec`] has.
@@ -87,6 +154,15 @@ pub fn check<'r>(
         Answer::Accepted { entries } => Ok(Entries::new(report, entries)),
         Answer::Refused(refusal) => Err(refusal),
     }
+}
+
+/// Sets a sheet with its text: opens its records in order and closes them
+/// innermost first, or stops. Each record that was opened has its mark at its
+/// own number, counted from 0; all other marks are as they were. It wants as
+/// many marks as there are records, or more.
+pub fn set(sheet: &[u32], text: &[u8], marks: &mut [u32]) -> Setting {
+    let answer = set_raw(sheet, text, marks);
+    Setting::of(answer).unwrap_or_else(|| panic!("{answer:#x} is no answer of the machine"))
 }
 
 /// Checks a sheet with its text, with a report that grows until the list has

@@ -5,8 +5,9 @@ use std::{collections::HashMap, fmt::Write};
 use crate::{
     check, check_to_vec,
     report::{Entries, Report},
+    set,
     tree::{Block, Node},
-    Refusal,
+    Refusal, Setting,
 };
 
 /// How many words a record has.
@@ -51,10 +52,8 @@ impl Sheet {
         let mut found = None;
         let mut records = 0..self.records();
         for (level, &index) in (1..).zip(path) {
-            let at = |record: &usize| {
-                let words = &self.words[record * RECORD_WORDS..];
-                is_counted(words[0]) && words[1] == level
-            };
+            let at =
+                |record: &usize| is_counted(self.kind(*record)) && self.level(*record) == level;
             let record = records.clone().filter(at).nth(index as usize)?;
             found = Some(record);
             records = record + 1..self.end(record);
@@ -62,11 +61,45 @@ impl Sheet {
         found
     }
 
+    /// The path of the block that a record is, or else stands in: where the
+    /// setting machine stops at the record, it stops in that block. None where
+    /// there is no such record.
+    pub fn block_path(&self, record: usize) -> Option<Vec<u32>> {
+        let first = Some(record).filter(|&record| record < self.records());
+        let around = std::iter::successors(first, |&record| self.parent(record));
+        let block = around.skip_while(|&record| !is_block(self.kind(record)));
+        let mut path: Vec<u32> = block.map(|record| self.index(record)).collect();
+        path.reverse();
+        first.map(|_| path)
+    }
+
+    /// The record that this one stands under.
+    fn parent(&self, record: usize) -> Option<usize> {
+        let mut earlier = (0..record).rev();
+        earlier.find(|&earlier| self.level(earlier) < self.level(record))
+    }
+
+    /// A record's own index in paths.
+    fn index(&self, record: usize) -> u32 {
+        let first = self.parent(record).map_or(0, |parent| parent + 1);
+        let is_before = |earlier: &usize| {
+            is_counted(self.kind(*earlier)) && self.level(*earlier) == self.level(record)
+        };
+        (first..record).filter(is_before).count() as u32
+    }
+
+    fn kind(&self, record: usize) -> u32 {
+        self.words[record * RECORD_WORDS]
+    }
+
+    fn level(&self, record: usize) -> u32 {
+        self.words[record * RECORD_WORDS + 1]
+    }
+
     /// Where the record and what is under it ends.
     fn end(&self, record: usize) -> usize {
-        let level = |record: usize| self.words[record * RECORD_WORDS + 1];
         let mut later = record + 1..self.records();
-        let next = later.find(|&later| level(later) <= level(record));
+        let next = later.find(|&later| self.level(later) <= self.level(record));
         next.unwrap_or(self.records())
     }
 
@@ -80,11 +113,28 @@ impl Sheet {
     pub fn check_into<'r>(&self, report: &'r mut [u32]) -> Result<Entries<'r>, Refusal> {
         check(&self.words, &self.text, report)
     }
+
+    /// Sets it, and gives a mark for each record; those of records that were
+    /// not opened are 0.
+    pub fn set(&self) -> (Setting, Vec<u32>) {
+        let mut marks = vec![0; self.records()];
+        let setting = self.set_into(&mut marks);
+        (setting, marks)
+    }
+
+    /// Sets it with marks that the caller has; see [`set`](crate::set()).
+    pub fn set_into(&self, marks: &mut [u32]) -> Setting {
+        set(&self.words, &self.text, marks)
+    }
+}
+
+fn is_block(kind: u32) -> bool {
+    matches!(kind, 1..=17)
 }
 
 /// Paths count blocks, items, rows and cells.
 fn is_counted(kind: u32) -> bool {
-    matches!(kind, 1..=17 | 20..=22)
+    is_block(kind) || matches!(kind, 20..=22)
 }
 
 #[derive(Default)]

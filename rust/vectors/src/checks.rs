@@ -1,8 +1,8 @@
-//! Whole checks: sheets with their texts and reports, what is answered, and
-//! what the report holds behind the call.
+//! Whole checks and settings: sheets with their texts, reports and marks, what
+//! both functions answer, and what report and marks hold behind the calls.
 //!
-//! Every rule occurs, and every refusal of a small sheet: long sheets (2) and
-//! long texts (3) are left to the differential run.
+//! Every rule occurs, every stop, and every refusal of a small sheet: long
+//! sheets (2) and long texts (3) are in `limits`.
 
 mod pages;
 
@@ -11,9 +11,9 @@ use std::collections::{BTreeMap, BTreeSet, HashSet};
 use cases::{
     damage,
     exhaustive::{beginnings, nothing, Spelling},
-    random, templates, Numbers, Sheet,
+    mend, random, templates, Numbers, Sheet,
 };
-use oracle::RECORD_WORDS;
+use oracle::{Run, RECORD_WORDS};
 
 use crate::{
     inlines::{self, entries},
@@ -21,24 +21,32 @@ use crate::{
     sheets,
 };
 
-/// No case has more records, text bytes or report words: the program that
-/// replays the cases has room for them.
+/// No case has more records, text bytes, report words or marks: the program
+/// that replays the cases has room for them.
 pub const MOST_RECORDS: usize = 64;
 pub const MOST_TEXT: usize = 256;
 pub const MOST_REPORT: usize = 512;
+pub const MOST_MARKS: usize = 72;
 
 /// About how many bytes the stored cases take.
-pub const MOST_BYTES: usize = 900_000;
+pub const MOST_BYTES: usize = 1_000_000;
 
-/// How many bytes of a stored case stand before its words: four counts and
-/// the answer.
-const HEAD: usize = 16;
+/// How many bytes of a stored case stand before its words: six counts and two
+/// answers.
+pub const HEAD: usize = 28;
 
-/// The group of the cases that a refusal gives is so much and its number.
-const REFUSED: u32 = 100;
+/// The group of the cases that a refusal of a check gives is so much and its
+/// number; and that of the machine's answer: its number, and so much.
+const CHECK_REFUSED: u32 = 100;
+const SETTING: u32 = 200;
 
-/// A sheet, its text, the length of the report, the answer, and the list that
-/// the report holds behind the call: nothing where the sheet is refused.
+/// How often one tree is mended at most.
+const MOST_MENDED: usize = 40;
+
+/// A sheet, its text; the length of the report, the check's answer, and the
+/// list that the report holds behind the call: nothing where the sheet is
+/// refused; the length of the marks, the machine's answer, and the marks that
+/// it writes, which are the first: nothing where it refuses.
 #[derive(Clone, PartialEq, Eq, Hash, Debug)]
 pub struct Case {
     pub words: Vec<u32>,
@@ -46,9 +54,13 @@ pub struct Case {
     pub report_words: usize,
     pub answer: u64,
     pub list: Vec<u32>,
+    pub marks_words: usize,
+    pub setting: u64,
+    pub marks: Vec<u32>,
 }
 
-/// How long the report is, seen from the list that it is for.
+/// How long the report is, seen from the list that it is for; or the marks,
+/// seen from the records.
 #[derive(Clone, Copy, Debug)]
 enum Room {
     /// With so many words more.
@@ -57,38 +69,56 @@ enum Room {
     Less(usize),
 }
 
+impl Room {
+    /// So many words for what needs `full`.
+    fn words(self, full: usize) -> usize {
+        match self {
+            Self::More(words) => full + words,
+            Self::Less(words) => full.saturating_sub(words),
+        }
+    }
+}
+
 impl Case {
     /// None where the case is too large.
-    fn new((words, text): Sheet, room: Room) -> Option<Self> {
+    fn new((words, text): Sheet, report: Room, marks: Room) -> Option<Self> {
         let (number, record) = oracle::refusal(&words, &text);
         let list = match number {
             0 => oracle::list(&words, &text),
             _ => Vec::new(),
         };
-        let report_words = match room {
-            Room::More(words) => list.len() + words,
-            Room::Less(words) => list.len().saturating_sub(words),
-        };
+        let report_words = report.words(list.len());
         let (number, low, list) = match number {
             0 if list.len() <= report_words => (0, entries(&list).count(), list),
             0 => (11, 0, Vec::new()),
             _ => (number, record, list),
         };
+        let marks_words = marks.words(words.len() / RECORD_WORDS);
+        let (setting, Run { marks, .. }) = oracle::set(&words, &text, marks_words);
         let fits = words.len() <= MOST_RECORDS * RECORD_WORDS
             && text.len() <= MOST_TEXT
-            && report_words <= MOST_REPORT;
+            && report_words <= MOST_REPORT
+            && marks_words <= MOST_MARKS;
         fits.then_some(Self {
             words,
             text,
             report_words,
             answer: u64::from(number) << 32 | low as u64,
             list,
+            marks_words,
+            setting,
+            marks,
         })
     }
 
-    /// The answer's number.
+    /// The number of the check's answer.
     fn number(&self) -> u32 {
         (self.answer >> 32) as u32
+    }
+
+    /// The number of the machine's answer.
+    fn set_number(&self) -> u32 {
+        (self.setting >> 32) as u32
     }
 
     /// The rules of its entries, in their order.
@@ -99,15 +129,18 @@ impl Case {
 
 impl Sampled for Case {
     fn size(&self) -> usize {
-        HEAD + 4 * self.words.len() + self.text.len() + 4 * self.list.len()
+        let words = self.words.len() + self.list.len() + self.marks.len();
+        HEAD + 4 * words + self.text.len()
     }
 
     fn groups(&self) -> BTreeSet<u32> {
-        match self.number() {
+        let mut groups: BTreeSet<u32> = match self.number() {
             0 if self.list.is_empty() => BTreeSet::from([0]),
             0 => self.rules().collect(),
-            number => BTreeSet::from([REFUSED + number]),
-        }
+            number => BTreeSet::from([CHECK_REFUSED + number]),
+        };
+        groups.insert(SETTING + self.set_number());
+        groups
     }
 }
 
@@ -120,7 +153,7 @@ pub fn count(cases: &[Case]) -> BTreeMap<u32, usize> {
     counts
 }
 
-/// A room for the report: exactly full, longer, one word short, or shorter.
+/// A room: exactly full, longer, one word short, or shorter.
 fn room(numbers: &mut Numbers) -> Room {
     match numbers.below(8) {
         0..=2 => Room::More(0),
@@ -134,7 +167,7 @@ fn room(numbers: &mut Numbers) -> Room {
 /// A case for each sheet that is not too large.
 fn with_rooms(seed: u64, sheets: impl IntoIterator<Item = Sheet>) -> Vec<Case> {
     let mut numbers = Numbers::new(seed);
-    let case = |sheet| Case::new(sheet, room(&mut numbers));
+    let case = |sheet| Case::new(sheet, room(&mut numbers), room(&mut numbers));
     sheets.into_iter().filter_map(case).collect()
 }
 
@@ -184,6 +217,23 @@ fn trees() -> Vec<Case> {
     with_rooms(2, (0..6000).map(tree))
 }
 
+/// Random trees with each stop of the machine mended in turn, up to the end.
+fn mended() -> Vec<Case> {
+    let mut sheets = Vec::new();
+    for seed in 0..2000 {
+        let mut numbers = Numbers::new(!seed);
+        let mut sheet = random::tree(seed, 4 + (seed % 9) as usize);
+        for _ in 0..MOST_MENDED {
+            let Some(stop) = Run::of(&sheet.0, &sheet.1).stop else {
+                break;
+            };
+            sheet = mend::mended(&mut numbers, sheet, stop.number, stop.record);
+            sheets.push(sheet.clone());
+        }
+    }
+    with_rooms(6, sheets)
+}
+
 /// Random trees with something done to them.
 fn damaged() -> Vec<Case> {
     let tree = |seed: u64| {
@@ -208,6 +258,7 @@ pub fn cases() -> Vec<Case> {
         small(),
         damaged(),
         trees(),
+        mended(),
     ];
     let pool = shuffled(pool.concat());
     for (numbers, part) in [(1..=10, 20), (11..=11, 10), (0..=0, 70)] {
@@ -223,6 +274,7 @@ pub fn cases() -> Vec<Case> {
 #[cfg(test)]
 mod tests {
     use super::*;
+    use oracle::REFUSED;
     use std::sync::LazyLock;
 
     /// The stored cases, made once for all tests.
@@ -237,6 +289,7 @@ mod tests {
             assert!(case.words.len() <= MOST_RECORDS * RECORD_WORDS);
             assert!(case.text.len() <= MOST_TEXT && case.report_words <= MOST_REPORT);
             assert!(case.list.len() <= case.report_words);
+            assert!(case.marks_words <= MOST_MARKS && case.marks.len() <= case.marks_words);
         }
     }
 
@@ -253,6 +306,21 @@ mod tests {
             let small = number != 2 && number != 3;
             assert_eq!(count >= 40, small, "{numbers:?}");
         }
+    }
+
+    #[test]
+    fn every_stop_and_refusal_of_the_machine_occurs() {
+        let mut counts = BTreeMap::new();
+        for case in &*CASES {
+            *counts.entry(case.set_number()).or_insert(0) += 1;
+        }
+        let refusals = [1, 4, 5, 6, 7, 8, 9, 10, 12].map(|number| REFUSED + number);
+        assert!(counts.keys().copied().eq((0..=14).chain(refusals)));
+        assert!(counts.values().all(|&count| count >= 20), "{counts:?}");
+        // Marks that are written: of headings, cells and items.
+        let marks = CASES.iter().flat_map(|case| &case.marks);
+        assert!(marks.clone().filter(|&&mark| mark > 0).count() >= 300);
+        assert!(marks.clone().any(|&mark| mark == 1_000_000_000));
     }
 
     #[test]

@@ -5,6 +5,7 @@ use std::collections::{BTreeMap, HashSet};
 use crate::{
     checks, inlines,
     leaves::answers,
+    limits::{self, Function},
     sheets,
     texts::{self, strings},
 };
@@ -64,6 +65,8 @@ pub fn all() -> Vec<File> {
         sheets(),
         inlines(),
         checks(),
+        limits("long_checks", Function::Check),
+        limits("long_sets", Function::Set),
     ];
     text_files().into_iter().chain(others).collect()
 }
@@ -243,9 +246,10 @@ fn inlines() -> File {
     file
 }
 
-/// How many words (2 bytes), how many text bytes (2), how many words of the
-/// list (2), how many words of the report (2), the answer (8), the words (4
-/// bytes each), the text, the list (4 bytes each).
+/// How many words, text bytes, words of the list, words of the report, marks
+/// that are written, marks (2 bytes each), the check's answer, the machine's (8
+/// bytes each), the words (4 bytes each), the text, the list, the marks that
+/// are written (4 bytes each).
 fn checks() -> File {
     let mut file = File::new("checks");
     let cases = checks::cases();
@@ -255,13 +259,37 @@ fn checks() -> File {
             &count(case.text.len()),
             &count(case.list.len()),
             &count(case.report_words),
+            &count(case.marks.len()),
+            &count(case.marks_words),
             &case.answer.to_le_bytes(),
+            &case.setting.to_le_bytes(),
             &bytes(&case.words),
             &case.text,
             &bytes(&case.list),
+            &bytes(&case.marks),
         ]);
     }
     file.entries = checks::count(&cases);
+    file
+}
+
+/// The function (0 check, 1 set), words of the sheet, bytes of the text, words
+/// lent to be written into, bytes of those that are written (4 bytes each), the
+/// answer (8).
+fn limits(name: &'static str, function: Function) -> File {
+    let mut file = File::new(name);
+    let cases = limits::cases();
+    for case in cases.iter().filter(|case| case.function == function) {
+        let sizes = [
+            function as usize,
+            case.sheet_words,
+            case.text_bytes,
+            case.lent_words,
+            4 * case.written,
+        ];
+        let sizes = sizes.map(|size| u32::try_from(size).expect("sizes are words"));
+        file.record(&[&bytes(&sizes), &case.answer.to_le_bytes()]);
+    }
     file
 }
 
@@ -282,8 +310,8 @@ mod tests {
         }
     }
 
-    /// Reading the checks back gives what a check does to its report, and
-    /// ends at its end.
+    /// Reading the checks back gives what a check does to its report and the
+    /// machine to its marks, and ends at its end.
     #[test]
     fn checks_read_back() {
         let file = checks();
@@ -294,18 +322,20 @@ mod tests {
         let mut rest = &file.bytes[..];
         let mut records = 0;
         while !rest.is_empty() {
-            let (head, after) = rest.split_at(16);
+            let (head, after) = rest.split_at(checks::HEAD);
             let size = |at| usize::from(u16::from_le_bytes([head[at], head[at + 1]]));
-            let answer = u64::from_le_bytes(head[8..].try_into().unwrap());
+            let answer = |at: usize| u64::from_le_bytes(head[at..at + 8].try_into().unwrap());
             let (sheet, after) = after.split_at(4 * size(0));
             let (text, after) = after.split_at(size(2));
             let (list, after) = after.split_at(4 * size(4));
+            let (written, after) = after.split_at(4 * size(8));
             let mut report = vec![BEFORE; size(6)];
-            let found = check(&words(sheet), text, &mut report);
-            assert_eq!(found, answer);
+            assert_eq!(check(&words(sheet), text, &mut report), answer(12));
             let (front, behind) = report.split_at(size(4));
             assert_eq!(front, words(list));
             assert!(behind.iter().all(|&word| word == BEFORE));
+            let (setting, run) = oracle::set(&words(sheet), text, size(10));
+            assert_eq!((setting, run.marks), (answer(20), words(written)));
             records += 1;
             rest = after;
         }

@@ -1,7 +1,8 @@
 //! Writes the stored answers of the Rust reference for the text leaves, the
 //! inline walk and whole checks, and of a plain reading of document 01 for the
-//! refusals, of Reedsander, the checker of grade notes: `vectors CRATES`. Each
-//! file goes to the data of the program in that folder that replays it.
+//! refusals and the setting machine, of Reedsander, the checker of grade notes:
+//! `vectors CRATES`. Each file goes to the data of the program in that folder
+//! that replays it.
 //!
 //! The text files `utf8`, `white`, `lines`, `names` and `pipes` hold records
 //! of a length n (1 byte), a mask (2 bytes), answers (2 bytes) and n bytes of
@@ -10,15 +11,25 @@
 //! files `pairs`, `punctuation`, `parts`, `sheets` and `inlines` are described
 //! in `files`.
 //!
-//! The file `checks` holds records of four counts (2 bytes each): words of
-//! the sheet, bytes of the text, words of the list, words of the report; then
-//! the answer (8 bytes), the sheet's words (4 bytes each), the text, the
-//! list's words (4 bytes each). Before the call every word of the report is
-//! `files::BEFORE`, A5A5A5A5 hexadecimal. Behind it the report's first words
-//! are the list, and all others are as before; a refusal's list has no words,
-//! so its whole report is as before. A sheet has at most 64 records (768
-//! words), a text 256 bytes, a report 512 words: a record's first 16 bytes say
-//! how many follow, at most 5,376. All numbers are little-endian.
+//! The file `checks` holds records of six counts (2 bytes each): words of the
+//! sheet, bytes of the text, words of the list, words of the report, marks
+//! that are written, marks; then the check's answer and the setting machine's
+//! (8 bytes each), the sheet's words (4 bytes each), the text, the list's words
+//! and the marks that are written (4 bytes each). Before the calls every word
+//! of the report and every mark is `files::BEFORE`, A5A5A5A5 hexadecimal.
+//! Behind them the report's first words are the list, and all others are as
+//! before; so with the marks. A refusal writes nothing, so its whole report, or
+//! its marks, are as before. A sheet has at most 64 records (768 words), a text
+//! 256 bytes, a report 512 words, and there are at most 72 marks: a record's
+//! first 28 bytes say how many follow, at most 5,632.
+//!
+//! The files `long_checks` and `long_sets` hold cases of the function (0 the
+//! check, 1 the setting machine), words of the sheet, bytes of the text, words lent to be written
+//! into, and how many bytes of those are 0 behind the call (4 bytes each); then
+//! the answer (8 bytes). The sheet is as many words of thematic breaks at level
+//! 1, the text as many zeros. Every word lent is `files::BEFORE` before the
+//! call, and those past what is written behind it too. All numbers are
+//! little-endian.
 
 #![forbid(unsafe_code)]
 
@@ -26,6 +37,7 @@ mod checks;
 mod files;
 mod inlines;
 mod leaves;
+mod limits;
 mod sample;
 mod sheets;
 mod texts;
@@ -71,7 +83,7 @@ fn write(crates: &Path) -> std::io::Result<()> {
 /// The program that replays a file.
 fn program(file: &str) -> &'static str {
     match file {
-        "checks" => "recheck",
+        "checks" | "long_checks" | "long_sets" => "recheck",
         _ => "replay",
     }
 }

@@ -5,10 +5,10 @@ use Rattle.recheck.proofs.replay.Statement.{statement}
 use Rattle.recheck.proofs.replay.Tie as tie
 
 abbrev Inv-loop : tie.InvT-loop
-Inv-loop fd tally₀ k₀ tally k = Unit
+Inv-loop fd sheet text tally₀ k₀ tally k = Unit
 
 abbrev μ-loop : tie.MeasureT-loop
-μ-loop fd tally₀ k₀ tally k = 0x100000 - k
+μ-loop fd sheet text tally₀ k₀ tally k = 0x100000 - k
 
 pub replay-spec : {M : Type 1} → statement M
 replay-spec =

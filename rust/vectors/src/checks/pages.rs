@@ -553,9 +553,9 @@ fn refused() -> Vec<Sheet> {
     sheets
 }
 
-/// Every case: each page on its own with a report exactly full, in a quote
-/// with a longer one, and in an item with one that is a word short; where
-/// that is not too large.
+/// Every case: each page on its own with a report and marks exactly full, in
+/// a quote with longer ones, and in an item with a report that is a word
+/// short; where that is not too large.
 pub fn all() -> Vec<Case> {
     let pages = [
         proved(),
@@ -577,17 +577,26 @@ pub fn all() -> Vec<Case> {
     for (seed, page) in (0..).zip(pages.concat()) {
         let in_quote = [words(), quote(page.clone())];
         let in_item = [tight([item([]), item(page.clone())])];
-        cases.extend(Case::new(sheet(3 * seed, &page), Room::More(0)));
-        cases.extend(Case::new(sheet(3 * seed + 1, &in_quote), Room::More(3)));
-        cases.extend(Case::new(sheet(3 * seed + 2, &in_item), Room::Less(1)));
+        let sheets = [
+            sheet(3 * seed, &page),
+            sheet(3 * seed + 1, &in_quote),
+            sheet(3 * seed + 2, &in_item),
+        ];
+        let rooms = [
+            (Room::More(0), Room::More(0)),
+            (Room::More(3), Room::More(2)),
+            (Room::Less(1), Room::More(0)),
+        ];
+        let made = |(sheet, (report, marks))| Case::new(sheet, report, marks);
+        cases.extend(sheets.into_iter().zip(rooms).filter_map(made));
     }
     for (seed, page) in (1000..).zip(deep()) {
         let sheet = sheet(seed, &page);
-        cases.extend(Case::new(sheet.clone(), Room::More(0)));
-        cases.extend(Case::new(sheet, Room::Less(1)));
+        cases.extend(Case::new(sheet.clone(), Room::More(0), Room::Less(1)));
+        cases.extend(Case::new(sheet, Room::Less(1), Room::More(0)));
     }
-    let refused = refused().into_iter();
-    cases.extend(refused.filter_map(|sheet| Case::new(sheet, Room::More(5))));
+    let made = |sheet| Case::new(sheet, Room::More(5), Room::More(1));
+    cases.extend(refused().into_iter().filter_map(made));
     cases
 }
 
@@ -597,7 +606,7 @@ mod tests {
     use std::collections::BTreeSet;
 
     fn rules(page: &[Tree]) -> Vec<u32> {
-        let case = Case::new(sheet(0, page), Room::More(0)).unwrap();
+        let case = Case::new(sheet(0, page), Room::More(0), Room::More(0)).unwrap();
         assert_eq!(case.number(), 0);
         case.rules().collect()
     }

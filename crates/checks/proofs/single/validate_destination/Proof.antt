@@ -1,13 +1,17 @@
 -- `checks::single::validate_destination` meets its contract.
-use Rattle.checks.proofs.SingleLaws.{single}
+use borrow.Author.Needs.{needs}
+use Rattle.checks.proofs.SingleLaws.{destination-law}
 use Rattle.checks.proofs.single.validate_destination.Statement.{statement}
 use Rattle.checks.proofs.single.validate_destination.Tie as tie
+
+returns : tie.Need-returns
+returns c = destination-law _ _ _ _ (c .before .before .before .before .is-empty .ensures) (c .before .before .list-if .ensures)
 
 pub validate-destination-spec : {M : Type 1} → statement M
 validate-destination-spec =
     tie.close
     (tie.spec
-    (λ c κs. search single)
-    (λ c κs. search single)
-    (λ c. search single)
-    (λ c. search single))
+    (λ c κs. search needs)
+    (λ c κs. search needs)
+    (λ c. search needs)
+    returns)

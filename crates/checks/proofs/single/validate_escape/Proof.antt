@@ -1,13 +1,17 @@
 -- `checks::single::validate_escape` meets its contract.
-use Rattle.checks.proofs.SingleLaws.{single}
+use borrow.Author.Needs.{needs}
+use Rattle.checks.proofs.SingleLaws.{escape-law}
 use Rattle.checks.proofs.single.validate_escape.Statement.{statement}
 use Rattle.checks.proofs.single.validate_escape.Tie as tie
+
+returns : tie.Need-returns
+returns c = escape-law _ _ _ (c .before .before .before .before .is-ascii-punctuation .ensures) (c .before .before .list-if .ensures)
 
 pub validate-escape-spec : {M : Type 1} → statement M
 validate-escape-spec =
     tie.close
     (tie.spec
-    (λ c κs. search single)
-    (λ c κs. search single)
-    (λ c. search single)
-    (λ c. search single))
+    (λ c κs. search needs)
+    (λ c κs. search needs)
+    (λ c. search needs)
+    returns)

@@ -4,7 +4,7 @@ use Rattle.facts.proofs.values.is_empty_text.Statement.{statement}
 use Rattle.facts.proofs.values.is_empty_text.Tie as tie
 
 returns : tie.Need-returns
-returns c = cc
+returns c = rw (c .is-empty .ensures)
 
 pub is-empty-text-spec : {M : Type 1} → statement M
 is-empty-text-spec =

@@ -4,7 +4,7 @@ use Rattle.facts.proofs.values.only_if.Statement.{statement}
 use Rattle.facts.proofs.values.only_if.Tie as tie
 
 returns-2 : tie.Need-returns-2
-returns-2 c = cc
+returns-2 c = rw (c .if1 .left)
 
 pub only-if-spec : {M : Type 1} → statement M
 only-if-spec =

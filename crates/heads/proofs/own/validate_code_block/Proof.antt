@@ -1,5 +1,6 @@
 -- `heads::own::validate_code_block` meets its contract.
-use Rattle.heads.proofs.HeadLaws.{heads, code-block-law}
+use borrow.Author.Needs.{needs}
+use Rattle.heads.proofs.HeadLaws.{code-block-law}
 use Rattle.heads.proofs.own.validate_code_block.Statement.{statement}
 use Rattle.heads.proofs.own.validate_code_block.Tie as tie
 
@@ -10,10 +11,10 @@ pub validate-code-block-spec : {M : Type 1} → statement M
 validate-code-block-spec =
     tie.close
     (tie.spec
-    (λ c κs. search heads)
-    (λ c κs. search heads)
-    (λ c κs. search heads)
-    (λ c κs. search heads)
-    (λ c κs. search heads)
-    (λ c. search heads)
+    (λ c κs. search needs)
+    (λ c κs. search needs)
+    (λ c κs. search needs)
+    (λ c κs. search needs)
+    (λ c κs. search needs)
+    (λ c. search needs)
     returns)

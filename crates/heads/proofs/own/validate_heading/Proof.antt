@@ -1,12 +1,16 @@
 -- `heads::own::validate_heading` meets its contract.
-use Rattle.heads.proofs.HeadLaws.{heads}
+use borrow.Author.Needs.{needs}
+use Rattle.heads.proofs.HeadLaws.{heading-law}
 use Rattle.heads.proofs.own.validate_heading.Statement.{statement}
 use Rattle.heads.proofs.own.validate_heading.Tie as tie
+
+returns : tie.Need-returns
+returns c = heading-law _ _ _ (c .before .before .list-if .ensures)
 
 pub validate-heading-spec : {M : Type 1} → statement M
 validate-heading-spec =
     tie.close
     (tie.spec
-    (λ c κs. search heads)
-    (λ c. search heads)
-    (λ c. search heads))
+    (λ c κs. search needs)
+    (λ c. search needs)
+    returns)

@@ -1,5 +1,5 @@
 -- `leaves::math::holds_backtick_dollar` meets its contract.
-use Rattle.leaves.proofs.Tests.{tests}
+use Rattle.leaves.proofs.Tests.{tests, ticks-end, ticks-one, ticks-stop, ticks-two}
 use Prim.Native.Nat.{_-_}
 use Rattle.strings.proofs.Scan.{At}
 use Rattle.leaves.specs.Math.{holdsBacktickDollar}
@@ -13,6 +13,18 @@ Inv-loop s i₀ i = At (holdsBacktickDollar s) holdsBacktickDollar s i
 abbrev μ-loop : tie.MeasureT-loop
 μ-loop s i₀ i = length s - i
 
+loop-again : tie.Need-loop-again Inv-loop μ-loop
+loop-again c = ticks-one _ _ (c .before .before .before .loop .inv) (search tests) (c .if1 .taken)
+
+returns : tie.Need-returns Inv-loop μ-loop
+returns c = ticks-stop _ _ (c .before .before .before .before .before .loop .inv) (search tests) (c .if2 .taken)
+
+loop-again-2 : tie.Need-loop-again-2 Inv-loop μ-loop
+loop-again-2 c = ticks-two _ _ (c .before .before .before .before .before .loop .inv) (search tests) (c .before .before .if1 .left) (c .if2 .left)
+
+returns-2 : tie.Need-returns-2 Inv-loop μ-loop
+returns-2 c = ticks-end _ _ (c .before .loop .inv) (search tests)
+
 pub holds-backtick-dollar-spec : {M : Type 1} → statement M
 holds-backtick-dollar-spec =
     tie.close
@@ -25,10 +37,10 @@ holds-backtick-dollar-spec =
     (λ c. search tests)
     (λ c. search tests)
     (λ c. search tests)
+    loop-again
+    (λ c. search tests)
+    returns
     (λ c. search tests)
     (λ c. search tests)
-    (λ c. search tests)
-    (λ c. search tests)
-    (λ c. search tests)
-    (λ c. search tests)
-    (λ c. search tests))
+    loop-again-2
+    returns-2)

@@ -1,19 +1,21 @@
 -- `prose::paragraphs::all_empty` meets its contract.
 use Prim.Native.Nat.{_-_}
-use Rattle.prose.proofs.ParagraphLaws.{Emptying, emptying-start, emptying-end, emptying-out, emptying-stop, emptying-turn}
+use Rattle.prose.proofs.ParagraphLaws.{emptying-end, emptying-out, emptying-stop, emptying-turn}
+use Rattle.inlines.specs.Inlines.{allEmpty}
+use Rattle.walks.proofs.DecideLaws.{Deciding, deciding-start}
 use Rattle.walks.proofs.WalkLaws.{skip-down}
 use borrow.Author.Needs.{needs}
 use Rattle.prose.proofs.paragraphs.all_empty.Statement.{statement}
 use Rattle.prose.proofs.paragraphs.all_empty.Tie as tie
 
 abbrev Inv-loop : tie.InvT-loop
-Inv-loop sheet n from level i₀ i = Emptying sheet n «from» level i
+Inv-loop sheet n from level i₀ i = Deciding allEmpty sheet n «from» level i
 
 abbrev μ-loop : tie.MeasureT-loop
 μ-loop sheet n from level i₀ i = n - i
 
 loop-holds : tie.Need-loop-holds Inv-loop μ-loop
-loop-holds c = emptying-start _ _ _ _ (search needs)
+loop-holds c = deciding-start _ _ _ _ _ (search needs)
 
 returns : tie.Need-returns Inv-loop μ-loop
 returns c = emptying-out _ _ _ _ (c .before .before .before .before .loop .inv) (search needs) (c .before .before .record-at .ensures) (c .if1 .taken)

@@ -6,7 +6,7 @@ use Rattle.stops.proofs.kept.joined.Tie as tie
 
 returns : tie.Need-returns
 unfolding joinedBy
-returns c = cc
+returns c = rw (c .before .before .before .before .is-break .ensures, c .before .before .before .next-marker .ensures, c .before .before .is-empty-text .ensures, c .item-mark .ensures)
 
 pub joined-spec : {M : Type 1} → statement M
 joined-spec =

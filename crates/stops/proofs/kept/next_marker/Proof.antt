@@ -4,7 +4,7 @@ use Rattle.stops.proofs.kept.next_marker.Statement.{statement}
 use Rattle.stops.proofs.kept.next_marker.Tie as tie
 
 returns : tie.Need-returns
-returns c = cc
+returns c = rw (c .pick2 .ensures, c .before .before .pick .ensures, c .before .before .before .written-marker .ensures)
 
 pub next-marker-spec : {M : Type 1} → statement M
 next-marker-spec =

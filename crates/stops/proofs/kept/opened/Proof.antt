@@ -6,7 +6,7 @@ use Rattle.stops.proofs.kept.opened.Tie as tie
 
 returns : tie.Need-returns
 unfolding openedIn
-returns c = cc
+returns c = rw (c .before .before .before .before .before .before .pick .ensures, c .before .before .before .before .pick2 .ensures, c .before .before .before .before .before .is-inline .ensures)
 
 pub opened-spec : {M : Type 1} → statement M
 opened-spec =

@@ -6,7 +6,7 @@ use Rattle.stops.proofs.tests.closing_stop.Tie as tie
 
 returns : tie.Need-returns
 unfolding closingTests
-returns c = cc
+returns c = rw (c .pick4 .ensures, c .before .pick3 .ensures, c .before .before .pick2 .ensures, c .before .before .before .pick .ensures, c .before .before .before .before .before .is-emphasis-container .ensures)
 
 pub closing-stop-spec : {M : Type 1} → statement M
 closing-stop-spec =

@@ -6,7 +6,7 @@ use Rattle.stops.proofs.tests.mark_of.Tie as tie
 
 returns : tie.Need-returns
 unfolding markOf
-returns c = cc
+returns c = rw (c .pick3 .ensures, c .before .before .pick2 .ensures, c .before .before .before .before .before .pick .ensures, c .before .before .before .before .before .before .item-mark .ensures)
 
 pub mark-of-spec : {M : Type 1} → statement M
 mark-of-spec =

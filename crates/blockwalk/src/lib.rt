@@ -1,0 +1,2 @@
+// The block walk, up to the whole list.
+pub mod walk;

@@ -1,0 +1,2 @@
+// What an inline is by its kind.
+pub mod class;

@@ -1,0 +1,2 @@
+// The rules that ask at every depth.
+pub mod every;

@@ -1,0 +1,2 @@
+// What one inline reports by its own values.
+pub mod values;

@@ -1,0 +1,2 @@
+// What a list reports of itself by what it holds.
+pub mod list;

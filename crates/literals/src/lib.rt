@@ -1,0 +1,2 @@
+// What text, code and math report by their values.
+pub mod literal;

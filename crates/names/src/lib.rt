@@ -1,0 +1,2 @@
+// Names of directives and attributes, and identifiers.
+pub mod name;

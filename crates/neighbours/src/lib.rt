@@ -1,0 +1,2 @@
+// What a block reports by the block before it.
+pub mod taken;

@@ -1,0 +1,2 @@
+// What an item reports by its number.
+pub mod number;

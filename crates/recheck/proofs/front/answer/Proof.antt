@@ -1,0 +1,26 @@
+-- `recheck::front::answer` meets its contract.
+use lib.ListN.{length-take}
+use native.Mathlib.Omega.{arith}
+use borrow.Author.Needs.{needs}
+use Rattle.recheck.proofs.front.answer.Statement.{statement}
+use Rattle.recheck.proofs.front.answer.Tie as tie
+
+slice-aggregate-call : tie.Need-slice-aggregate-call
+slice-aggregate-call c = simp length-take (omega arith)
+
+slice-aggregate-call-2 : tie.Need-slice-aggregate-call-2
+slice-aggregate-call-2 c = simp length-take (omega arith)
+
+pub answer-spec : {M : Type 1} → statement M
+answer-spec =
+    tie.close
+    (tie.spec
+    (λ c. search needs)
+    (λ c. search needs)
+    (λ c. search needs)
+    slice-aggregate-call
+    (λ c. search needs)
+    slice-aggregate-call-2
+    (λ c κs. search needs)
+    (λ c. search needs)
+    (λ c. search needs))

@@ -1,0 +1,38 @@
+// The exported functions by number, on the front of what is lent.
+use reedsander::exports::reedsander_check;
+use reedsander::exports::reedsander_set;
+
+pub const CHECK: usize = 0;
+
+pub const SET: usize = 1;
+
+// No answer of either.
+const NONE: u64 = 0xFFFF_FFFF_FFFF_FFFF;
+
+fn call(function: usize, sheet: &[u32], text: &[u8], lent: &mut [u32]) -> u64 {
+    if function == CHECK {
+        return reedsander_check(sheet, text, lent);
+    }
+    reedsander_set(sheet, text, lent)
+}
+
+// The answer for the first `n` words as the sheet and the first `m` as the report or the marks; none where there are fewer, or for another function.
+pub fn answer(
+    function: usize,
+    words: &[u32],
+    n: usize,
+    text: &[u8],
+    lent: &mut [u32],
+    m: usize,
+) -> u64 {
+    if SET < function {
+        return NONE;
+    }
+    if words.len() < n {
+        return NONE;
+    }
+    if lent.len() < m {
+        return NONE;
+    }
+    call(function, &words[..n], text, &mut lent[..m])
+}
