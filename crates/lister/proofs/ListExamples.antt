@@ -12,9 +12,10 @@ use Rattle.form.specs.Fields.{mostA, mostB, mostC, hasFirst, hasSecond, badText
 use Rattle.refusal.specs.Refusal.{levelBefore, badLevel, judgeTexts, judge, judgeAt, orElse, judgeFrom, lacksTags, tagsFrom, judgeSheet}
 use Rattle.report.specs.Report.{words, flat, listIf, _⊕_}
 use Rattle.inlines.specs.Inlines.{finalBreak, finalBreakAfter, noInline, validateInlineNodes, validateInlineNodesAfter, validateInlines}
-use Rattle.heads.specs.Heads.{takesIndentedCode, validateHeading, validateTakenBlock, writtenMarker}
+use Rattle.heads.specs.Heads.{validateHeading}
+use Rattle.neighbours.specs.Taken.{takesIndentedCode, validateTakenBlock, writtenMarker, beforeNext}
 use Rattle.oneblock.specs.OneBlock.{holdsBlocks, validateContainer, validateLeaf, validateOwn}
-use Rattle.blocks.specs.Blocks.{beforeNext, validateBlock, validateBlocks, validateDocument, validateItem, validateItems}
+use Rattle.blocks.specs.Blocks.{validateBlock, validateBlocks, validateDocument, validateItem, validateItems}
 use Rattle.checker.specs.Check.{outcome}
 use Rattle.machine.specs.Machine.{closings, remain, stepsFrom, stepsOf, columns, nearest, inLink, behindList, onlyEmpty, openingTests, closingTests, stopOf, position, pathOf, blockPath, outcomeOf, answerStop, answerRecord, outcome as runOutcome, lastMark}
 use Rattle.columns.specs.Field.{front, field, pastSpaces, readDigits, readNumber, readField}
