@@ -34,7 +34,7 @@ fn with_counts(counts: [u32; 2], (words, text): (&[u32], &[u8])) -> Vec<u8> {
 const BYTES: [u8; 24] = *b"0123456789  \n\r\t+-.x,\0\x0b\x80\xff";
 
 /// Fields that are not good, and some that are.
-const FIELDS: [&str; 20] = [
+pub const FIELDS: [&str; 20] = [
     "          0",
     " 4294967295",
     " 4294967296",
