@@ -199,7 +199,8 @@ mod tests {
         let report = Report::new(WORDS.to_vec(), 2);
         assert_eq!((report.len(), report.words()), (2, &WORDS[..13]));
         assert!(!report.is_empty());
-        let lines = "rule 10 (heading depth) at 7\nrule 19 (table: row width) at 3/1, bytes 4 to 9\n";
+        let lines =
+            "rule 10 (heading depth) at 7\nrule 19 (table: row width) at 3/1, bytes 4 to 9\n";
         assert_eq!(report.to_string(), lines);
         let rules: Vec<u32> = report.into_iter().map(|entry| entry.rule).collect();
         assert_eq!(rules, [10, 19]);
