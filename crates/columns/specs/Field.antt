@@ -1,6 +1,6 @@
 -- A field of the program's lines, as it is written and as it is read.
 -- Document 01: "Fields are decimal, at most 4,294,967,295, right-justified in 11 places, no leading zeros".
--- That the two are one is `field-read` in proofs/FieldLaws.antt: what is read as a number is just what that number is written as, and what no number is written as is malformed.
+-- That the two are one is `written-read`, `read-written` and `malformed-unwritten` in proofs/FieldReadLaws.antt: what is read as a number is just what that number is written as, and what no number is written as is malformed.
 use Prim.Native.Nat.{ℕ, zero, suc, _+_, _-_, _*_, _/_, _%_}
 use mathlib.Core.Bool.{_&&_, _||_}
 use mathlib.Core.List.{List, [], _∷_, _++_}
