@@ -34,7 +34,7 @@ fn with_counts(counts: [u32; 2], (words, text): (&[u32], &[u8])) -> Vec<u8> {
 const BYTES: [u8; 24] = *b"0123456789  \n\r\t+-.x,\0\x0b\x80\xff";
 
 /// Fields that are not good, and some that are.
-const FIELDS: [&str; 20] = [
+pub const FIELDS: [&str; 20] = [
     "          0",
     " 4294967295",
     " 4294967296",
@@ -154,6 +154,13 @@ fn headings(count: usize) -> Vec<Record> {
     quotes.chain(vec![plain(2, 11); count]).collect()
 }
 
+/// The same with 255 of them and, in one quote more, another: its entry has 17
+/// words, so that the list has 4,097.
+fn one_word_more() -> Vec<Record> {
+    let last = [plain(4, 11), plain(2, 12)];
+    [&headings(255)[..], &last].concat()
+}
+
 /// So many headings of depth 0 behind each other: each has an entry of 6 words.
 fn flat(count: usize) -> Vec<Record> {
     vec![plain(2, 1); count]
@@ -182,6 +189,7 @@ pub fn limits() -> Vec<(&'static str, Vec<u8>)> {
         ("largest counts", with_counts(large, (&[], b""))),
         ("most entries of a line", of(&flat(MOST_RECORDS), 0)),
         ("full report", of(&headings(256), 0)),
+        ("a word too many", of(&one_word_more(), 0)),
         ("an entry too many", of(&headings(257), 0)),
         ("most faults", of(&headings(502), 0)),
     ]

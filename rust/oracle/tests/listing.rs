@@ -206,4 +206,13 @@ fn full_report() {
     assert!(full.ends_with(&ending));
     assert_eq!(full.len(), 256 * 177 + 34);
     assert_eq!(listed(&headings(257)), SHORT_REPORT);
+    // 255 entries of 16 words and one of 17: a word too many.
+    let (quotes, longer) = ((1..=10).map(|level| plain(4, level)), plain(2, 12));
+    let records: Vec<Record> = quotes
+        .chain(vec![plain(2, 11); 255])
+        .chain([plain(4, 11), longer])
+        .collect();
+    assert_eq!(listed(&film(&records, "")), SHORT_REPORT);
+    let one_less = listed(&film(&records[..records.len() - 1], ""));
+    assert!(one_less.ends_with(&line(&[255, 6, 10])));
 }

@@ -3,14 +3,14 @@
 use std::collections::{BTreeMap, HashSet};
 
 use crate::{
-    checks, inlines,
+    checks, films, inlines,
     leaves::answers,
     limits::{self, Function},
     sheets,
     texts::{self, strings},
 };
 
-/// No file but `checks` is longer: the program that replays them reads so
+/// No file but `checks` and `films` is longer: the program that replays them reads so
 /// many bytes.
 const LONGEST: usize = 262_144;
 
@@ -43,6 +43,7 @@ impl File {
     pub fn longest(&self) -> usize {
         match self.name {
             "checks" => checks::MOST_BYTES,
+            "films" => films::MOST_BYTES,
             _ => LONGEST,
         }
     }
@@ -67,6 +68,7 @@ pub fn all() -> Vec<File> {
         checks(),
         limits("long_checks", Function::Check),
         limits("long_sets", Function::Set),
+        films(),
     ];
     text_files().into_iter().chain(others).collect()
 }
@@ -293,9 +295,42 @@ fn limits(name: &'static str, function: Function) -> File {
     file
 }
 
+/// How many bytes the film has, how many are printed for it (4 bytes each),
+/// the film, what is printed.
+fn films() -> File {
+    let mut file = File::new("films");
+    let cases = films::cases();
+    for case in &cases {
+        let sizes = [case.input.len(), case.output.len()];
+        let sizes = sizes.map(|size| u32::try_from(size).expect("sizes are words"));
+        file.record(&[&bytes(&sizes), &case.input, &case.output]);
+    }
+    file.entries = films::count(&cases);
+    file
+}
+
 #[cfg(test)]
 mod tests {
     use super::*;
+
+    /// Reading the films back gives what is printed for each, and ends at the
+    /// file's end.
+    #[test]
+    fn films_read_back() {
+        let file = films();
+        let mut rest = &file.bytes[..];
+        let mut records = 0;
+        while !rest.is_empty() {
+            let (head, after) = rest.split_at(films::HEAD);
+            let size = |at: usize| u32::from_le_bytes(head[at..at + 4].try_into().unwrap());
+            let (input, after) = after.split_at(size(0) as usize);
+            let (output, after) = after.split_at(size(4) as usize);
+            assert_eq!(oracle::listing(input), output);
+            records += 1;
+            rest = after;
+        }
+        assert_eq!(records, file.records);
+    }
 
     #[test]
     fn always_the_same_bytes() {

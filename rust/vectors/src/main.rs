@@ -1,6 +1,6 @@
 //! Writes the stored answers of the Rust reference for the text leaves, the
 //! inline walk and whole checks, and of a plain reading of document 01 for the
-//! refusals and the setting machine, of Reedsander, the checker of grade notes:
+//! refusals, the setting machine and the listing program, of Reedsander, the checker of grade notes:
 //! `vectors CRATES`. Each file goes to the data of the program in that folder
 //! that replays it.
 //!
@@ -28,13 +28,19 @@
 //! into, and how many bytes of those are 0 behind the call (4 bytes each); then
 //! the answer (8 bytes). The sheet is as many words of thematic breaks at level
 //! 1, the text as many zeros. Every word lent is `files::BEFORE` before the
-//! call, and those past what is written behind it too. All numbers are
-//! little-endian.
+//! call, and those past what is written behind it too.
+//!
+//! The file `films` holds films, as the listing program reads them: how many
+//! bytes the film has and how many are printed for it (4 bytes each), the film,
+//! what is printed. A film has at most 84,504 bytes. Every byte of the output is
+//! A5 hexadecimal before, and those past what is printed behind too. All numbers
+//! are little-endian.
 
 #![forbid(unsafe_code)]
 
 mod checks;
 mod files;
+mod films;
 mod inlines;
 mod leaves;
 mod limits;
@@ -84,6 +90,7 @@ fn write(crates: &Path) -> std::io::Result<()> {
 fn program(file: &str) -> &'static str {
     match file {
         "checks" | "long_checks" | "long_sets" => "recheck",
+        "films" => "relist",
         _ => "replay",
     }
 }
