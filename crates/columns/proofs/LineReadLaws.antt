@@ -1,6 +1,6 @@
 -- A line is read as the numbers that it is written from: numbers that were written are read back, whatever follows the line, and what is read as a line is just what its numbers are written as.
-use mathlib.Core.Path.{_≡_, refl, sym, ap, _∙_}
-use mathlib.Core.Bool.{Bool, true, false, _&&_}
+use mathlib.Core.Path.{_≡_, refl, ap}
+use mathlib.Core.Bool.{Bool, true, false}
 use mathlib.Core.List.{List, [], _∷_, _++_, append-assoc}
 use Prim.Native.Nat.{ℕ, zero, suc, _+_, _*_, _<_, _≤_}
 use native.Mathlib.Numerals.{add-one}
@@ -8,7 +8,7 @@ use native.Mathlib.Omega.{arith}
 use lib.Dec.{eqb, leb}
 use lib.ListN.{length, getD, take, drop, List·getD-eq-default}
 use lib.Seq.{take-at, drop-at, getD-at, take-add, take-suc}
-use borrow.Author.Tests.{leb-true, leb-false, eq-eqb, eqb-true}
+use borrow.Author.Tests.{leb-true, leb-false, eqb-true}
 use Rattle.strings.specs.Bytes.{lf}
 use Rattle.strings.specs.Lists.{all}
 use Rattle.unicode.proofs.Decoding.{and-left, and-right}
