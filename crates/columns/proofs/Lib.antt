@@ -2,3 +2,4 @@ pub mod FieldLaws
 pub mod FieldReadLaws
 pub mod LineLaws
 pub mod ColumnExamples
+pub mod LineReadLaws

@@ -94,7 +94,7 @@ unfolding fields
 fields-append [] ms = refl
 fields-append (n ∷ ns) ms = rw (fields-append ns ms) (sym (append-assoc (field n) (fields ns) (fields ms)))
 
-fields-long : (ns : List ℕ) → length (fields ns) ≡ length ns * places
+pub fields-long : (ns : List ℕ) → length (fields ns) ≡ length ns * places
 unfolding fields
 fields-long [] = refl
 fields-long (n ∷ ns) = length-append (field n) (fields ns) ∙ omega (arith, field-long n, fields-long ns)

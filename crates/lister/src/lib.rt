@@ -1,2 +1,2 @@
 // The listing program's work: from what it reads to what it prints.
-pub mod lists;
+pub mod program;

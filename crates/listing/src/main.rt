@@ -1,7 +1,7 @@
 // Lists what the check and the setting machine find in a film on standard input. What is printed for what is read is proved of `list`.
 use libc::STDIN_FILENO;
 use libc::STDOUT_FILENO;
-use lister::lists::list;
+use lister::program::list;
 use printing::print::OUTPUT_BYTES;
 
 // One byte more than the largest film has: a longer one is listed by these bytes as it would be whole (`listing-cut` of `lister`).

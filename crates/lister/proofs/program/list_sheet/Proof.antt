@@ -1,8 +1,8 @@
--- `lister::lists::list_sheet` meets its contract.
+-- `lister::program::list_sheet` meets its contract.
 use Rattle.lister.proofs.ListLaws.{value-fits, refusal-printed, list-few, list-printed}
 use borrow.Author.Needs.{needs}
-use Rattle.lister.proofs.lists.list_sheet.Statement.{statement}
-use Rattle.lister.proofs.lists.list_sheet.Tie as tie
+use Rattle.lister.proofs.program.list_sheet.Statement.{statement}
+use Rattle.lister.proofs.program.list_sheet.Tie as tie
 
 fits : tie.Need-cast-write-refusal
 fits c = value-fits _ _ _ (c .before .before .before .before .before .before .check-and-set .ensures .check) (search needs) (c .before .before .before .answer-number .ensures) (c .before .before .answer-value .ensures)

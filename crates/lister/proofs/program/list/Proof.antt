@@ -1,9 +1,9 @@
--- `lister::lists::list` meets its contract.
+-- `lister::program::list` meets its contract.
 use native.Mathlib.Omega.{arith}
 use Rattle.lister.proofs.ListLaws.{film-printed, ready-few, ready-room, ready-long, ready-records, ready-printed}
 use borrow.Author.Needs.{needs}
-use Rattle.lister.proofs.lists.list.Statement.{statement}
-use Rattle.lister.proofs.lists.list.Tie as tie
+use Rattle.lister.proofs.program.list.Statement.{statement}
+use Rattle.lister.proofs.program.list.Tie as tie
 
 returns : tie.Need-returns
 returns c = film-printed (c .before .before .before .before .read-film .ensures) (c .before .before .before .film-number .ensures) (c .before .before .if1 .taken) (c .write-refusal .ensures)
