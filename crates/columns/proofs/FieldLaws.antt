@@ -1,6 +1,6 @@
 -- The functions of `fields`, one law for each way through, and that a field is read as the number that it is written from.
-use mathlib.Core.Path.{_≡_, refl, sym, ap, _∙_}
-use mathlib.Core.Bool.{Bool, true, false, not, _&&_, _||_}
+use mathlib.Core.Path.{_≡_, refl, sym, _∙_}
+use mathlib.Core.Bool.{Bool, true, false, not, _&&_}
 use mathlib.Core.List.{List, [], _∷_, _++_, append-assoc, append-nil}
 use Prim.Native.Nat.{ℕ, zero, suc, _+_, _-_, _*_, _/_, _%_, _<_, _≤_}
 use native.Mathlib.Nat.{le-refl}
@@ -13,8 +13,8 @@ use borrow.Author.Needs.{needs}
 use borrow.Rule.Slice.PartMut.{putMid}
 use borrow.Author.Tests.{eq-eqb, ne-eqb, leb-true, le-leb, lt-leb, not-true, not-false}
 use Rattle.strings.specs.Bytes.{space, isDigit}
-use Rattle.strings.specs.Lists.{if_then_else_}
 use Rattle.strings.proofs.Scan.{At, turn, stop, end}
+use Rattle.unicode.proofs.Decoding.{and-left, and-right}
 use Rattle.report.specs.Report.{over}
 use Rattle.report.proofs.ReportLaws.{over-fits}
 use Rattle.columns.specs.Field.{places, mostNumber, digitZero, digit, lastPlace, front, field, pastSpaces, readDigits, readNumber, readField}
@@ -55,23 +55,15 @@ pub record Digits (s : List ℕ) (n i : ℕ) : Type 0 where
 pub digits-start : (s : List ℕ) → Digits s 0 0
 digits-start s = record { at = record { within = omega arith; same = refl }; small = omega arith }
 
-pub both : (a b : Bool) → a && b ≡ true → (a ≡ true) × (b ≡ true)
-both true true e = (refl, refl)
-both true false e = (refl, e)
-both false b e = (e, absurd (no e))
-  where
-    no : false ≡ true → ⊥
-    no p = let z : _≡_ {A = ℕ} 0 1 = cc in omega arith
-
 module _ (b : ℕ) {r : Bool} (is : r ≡ isDigit b) (h : not r ≡ false) where
   is-digit : isDigit b ≡ true
   is-digit = sym is ∙ not-false r h
 
   pub digit-low : 48 ≤ b
-  digit-low = leb-true _ _ (both (leb 48 b) (leb b 57) is-digit .0)
+  digit-low = leb-true _ _ (and-left (leb 48 b) (leb b 57) is-digit)
 
   pub digit-high : b ≤ 57
-  digit-high = leb-true _ _ (both (leb 48 b) (leb b 57) is-digit .1)
+  digit-high = leb-true _ _ (and-right (leb 48 b) (leb b 57) is-digit)
 
 module _ {s : List ℕ} {n i : ℕ} (d : Digits s n i) (h : i < length s) where
   pub digits-bad : {r : Bool} → r ≡ isDigit (getD s i 0) → not r ≡ true → Malformed ≡ readDigits 0 s

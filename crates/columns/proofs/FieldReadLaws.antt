@@ -1,19 +1,18 @@
 -- A field is read as the number that it is written from: reading what was written gives the number back, and what is read as a number is just what that number is written as. So a malformed field is one that no number up to the largest is written as.
 use mathlib.Core.Path.{_≡_, refl, sym, ap, _∙_}
-use mathlib.Core.Bool.{Bool, true, false, _&&_, _||_, and-false}
+use mathlib.Core.Bool.{Bool, true, false, _&&_, and-false}
 use mathlib.Core.List.{List, [], _∷_, _++_, append-assoc, append-nil}
 use Prim.Native.Nat.{ℕ, zero, suc, _+_, _-_, _*_, _/_, _%_, _^_, _<_, _≤_}
 use native.Mathlib.Nat.{div-add-mod', mod-lt}
 use native.Mathlib.Omega.{arith}
 use lib.Dec.{eqb, ltb, leb}
-use lib.ListN.{length, getD}
+use lib.ListN.{length}
 use borrow.Author.Tests.{eq-eqb, ne-eqb, eqb-true, eqb-false, le-leb, leb-true, ltb-false}
 use Rattle.strings.specs.Bytes.{space, isDigit}
-use Rattle.strings.specs.Lists.{if_then_else_}
+use Rattle.unicode.proofs.Decoding.{and-left, and-right}
 use Rattle.columns.specs.Field.{places, mostNumber, digitZero, digit, lastPlace, front, field, pastSpaces, readDigits, readNumber, readField}
-use Rattle.columns.specs.declared.fields.Column.{Column}
 use Rattle.columns.specs.declared.fields.Column.the-variants.{Number, Malformed}
-use Rattle.columns.proofs.FieldLaws.{both, field-long}
+use Rattle.columns.proofs.FieldLaws.{field-long}
 
 -- ---- a number by its last digit
 module _ (n : ℕ) where
@@ -122,6 +121,17 @@ written-read n h = rw (eq-eqb _ _ (field-long n)) (go (eqb (n / 10) 0) refl)
 
 -- ---- what is read is written
 
+-- a digit is taken where the number stays small enough
+module _ (b m : ℕ) (q : isDigit b && leb m mostNumber ≡ true) where
+  taken-low : 48 ≤ b
+  taken-low = leb-true _ _ (and-left (leb 48 b) (leb b 57) (and-left (isDigit b) (leb m mostNumber) q))
+
+  taken-high : b ≤ 57
+  taken-high = leb-true _ _ (and-right (leb 48 b) (leb b 57) (and-left (isDigit b) (leb m mostNumber) q))
+
+  taken-small : m ≤ mostNumber
+  taken-small = leb-true _ _ (and-right (isDigit b) (leb m mostNumber) q)
+
 bad-number : (A : Type 0) {n : ℕ} → Malformed ≡ Number n → A
 bad-number A e = absurd (let z : _≡_ {A = ℕ} 0 1 = cc in omega arith)
 
@@ -132,7 +142,7 @@ digits-most m n [] h e = let q : m ≡ n = cc in (omega arith, omega arith)
 digits-most m n (b ∷ s) h e = go (digits-most (m * 10 + (b - digitZero)) n s) (isDigit b && leb (m * 10 + (b - digitZero)) mostNumber) refl
   where
     go : (m * 10 + (b - digitZero) ≤ mostNumber → readDigits (m * 10 + (b - digitZero)) s ≡ Number n → (m * 10 + (b - digitZero) ≤ n) × (n ≤ mostNumber)) → (t : Bool) → isDigit b && leb (m * 10 + (b - digitZero)) mostNumber ≡ t → (m ≤ n) × (n ≤ mostNumber)
-    go f true q = let l = f (leb-true _ _ (both (isDigit b) (leb (m * 10 + (b - digitZero)) mostNumber) q .1)) (rw q at e) in (omega arith, l .1)
+    go f true q = let l = f (taken-small b (m * 10 + (b - digitZero)) q) (rw q at e) in (omega arith, l .1)
     go f false q = bad-number _ (rw q at e)
 
 -- digits that are read stand as they would be written, behind those of m
@@ -146,9 +156,8 @@ digits-written k m n (b ∷ s) h e = go (digits-written (suc k) (m * 10 + (b - d
   where
     go : (0 < m * 10 + (b - digitZero) → readDigits (m * 10 + (b - digitZero)) s ≡ Number n → front (suc k + length s) n ≡ front (suc k) (m * 10 + (b - digitZero)) ++ s) → (t : Bool) → isDigit b && leb (m * 10 + (b - digitZero)) mostNumber ≡ t → front (k + length (b ∷ s)) n ≡ front k m ++ b ∷ s
     go f true q =
-        let range = both (leb 48 b) (leb b 57) (both (isDigit b) (leb (m * 10 + (b - digitZero)) mostNumber) q .0) in
-        let low : 48 ≤ b = leb-true _ _ (range .0) in
-        let high : b ≤ 57 = leb-true _ _ (range .1) in
+        let low = taken-low b (m * 10 + (b - digitZero)) q in
+        let high = taken-high b (m * 10 + (b - digitZero)) q in
         let z : k + suc (length s) ≡ suc k + length s = omega arith in
         let back : digit (b - digitZero) ≡ b = omega arith in
         rw z (f (omega arith) (rw q at e) ∙ rw (last-is (m * 10 + (b - digitZero)) (omega arith), more-div m (b - digitZero) (omega arith), more-mod m (b - digitZero) (omega arith), back) (append-assoc (front k m) (b ∷ []) s))
@@ -193,28 +202,16 @@ number-written k n (b ∷ s) h e = go (eqb b digitZero) refl (ltb 1 (suc (length
     some : eqb (suc (length s)) 0 ≡ false
     some = ne-eqb (suc (length s)) 0 (λ q. omega arith)
 
-    range : isDigit b && leb (0 * 10 + (b - digitZero)) mostNumber ≡ true → (leb 48 b ≡ true) × (leb b 57 ≡ true)
-    range r = both (leb 48 b) (leb b 57) (both (isDigit b) (leb (0 * 10 + (b - digitZero)) mostNumber) r .0)
-
-    low : isDigit b && leb (0 * 10 + (b - digitZero)) mostNumber ≡ true → 48 ≤ b
-    low r = leb-true _ _ (range r .0)
-
-    high : isDigit b && leb (0 * 10 + (b - digitZero)) mostNumber ≡ true → b ≤ 57
-    high r = leb-true _ _ (range r .1)
-
-    most : isDigit b && leb (0 * 10 + (b - digitZero)) mostNumber ≡ true → readDigits (0 * 10 + (b - digitZero)) s ≡ Number n → n ≤ mostNumber
-    most r d = digits-most (0 * 10 + (b - digitZero)) n s (leb-true _ _ (both (isDigit b) (leb (0 * 10 + (b - digitZero)) mostNumber) r .1)) d .1
-
     go : (z : Bool) → eqb b digitZero ≡ z → (m : Bool) → ltb 1 (suc (length s)) ≡ m → (t : Bool) → isDigit b && leb (0 * 10 + (b - digitZero)) mostNumber ≡ t → (front k 0 ++ b ∷ s ≡ field n) × (n ≤ mostNumber)
     go true p true q t r = bad-number _ (rw (some, p, q) at e)
     go true p false q false r = bad-number _ (rw (some, p, q, r) at e)
     go false p m q false r = bad-number _ (rw (some, p, r) at e)
     go true p false q true r =
         let d : readDigits (0 * 10 + (b - digitZero)) s ≡ Number n = rw (some, p, q, r) at e in
-        (zero-written k n b s h (low r) (high r) d (eqb-true b digitZero p) (omega (arith, ltb-false 1 (suc (length s)) q)), most r d)
+        (zero-written k n b s h (taken-low b (0 * 10 + (b - digitZero)) r) (taken-high b (0 * 10 + (b - digitZero)) r) d (eqb-true b digitZero p) (omega (arith, ltb-false 1 (suc (length s)) q)), digits-most (0 * 10 + (b - digitZero)) n s (taken-small b (0 * 10 + (b - digitZero)) r) d .1)
     go false p m q true r =
         let d : readDigits (0 * 10 + (b - digitZero)) s ≡ Number n = rw (some, p, r) at e in
-        (some-written k n b s h (low r) (high r) d (eqb-false b digitZero p), most r d)
+        (some-written k n b s h (taken-low b (0 * 10 + (b - digitZero)) r) (taken-high b (0 * 10 + (b - digitZero)) r) d (eqb-false b digitZero p), digits-most (0 * 10 + (b - digitZero)) n s (taken-small b (0 * 10 + (b - digitZero)) r) d .1)
 
 pub read-written : (s : List ℕ) (n : ℕ) → readField s ≡ Number n → (s ≡ field n) × (n ≤ mostNumber)
 unfolding readField

@@ -3,7 +3,7 @@ use mathlib.Core.Path.{_≡_, refl, sym, ap, _∙_}
 use mathlib.Core.Bool.{Bool, true, false, _&&_, and-assoc, and-true}
 use mathlib.Core.List.{List, [], _∷_, _++_, append-assoc, append-nil}
 use Prim.Native.Nat.{ℕ, zero, suc, _+_, _-_, _*_, _<_, _≤_}
-use native.Mathlib.Nat.{le-refl, sub-zero}
+use native.Mathlib.Nat.{sub-zero}
 use native.Mathlib.Numerals.{add-one}
 use native.Mathlib.Omega.{arith}
 use lib.Dec.{eqb, leb}
@@ -15,10 +15,9 @@ use Rattle.strings.specs.Bytes.{lf}
 use Rattle.strings.specs.Part.{partOf}
 use Rattle.report.specs.Report.{over}
 use Rattle.report.proofs.ReportLaws.{over-fits, length-over, over-two}
-use Rattle.columns.specs.Field.{places, field, readField, numberOf}
-use Rattle.columns.specs.Line.{fields, line, lineBytes, isNumber, areFields, isLine, numbers, Writes}
+use Rattle.columns.specs.Field.{places, field, readField, numberOf, isNumber}
+use Rattle.columns.specs.Line.{fields, line, lineBytes, areFields, isLine, numbers, Writes}
 use Rattle.columns.specs.declared.fields.Column.{Column}
-use Rattle.columns.specs.declared.fields.Column.the-variants.{Number, Malformed}
 use Rattle.columns.proofs.FieldLaws.{field-long}
 
 -- ---- `ends_at`
@@ -111,12 +110,12 @@ pub record Writing (old ns out : List ℕ) (at end i : ℕ) : Type 0 where
   pub place : end ≡ at + i * places
   pub is : out ≡ over old at (fields (take i ns))
 
-over-none : (x : List ℕ) (at : ℕ) → at ≤ length x → x ≡ over x at []
-over-none x at h = paste-zero x at [] ∙ sym (over-fits x at [] (omega arith))
+pub over-none : (x : List ℕ) (at : ℕ) → at ≤ length x → over x at [] ≡ x
+over-none x at h = over-fits x at [] (omega arith) ∙ sym (paste-zero x at [])
 
 pub write-start : (old ns : List ℕ) (at : ℕ) → at + lineBytes (length ns) ≤ length old → Writing old ns old at at 0
 unfolding fields
-write-start old ns at h = record { inside = omega arith; long = refl; place = omega arith; is = over-none old at (omega arith) }
+write-start old ns at h = record { inside = omega arith; long = refl; place = omega arith; is = sym (over-none old at (omega arith)) }
 
 module _ {old ns out : List ℕ} {at end i : ℕ} (w : Writing old ns out at end i) (room : at + lineBytes (length ns) ≤ length old) where
   module _ (h : i < length ns) where

@@ -1,8 +1,8 @@
 -- A field of the program's lines, as it is written and as it is read.
 -- Document 01: "Fields are decimal, at most 4,294,967,295, right-justified in 11 places, no leading zeros".
--- That the two are one is `written-read`, `read-written` and `malformed-unwritten` in proofs/FieldReadLaws.antt: what is read as a number is just what that number is written as, and what no number is written as is malformed.
+-- The two are one (proofs/FieldReadLaws.antt): a number that was written is read (`written-read`), what is read as a number is just what that number is written as (`read-written`), and no number is written as what is malformed (`malformed-unwritten`).
 use Prim.Native.Nat.{ℕ, zero, suc, _+_, _-_, _*_, _/_, _%_}
-use mathlib.Core.Bool.{_&&_, _||_}
+use mathlib.Core.Bool.{Bool, true, false, _&&_, _||_}
 use mathlib.Core.List.{List, [], _∷_, _++_}
 use lib.Dec.{eqb, ltb, leb}
 use lib.ListN.{length, getD}
@@ -63,7 +63,12 @@ readNumber s = if eqb (length s) 0 || (eqb (getD s 0 0) digitZero && ltb 1 (leng
 unfoldable pub readField : List ℕ → Column
 readField s = if eqb (length s) places then readNumber (pastSpaces s) else Malformed
 
--- the number of a field, 0 where it is malformed; and whether it is a number
+-- the number of a field; 0 where it is malformed
 abbrev pub numberOf : Column → ℕ
 numberOf (Number n) = n
 numberOf Malformed = 0
+
+-- whether a field is well-formed
+abbrev pub isNumber : Column → Bool
+isNumber (Number n) = true
+isNumber Malformed = false

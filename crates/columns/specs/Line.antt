@@ -2,15 +2,13 @@
 -- Document 01: "lines ended by LF".
 use Prim.Native.Nat.{ℕ, zero, suc, _+_, _*_}
 use mathlib.Core.Path.{_≡_}
-use mathlib.Core.Bool.{Bool, true, false, _&&_}
+use mathlib.Core.Bool.{Bool, true, _&&_}
 use mathlib.Core.List.{List, [], _∷_, _++_}
 use lib.Dec.{eqb}
 use lib.ListN.{length, getD, take, drop}
 use Rattle.strings.specs.Bytes.{lf}
 use Rattle.report.specs.Report.{over}
-use Rattle.columns.specs.Field.{places, field, readField, numberOf}
-use Rattle.columns.specs.declared.fields.Column.{Column}
-use Rattle.columns.specs.declared.fields.Column.the-variants.{Number, Malformed}
+use Rattle.columns.specs.Field.{places, field, readField, numberOf, isNumber}
 
 -- ---- a line as it is written
 
@@ -28,10 +26,6 @@ pub record Writes (old : List ℕ) (at : ℕ) (bytes new : List ℕ) (next : ℕ
   pub ends : next ≡ at + length bytes
 
 -- ---- a line as it is read, from the front of s
-
-abbrev pub isNumber : Column → Bool
-isNumber (Number n) = true
-isNumber Malformed = false
 
 -- how many bytes a line of k fields has
 abbrev pub lineBytes : ℕ → ℕ

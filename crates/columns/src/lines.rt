@@ -1,11 +1,11 @@
 // Lines of fields, each ended by LF: read, and written.
 ghost use mathlib.Core.Path.{_≡_};
-ghost use Prim.Native.Nat.{_+_, _*_, _≤_};
+ghost use Prim.Native.Nat.{_+_, _≤_};
 ghost use lib.Dec.{eqb};
 ghost use lib.ListN.{length, getD};
 ghost use Rattle.strings.specs.Bytes.{lf};
-ghost use Rattle.columns.specs.Field.{places, numberOf};
-ghost use Rattle.columns.specs.Line.{line, lineBytes, isNumber, isLine, numbers, Writes};
+ghost use Rattle.columns.specs.Field.{numberOf, isNumber};
+ghost use Rattle.columns.specs.Line.{line, lineBytes, isLine, numbers, Writes};
 use crate::fields::Column;
 use crate::fields::PLACES;
 use crate::fields::read_field;

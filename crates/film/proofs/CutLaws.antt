@@ -1,18 +1,17 @@
 -- A film that is longer than the largest well-formed one is refused, and by one byte more than those the refusal is known: who reads no more than that reads enough.
-use mathlib.Core.Path.{_≡_, refl, sym, ap, _∙_}
-use mathlib.Core.Bool.{Bool, true, false, not, _&&_, _||_}
-use mathlib.Core.List.{List, [], _∷_}
+use mathlib.Core.Path.{_≡_, refl}
+use mathlib.Core.Bool.{Bool, true, false}
+use mathlib.Core.List.{List}
 use Prim.Native.Nat.{ℕ, zero, suc, _+_, _-_, _*_, _<_, _≤_}
 use native.Mathlib.Omega.{arith}
 use lib.Dec.{eqb, ltb}
-use lib.ListN.{length, getD, take, drop, length-take, length-drop}
+use lib.ListN.{length, take, drop, length-take, length-drop}
 use borrow.Author.Tests.{ne-eqb, ltb-false}
 use Rattle.sheet.specs.Sheet.{recordWords}
+use Rattle.standing.proofs.PlaceLaws.{or-left, or-right}
 use Rattle.columns.specs.Line.{lineBytes, isLine, numbers}
 use Rattle.columns.proofs.LineLaws.{drop-take, numbers-take, line-take}
 use Rattle.film.specs.Film.{countFields, recordCount, byteCount, areRecords, behindCounts, textBehind, mostRecords, mostBytes, mostInput, isBig, filmNumber, filmOf}
-use Rattle.film.specs.declared.films.Film.{Film}
-use Rattle.film.specs.declared.films.Film.the-variants.{BadColumn, BigFilm, Ready}
 
 records-take : (n m : ℕ) (s : List ℕ) → n * lineBytes recordWords ≤ m → areRecords n (take m s) ≡ areRecords n s
 unfolding areRecords
@@ -23,16 +22,18 @@ pub record Cut (s : List ℕ) : Type 0 where
   pub same : filmOf (take (suc mostInput) s) ≡ filmOf s
   pub refused : eqb (filmNumber (filmOf s)) 0 ≡ false
 
-neither : (a b : Bool) → a || b ≡ false → (a ≡ false) × (b ≡ false)
-neither true b e = (e, absurd (let z : _≡_ {A = ℕ} 0 1 = cc in omega arith))
-neither false b e = (refl, e)
-
 module _ (s : List ℕ) (long : mostInput < length s) where
   line-is : isLine countFields (take (suc mostInput) s) ≡ isLine countFields s
   line-is = line-take countFields (suc mostInput) s (omega arith)
 
   counts-are : numbers countFields (take (suc mostInput) s) ≡ numbers countFields s
   counts-are = numbers-take countFields (suc mostInput) s (omega arith)
+
+  few-of : isBig s ≡ false → recordCount s ≤ mostRecords
+  few-of q = ltb-false _ _ (or-left (ltb mostRecords (recordCount s)) (ltb mostBytes (byteCount s)) q)
+
+  short-of : isBig s ≡ false → byteCount s ≤ mostBytes
+  short-of q = ltb-false _ _ (or-right (ltb mostRecords (recordCount s)) (ltb mostBytes (byteCount s)) q)
 
   module _ (few : recordCount s ≤ mostRecords) (short : byteCount s ≤ mostBytes) where
     lines-are : areRecords (recordCount s) (behindCounts (take (suc mostInput) s)) ≡ areRecords (recordCount s) (behindCounts s)
@@ -55,10 +56,8 @@ module _ (s : List ℕ) (long : mostInput < length s) where
       go false p b q d r = record { same = rw (line-is, p); refused = rw p }
       go true p true q d r = record { same = rw (line-is, counts-are, p, q); refused = rw (p, q) }
       go true p false q false r =
-          let n = neither (ltb mostRecords (recordCount s)) (ltb mostBytes (byteCount s)) q in
-          record { same = rw (line-is, counts-are, lines-are (ltb-false _ _ (n .0)) (ltb-false _ _ (n .1)), p, q, r); refused = rw (p, q, r) }
+          record { same = rw (line-is, counts-are, lines-are (few-of q) (short-of q), p, q, r); refused = rw (p, q, r) }
       go true p false q true r =
-          let n = neither (ltb mostRecords (recordCount s)) (ltb mostBytes (byteCount s)) q in
-          let few = ltb-false mostRecords (recordCount s) (n .0) in
-          let short = ltb-false mostBytes (byteCount s) (n .1) in
+          let few = few-of q in
+          let short = short-of q in
           record { same = rw (line-is, counts-are, lines-are few short, text-cut few short, text-long few short, p, q, r); refused = rw (p, q, r, text-long few short) }

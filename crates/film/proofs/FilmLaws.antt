@@ -1,18 +1,16 @@
 -- The functions of `films`, one law for each way through.
 use mathlib.Core.Path.{_≡_, refl, sym, ap, _∙_}
-use mathlib.Core.Bool.{Bool, true, false, not, _&&_, _||_}
-use mathlib.Core.List.{List, [], _∷_, _++_}
+use mathlib.Core.Bool.{Bool, true, false, not}
+use mathlib.Core.List.{List, _++_}
 use Prim.Native.Nat.{ℕ, zero, suc, _+_, _*_, _<_, _≤_}
 use native.Mathlib.Omega.{arith}
 use lib.Dec.{eqb, ltb}
 use lib.ListN.{length, getD, drop, length-append}
-use borrow.Author.Needs.{needs}
 use borrow.Author.Tests.{eq-eqb, ne-eqb, lt-ltb, le-ltb, ltb-false, not-true, not-false}
 use Rattle.sheet.specs.Sheet.{recordWords}
 use Rattle.columns.specs.Line.{lineBytes, isLine, numbers}
 use Rattle.columns.proofs.LineLaws.{numbers-long}
 use Rattle.film.specs.Film.{countFields, recordCount, byteCount, areRecords, sheetOf, behindCounts, filmSheet, textBehind, mostRecords, mostBytes, filmText, filmNumber, filmOf, filledSheet, Reads}
-use Rattle.film.specs.declared.films.Film.{Film}
 use Rattle.film.specs.declared.films.Film.the-variants.{BadColumn, BigFilm, Ready}
 
 -- ---- `read_film`
@@ -66,8 +64,6 @@ module _ (s old : List ℕ) {good : Bool} {counts : List ℕ} (first : (good ≡
           unfolding filmOf
           film-ready q =
               record { answer = rw (l-is, n-is, m-is, le-ltb _ _ few, le-ltb _ _ short, lines-is, not-false lines g, ← v, eq-eqb _ _ q); words = filled }
-
-pub ruleset films = (film-bad, film-many, film-long, film-lines, film-text, film-ready, needs)
 
 -- ---- a film that is ready has as many records as its first line says, and not too many
 pub record Good (s : List ℕ) : Type 0 where

@@ -1,6 +1,8 @@
 // The fields of a record, and the texts that it names.
 ghost use mathlib.Core.Path.{_≡_};
+ghost use mathlib.Core.Bool.{_&&_};
 ghost use mathlib.Core.List.{[], _∷_};
+ghost use lib.Dec.{eqb};
 ghost use Rattle.sheet.specs.Kinds.{
   among,
   codeBlock,
@@ -156,11 +158,29 @@ fn has_second(kind: u32, b: u32) -> bool
     ((kind == kinds::CODE_BLOCK) & (b == 1)) | names_second(kind)
 }
 
-// An absent text is 0, 0.
-fn bad_text(has: bool, t: Text) -> bool
-    ensures { λ r. ⌜ r ≡ badText has t ⌝ }
+fn is_absent(t: Text) -> bool
+    ensures { λ r. ⌜ r ≡ (eqb (t .start) 0 && eqb (t .len) 0) ⌝ }
 {
-    !has & !((t.start == 0) & (t.len == 0))
+    (t.start == 0) & (t.len == 0)
+}
+
+// A text that is 0, 0 is good whatever the kind, so the kind is asked only of others.
+fn bad_first(kind: u32, a: u32, t: Text) -> bool
+    ensures { λ r. ⌜ r ≡ badText (hasFirst kind a) t ⌝ }
+{
+    if is_absent(t) {
+        return false;
+    }
+    !has_first(kind, a)
+}
+
+fn bad_second(kind: u32, b: u32, t: Text) -> bool
+    ensures { λ r. ⌜ r ≡ badText (hasSecond kind b) t ⌝ }
+{
+    if is_absent(t) {
+        return false;
+    }
+    !has_second(kind, b)
 }
 
 fn bad_span(kind: u32, s: Span) -> bool
@@ -177,9 +197,14 @@ fn is_surrogate(kind: u32, a: u32) -> bool
     (kind == kinds::ESCAPE) & between(0xD800, 0xDFFF, a)
 }
 
+// Three zeros are in range whatever the kind, so the kind is asked only of others.
 fn bad_number(r: Rec) -> bool
     ensures { λ q. ⌜ q ≡ badNumber r ⌝ }
 {
+    let unused = (r.a == 0) & (r.b == 0) & (r.c == 0);
+    if unused {
+        return false;
+    }
     (most_a(r.kind) < r.a)
         | (most_b(r.kind, r.a) < r.b)
         | (most_c(r.kind, r.b) < r.c)
@@ -192,8 +217,8 @@ pub fn bad_field(r: Rec) -> bool
 {
     bad_number(r)
         | bad_span(r.kind, r.span)
-        | bad_text(has_first(r.kind, r.a), r.first)
-        | bad_text(has_second(r.kind, r.b), r.second)
+        | bad_first(r.kind, r.a, r.first)
+        | bad_second(r.kind, r.b, r.second)
 }
 
 // The part of the sheet's text that a record names.

@@ -13,7 +13,7 @@ use Rattle.refusal.specs.Refusal.{levelBefore, badLevel, judgeTexts, judge, jud
 use Rattle.report.specs.Report.{words, flat, listIf, _⊕_}
 use Rattle.inlines.specs.Inlines.{finalBreak, finalBreakAfter, noInline, validateInlineNodes, validateInlineNodesAfter, validateInlines}
 use Rattle.heads.specs.Heads.{validateHeading}
-use Rattle.neighbours.specs.Taken.{beforeNext, takesIndentedCode, validateTakenBlock, writtenMarker}
+use Rattle.neighbours.specs.Taken.{takesIndentedCode, validateTakenBlock, writtenMarker, beforeNext}
 use Rattle.oneblock.specs.OneBlock.{holdsBlocks, validateContainer, validateLeaf, validateOwn}
 use Rattle.blocks.specs.Blocks.{validateBlock, validateBlocks, validateDocument, validateItem, validateItems}
 use Rattle.checker.specs.Check.{outcome}

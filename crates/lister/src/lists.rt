@@ -1,10 +1,8 @@
 // A film is read, checked and set, and what was found is printed.
 ghost use mathlib.Core.Path.{_≡_};
-ghost use mathlib.Core.List.{_++_};
 ghost use Prim.Native.Nat.{_*_, _≤_};
-ghost use lib.ListN.{take, drop};
-ghost use Rattle.sheet.specs.Sheet.{recordWords, recordsOf};
-ghost use Rattle.film.specs.Film.{mostRecords, recordCount, filmSheet, filmText};
+ghost use Rattle.sheet.specs.Sheet.{recordsOf};
+ghost use Rattle.film.specs.Film.{mostRecords};
 ghost use Rattle.printing.specs.Printing.{Prints};
 ghost use Rattle.lister.specs.Listing.{sheetLines, listing};
 ghost use Rattle.lister.specs.RunRecord.{runRecord};

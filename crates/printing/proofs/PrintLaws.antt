@@ -1,21 +1,21 @@
 -- The functions of `print`, one law for each way through; and the lines of a report that holds a list.
 use mathlib.Core.Path.{_≡_, refl, sym, ap, _∙_}
 use mathlib.Core.Bool.{Bool, true, false}
-use mathlib.Core.List.{List, [], _∷_, _++_, append-assoc, append-nil}
+use mathlib.Core.List.{List, [], _∷_, _++_, append-assoc}
 use Prim.Native.Nat.{ℕ, zero, suc, min, _+_, _-_, _*_, _<_, _≤_}
-use native.Mathlib.Nat.{le-refl, sub-zero, zero-add}
+use native.Mathlib.Nat.{sub-zero, zero-add}
 use native.Mathlib.Omega.{arith}
 use lib.Dec.{leb}
 use lib.ListN.{length, getD, take, drop, length-append, length-take, length-drop, drop-of-length-le}
-use lib.Seq.{paste-zero, take-all, take-at, drop-at, drop-drop, getD-drop}
+use lib.Seq.{take-all, take-at, drop-at, drop-drop, getD-drop}
 use borrow.Author.Needs.{needs}
 use borrow.Author.Tests.{leb-true, leb-false}
 use Rattle.report.specs.Report.{Entry, words, headWords, flat, pathLength, over}
-use Rattle.report.proofs.ReportLaws.{over-fits, over-two, length-over, length-words}
+use Rattle.report.proofs.ReportLaws.{over-fits, over-two, length-over}
 use Rattle.columns.specs.Field.{places}
 use Rattle.columns.specs.Line.{line, lineBytes, Writes}
-use Rattle.columns.proofs.LineLaws.{line-long}
-use Rattle.printing.specs.Printing.{refusalLine, entryLines, listLines, reportWords, outputBytes, Prints}
+use Rattle.columns.proofs.LineLaws.{over-none, line-long}
+use Rattle.printing.specs.Printing.{refusalLine, entryLines, reportWords, outputBytes, Prints}
 use Rattle.printing.specs.InWords.{entryWords, linesIn, entryEnd}
 
 -- ---- `entry_end`
@@ -103,9 +103,6 @@ module _ {old w out : List ℕ} {n end at i next : ℕ} (p : Printing old w n ou
         is = p .is ∙ rw (left-is, f .written, f .ends) (sym (over-two out l rest end (omega (arith, p .long, p .ends, lines-most n w))));
         ends = omega (arith, p .ends, f .ends);
       }
-
-over-none : (x : List ℕ) (at : ℕ) → at ≤ length x → over x at [] ≡ x
-over-none x at h = over-fits x at [] (omega arith) ∙ sym (paste-zero x at [])
 
 pub print-end : {old w out : List ℕ} {n end at i : ℕ} → Printing old w n out end at i → n ≤ i → length w * places + n ≤ length old → Writes old 0 (linesIn n w) out end
 unfolding linesIn

@@ -1,14 +1,16 @@
 //! Compares `reedsander_check` and `reedsander_set` with the Rust reference
 //! and a plain reading of document 01, and tests demand 3 on their answers:
-//! `differential [--short] [--seed N]`. With `--listing PROGRAM` it runs the
-//! listing program instead, on `--films N` of each sort of film.
+//! `differential [--short] [--seed N] [--trees N]`. With `--trees` it makes so
+//! many random trees, as many damaged ones, and those mended, and no other
+//! sheet. With `--listing PROGRAM` it runs the listing program instead, on
+//! `--films N` of each sort of film.
 //!
 //! It exits with 1 where a call or a film differs, or where a rule, a stop or a
 //! refusal was never seen.
 
 #![forbid(unsafe_code)]
 
-use std::{env, path::PathBuf, process::ExitCode, time::Instant};
+use std::{env, ops::Range, path::PathBuf, process::ExitCode, time::Instant};
 
 use differential::{Films, Harness, Plan};
 
@@ -20,7 +22,7 @@ const FILMS: u64 = 5000;
 
 /// What is to be done.
 enum Work {
-    Calls(Plan),
+    Calls(Plan, &'static [Part]),
     Films {
         program: PathBuf,
         seed: u64,
@@ -30,14 +32,14 @@ enum Work {
 
 fn main() -> ExitCode {
     match work(env::args().skip(1)) {
-        Some(Work::Calls(plan)) => run(plan),
+        Some(Work::Calls(plan, parts)) => run(plan, parts),
         Some(Work::Films {
             program,
             seed,
             many,
         }) => run_films(program, seed, many),
         None => {
-            eprintln!("usage: differential [--short] [--seed N]");
+            eprintln!("usage: differential [--short] [--seed N] [--trees N]");
             eprintln!("       differential --listing PROGRAM [--films N] [--seed N]");
             ExitCode::from(2)
         }
@@ -46,11 +48,12 @@ fn main() -> ExitCode {
 
 fn work(mut arguments: impl Iterator<Item = String>) -> Option<Work> {
     let (mut short, mut seed) = (false, SEED);
-    let (mut program, mut many) = (None, None);
+    let (mut program, mut many, mut trees) = (None, None, None);
     while let Some(argument) = arguments.next() {
         match argument.as_str() {
             "--short" => short = true,
             "--seed" => seed = arguments.next()?.parse().ok()?,
+            "--trees" => trees = Some(arguments.next()?.parse().ok()?),
             "--listing" => program = Some(PathBuf::from(arguments.next()?)),
             "--films" => many = Some(arguments.next()?.parse().ok()?),
             _ => return None,
@@ -62,9 +65,17 @@ fn work(mut arguments: impl Iterator<Item = String>) -> Option<Work> {
             seed,
             many: many.unwrap_or(FILMS),
         }),
-        (None, None, true) => Some(Work::Calls(Plan::short(seed))),
-        (None, None, false) => Some(Work::Calls(Plan::full(seed))),
+        (None, None, true) => Some(calls(Plan::short(seed), trees)),
+        (None, None, false) => Some(calls(Plan::full(seed), trees)),
         _ => None,
+    }
+}
+
+/// The whole plan, or so many trees alone.
+fn calls(plan: Plan, trees: Option<u64>) -> Work {
+    match trees {
+        Some(trees) => Work::Calls(Plan { trees, ..plan }, &PARTS[TREES]),
+        None => Work::Calls(plan, &PARTS),
     }
 }
 
@@ -96,20 +107,24 @@ fn run_films(program: PathBuf, seed: u64, many: u64) -> ExitCode {
 /// A part of the run.
 type Part = (&'static str, fn(&mut Harness, Plan));
 
-fn run(plan: Plan) -> ExitCode {
+const PARTS: [Part; 7] = [
+    ("limits", Harness::limits),
+    ("small sheets", Harness::small),
+    ("all small sheets", Harness::all_small),
+    ("random trees", Harness::trees),
+    ("damaged trees", Harness::damaged),
+    ("mended trees", Harness::mended),
+    ("reports and marks of every length", Harness::lengths),
+];
+
+/// The parts that make trees.
+const TREES: Range<usize> = 3..6;
+
+fn run(plan: Plan, parts: &[Part]) -> ExitCode {
     let last = plan.seed + plan.trees - 1;
     println!("seeds {} to {last}", plan.seed);
     let mut harness = Harness::new(plan.seed, |shown| println!("{shown}"));
-    let parts: [Part; 7] = [
-        ("limits", Harness::limits),
-        ("small sheets", Harness::small),
-        ("all small sheets", Harness::all_small),
-        ("random trees", Harness::trees),
-        ("damaged trees", Harness::damaged),
-        ("mended trees", Harness::mended),
-        ("reports and marks of every length", Harness::lengths),
-    ];
-    for (name, part) in parts {
+    for &(name, part) in parts {
         timed(name, &mut harness, |harness| part(harness, plan));
     }
     print!("{}", harness.counts);

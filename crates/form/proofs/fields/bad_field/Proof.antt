@@ -6,14 +6,12 @@ use Rattle.form.proofs.fields.bad_field.Tie as tie
 
 returns : tie.Need-returns
 unfolding badField
-returns c = cc
+returns c = rw (c .before .before .before .bad-number .ensures, c .before .before .bad-span .ensures, c .before .bad-first .ensures, c .bad-second .ensures)
 
 pub bad-field-spec : {M : Type 1} → statement M
 bad-field-spec =
     tie.close
     (tie.spec
-    (λ c κs. search needs)
-    (λ c κs. search needs)
     (λ c κs. search needs)
     (λ c κs. search needs)
     (λ c κs. search needs)
