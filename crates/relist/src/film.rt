@@ -1,5 +1,5 @@
 // A stored film: how many bytes it has and how many are printed for it (4 bytes each), the film, what is printed.
-use lister::lists::list;
+use lister::program::list;
 use printing::print::OUTPUT_BYTES;
 use stored::tally::Tally;
 
