@@ -1,8 +1,10 @@
 -- Answers as one number, for C: a number times 2^32, and a record or count.
 use Prim.Native.Nat.{ℕ, _+_, _*_, _^_}
-use Rattle.refusal.specs.Refusal.{numberOf, recordOf}
+use Rattle.strings.specs.Lists.{if_then_else_}
+use Rattle.refusal.specs.Refusal.{recordOf}
 use Rattle.checker.specs.Check.{answerNumber, answerValue}
 use Rattle.checker.specs.declared.check.Checked.{Checked}
+use Rattle.setting.specs.Setting.{isRefused, stopNumber, refusalNumber, answerRecord}
 use Rattle.setting.specs.declared.run.Setting.{Setting}
 use Rattle.setting.specs.declared.run.Setting.the-variants.{Ended, Stopped, Refused, ShortMarks}
 
@@ -10,12 +12,13 @@ use Rattle.setting.specs.declared.run.Setting.the-variants.{Ended, Stopped, Ref
 unfoldable pub packed : Checked → ℕ
 packed c = answerNumber c * 2 ^ 32 + answerValue c
 
--- the answer of the machine: the number is 0 at the end, 1 to 14 at a stop, and 256 more than its own for a refusal (1 to 10, 12)
+-- the machine's number for C: 0 at the end, 1 to 14 at a stop, and 256 more than its own for a refusal (1 to 10, 12), so that it is no stop
+abbrev pub settingNumber : Setting → ℕ
+settingNumber s = if isRefused s then 256 + refusalNumber s else stopNumber s
+
+-- the answer of the machine
 abbrev pub packedSetting : Setting → ℕ
-packedSetting (Ended records) = records
-packedSetting (Stopped stop i) = stop * 2 ^ 32 + i
-packedSetting (Refused judged) = (256 + numberOf judged) * 2 ^ 32 + recordOf judged
-packedSetting ShortMarks = (256 + 12) * 2 ^ 32
+packedSetting s = settingNumber s * 2 ^ 32 + answerRecord s
 
 -- the record of a refused sheet; 0 for every other answer. What the code asks of an answer that it packs; no promise to a caller cites it.
 abbrev pub refusedAt : Setting → ℕ

@@ -1,6 +1,6 @@
 -- The answer of the setting machine, and the marks that it leaves.
 use Prim.Native.Nat.{ℕ}
-use mathlib.Core.Bool.{not}
+use mathlib.Core.Bool.{Bool, true, false, not}
 use mathlib.Core.List.{List}
 use lib.Dec.{ltb}
 use lib.ListN.{length}
@@ -17,6 +17,13 @@ stopNumber (Ended records) = 0
 stopNumber (Stopped stop i) = stop
 stopNumber (Refused judged) = 0
 stopNumber ShortMarks = 0
+
+-- the sheet or the marks are refused, and the machine did not run
+abbrev pub isRefused : Setting → Bool
+isRefused (Ended records) = false
+isRefused (Stopped stop i) = false
+isRefused (Refused judged) = true
+isRefused ShortMarks = true
 
 -- Document 01's number of a refusal: 1 to 10 of the sheet, 12 "short marks"; 0 where the machine ran
 abbrev pub refusalNumber : Setting → ℕ

@@ -5,7 +5,7 @@ ghost use lib.ListN.{length};
 ghost use Rattle.sheet.specs.Sheet.{recordWords, recordsOf};
 ghost use Rattle.refusal.specs.Refusal.{judgeSheet};
 ghost use Rattle.refusal.specs.declared.judge.Judged.the-variants.{Accepted};
-ghost use Rattle.setting.specs.Setting.{stopNumber, refusalNumber, answerRecord, afterRun, settingOf};
+ghost use Rattle.setting.specs.Setting.{stopNumber, afterRun, settingOf};
 ghost use Rattle.setting.specs.Running.{nextLevel};
 use refusal::judge;
 use refusal::judge::Judged;
@@ -31,30 +31,6 @@ pub fn stop_number(s: Setting) -> u32
         Setting::Ended(_) => 0,
         Setting::Stopped(stop, _) => stop,
         Setting::Refused(_) => 0,
-        Setting::ShortMarks => 0,
-    }
-}
-
-// Document 01's number of a refusal; 0 where the machine ran.
-pub fn refusal_number(s: Setting) -> u32
-    ensures { λ r. ⌜ r ≡ refusalNumber s ⌝ }
-{
-    match s {
-        Setting::Ended(_) => 0,
-        Setting::Stopped(_, _) => 0,
-        Setting::Refused(judged) => judge::number_of(judged),
-        Setting::ShortMarks => 12,
-    }
-}
-
-// The record of a stop or a refusal; the number of records at the end.
-pub fn answer_record(s: Setting) -> usize
-    ensures { λ r. ⌜ r ≡ answerRecord s ⌝ }
-{
-    match s {
-        Setting::Ended(records) => records as usize,
-        Setting::Stopped(_, i) => i as usize,
-        Setting::Refused(judged) => judge::record_of(judged),
         Setting::ShortMarks => 0,
     }
 }

@@ -72,7 +72,7 @@ pub fn opened(i: u32, r: Rec, k: Kept) -> Kept
 }
 
 // The number of an ordered item: its own, else one more than that of the item before.
-pub fn item_mark(r: Rec, before: u32) -> u32
+pub(crate) fn item_mark(r: Rec, before: u32) -> u32
     requires { ⌜ before ≤ mostNumber ⌝ }
     ensures { λ q. ⌜ q ≡ itemMark r before ⌝ }
 {
