@@ -1,28 +1,17 @@
 //! The checker called through the crate: refusals, entries, reports.
 
+mod records;
+
 use reedsander::{
     check, check_raw, check_to_vec, listing,
     tree::{Attribute, Block, Cell, HtmlTag, Inline, Item, Marker, Row},
     Answer, Refusal, Sheet, RECORD_WORDS,
 };
 
-type Record = [u32; RECORD_WORDS];
+use records::{plain, with, Record};
 
 /// What the words of a report are before the call.
 const BEFORE: u32 = 0xA5A5_5A5A;
-
-/// A record of a kind and a level; all else is 0.
-fn plain(kind: u32, level: u32) -> Record {
-    let mut record = [0; RECORD_WORDS];
-    record[..2].copy_from_slice(&[kind, level]);
-    record
-}
-
-/// The record with one word changed.
-fn with(field: usize, value: u32, mut record: Record) -> Record {
-    record[field] = value;
-    record
-}
 
 /// The refusal, which leaves the report as it was.
 fn refusal(sheet: &[u32], text: &[u8]) -> Option<Refusal> {

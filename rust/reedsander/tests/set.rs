@@ -1,6 +1,8 @@
 //! The setting machine called through the crate: marks, stops, refusals, and
 //! the checker's list beside it.
 
+mod records;
+
 use reedsander::{
     set, set_raw,
     tree::{
@@ -9,23 +11,10 @@ use reedsander::{
     Refusal, Setting, Sheet, Stop, RECORD_WORDS,
 };
 
+use records::{plain, with, Record};
+
 /// What the marks are before the call.
 const BEFORE: u32 = 0xA5A5_5A5A;
-
-type Record = [u32; RECORD_WORDS];
-
-/// A record of a kind and a level; all else is 0.
-fn plain(kind: u32, level: u32) -> Record {
-    let mut record = [0; RECORD_WORDS];
-    record[..2].copy_from_slice(&[kind, level]);
-    record
-}
-
-/// The record with one word changed.
-fn with(field: usize, value: u32, mut record: Record) -> Record {
-    record[field] = value;
-    record
-}
 
 fn words(value: &str) -> Block<'_> {
     Block::paragraph([Inline::text(value)])

@@ -1,18 +1,18 @@
 //! Both functions on a stack of 256 KiB: they recurse over levels alone, of
 //! which there are at most 64.
 
+mod records;
+
 use std::thread;
 
+use records::{plain, with, Record};
 use reedsander::{check, set, Setting, RECORD_WORDS};
 
 const STACK: usize = 256 * 1024;
 
-/// One record without a text: its kind and level, and C for a tight list.
-fn record(kind: u32, level: u32) -> [u32; RECORD_WORDS] {
-    let mut words = [0; RECORD_WORDS];
-    words[..2].copy_from_slice(&[kind, level]);
-    words[7] = u32::from(kind == 6);
-    words
+/// One record without a text; a list is tight.
+fn record(kind: u32, level: u32) -> Record {
+    with(7, u32::from(kind == 6), plain(kind, level))
 }
 
 /// The words of the list, and how the machine ends.

@@ -6,7 +6,7 @@
 
 mod pages;
 
-use std::collections::{BTreeMap, BTreeSet, HashSet};
+use std::collections::{BTreeMap, BTreeSet};
 
 use cases::{
     damage,
@@ -17,7 +17,7 @@ use oracle::{Run, RECORD_WORDS};
 
 use crate::{
     inlines::{self, entries},
-    sample::{even, shuffled, Sampled},
+    sample::{even, none_twice, shuffled, Sampled, MOST_MENDED},
     sheets,
 };
 
@@ -39,9 +39,6 @@ pub const HEAD: usize = 28;
 /// number; and that of the machine's answer: its number, and so much.
 const CHECK_REFUSED: u32 = 100;
 const SETTING: u32 = 200;
-
-/// How often one tree is mended at most.
-const MOST_MENDED: usize = 40;
 
 /// A sheet, its text; the length of the report, the check's answer, and the
 /// list that the report holds behind the call: nothing where the sheet is
@@ -266,9 +263,7 @@ pub fn cases() -> Vec<Case> {
         let pool = pool.iter().filter(wanted).cloned().collect();
         cases.extend(even(pool, left / 100 * part));
     }
-    let mut held = HashSet::new();
-    cases.retain(|case| held.insert(case.clone()));
-    cases
+    none_twice(cases)
 }
 
 #[cfg(test)]

@@ -4,12 +4,12 @@
 //! has whole records, at most 512, and at most 16,384 text bytes, so that the
 //! check never refuses it by 1, 2 or 3.
 
-use std::collections::{BTreeMap, BTreeSet, HashSet};
+use std::collections::{BTreeMap, BTreeSet};
 
 use cases::{damage, films, mend, plain, random, Numbers, Sheet};
 use oracle::{Run, RECORD_WORDS};
 
-use crate::sample::{even, shuffled, Sampled};
+use crate::sample::{even, none_twice, shuffled, Sampled, MOST_MENDED};
 
 /// No film has more bytes, one more than the largest that is listed: the
 /// program that replays them has room for so many.
@@ -25,9 +25,6 @@ pub const HEAD: usize = 8;
 /// that are listed so much and the stop.
 const REFUSED: u32 = 100;
 const STOPPED: u32 = 200;
-
-/// How often one tree is mended at most.
-const MOST_MENDED: usize = 40;
 
 /// A film, and what is printed for it.
 #[derive(Clone, PartialEq, Eq, Hash, Debug)]
@@ -177,9 +174,7 @@ pub fn cases() -> Vec<Case> {
     let taken: usize = cases.iter().map(Case::size).sum();
     let pool = shuffled(sheets()).into_iter().map(Case::new).collect();
     cases.extend(even(pool, MOST_BYTES - taken));
-    let mut held = HashSet::new();
-    cases.retain(|case| held.insert(case.clone()));
-    cases
+    none_twice(cases)
 }
 
 #[cfg(test)]

@@ -8,12 +8,12 @@ mod exhaustive;
 mod random;
 mod traps;
 
-use std::collections::{BTreeMap, BTreeSet, HashSet};
+use std::collections::{BTreeMap, BTreeSet};
 
 use cases::Sheet;
 use oracle::RECORD_WORDS;
 
-use crate::sample::{by_turns, even, shuffled, Sampled};
+use crate::sample::{by_turns, even, none_twice, shuffled, Sampled};
 
 /// The rules of the inline walk.
 pub const RULES: [u32; 22] = [
@@ -107,14 +107,13 @@ pub fn cases() -> Vec<Case> {
     let small = exhaustive::all().into_iter().map(shuffled).collect();
     cases.extend(even(by_turns(small), (MOST_BYTES - size(&cases)) / 2));
     cases.extend(even(shuffled(random::all(2000)), MOST_BYTES - size(&cases)));
-    let mut held = HashSet::new();
-    cases.retain(|case| held.insert(case.clone()));
-    cases
+    none_twice(cases)
 }
 
 #[cfg(test)]
 mod tests {
     use super::*;
+    use std::collections::HashSet;
     use std::sync::LazyLock;
 
     /// The stored cases, made once for all tests.

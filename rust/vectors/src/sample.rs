@@ -1,6 +1,9 @@
 //! Samples of long lists of cases.
 
-use std::collections::{BTreeMap, BTreeSet};
+use std::{
+    collections::{BTreeMap, BTreeSet, HashSet},
+    hash::Hash,
+};
 
 use cases::Numbers;
 
@@ -10,6 +13,16 @@ pub trait Sampled {
     fn size(&self) -> usize;
     /// What it is about: rules and refusals; 0 for neither.
     fn groups(&self) -> BTreeSet<u32>;
+}
+
+/// How often one tree is mended at most.
+pub const MOST_MENDED: usize = 40;
+
+/// The cases in their order, each once.
+pub fn none_twice<T: Clone + Eq + Hash>(mut cases: Vec<T>) -> Vec<T> {
+    let mut held = HashSet::new();
+    cases.retain(|case| held.insert(case.clone()));
+    cases
 }
 
 /// The list in another order, which a fixed seed gives.
