@@ -8,13 +8,13 @@ use native.Mathlib.Numerals.{add-one}
 use native.Mathlib.Omega.{arith}
 use lib.Dec.{eqb, leb}
 use lib.ListN.{length, getD, set, take, drop, length-set, length-append, length-take, length-drop, List·getD-eq-default}
-use lib.Seq.{append-snoc, paste-zero, getD-take, take-nil, take-take, take-all, take-length, take-suc, take-suc-set, drop-drop, set-split}
+use lib.Seq.{append-snoc, getD-take, take-nil, take-take, take-all, take-length, take-suc, take-suc-set, drop-drop, set-split}
 use borrow.Author.Needs.{needs}
 use borrow.Author.Tests.{ne-eqb, leb-false}
 use Rattle.strings.specs.Bytes.{lf}
 use Rattle.strings.specs.Part.{partOf}
 use Rattle.report.specs.Report.{over}
-use Rattle.report.proofs.ReportLaws.{over-fits, length-over, over-two}
+use Rattle.report.proofs.ReportLaws.{over-fits, over-nil, length-over, over-two}
 use Rattle.columns.specs.Field.{places, field, readField, numberOf, isNumber}
 use Rattle.columns.specs.Line.{fields, line, lineBytes, areFields, isLine, numbers, Writes}
 use Rattle.columns.specs.declared.fields.Column.{Column}
@@ -110,12 +110,9 @@ pub record Writing (old ns out : List ℕ) (at end i : ℕ) : Type 0 where
   pub place : end ≡ at + i * places
   pub is : out ≡ over old at (fields (take i ns))
 
-pub over-none : (x : List ℕ) (at : ℕ) → at ≤ length x → over x at [] ≡ x
-over-none x at h = over-fits x at [] (omega arith) ∙ sym (paste-zero x at [])
-
 pub write-start : (old ns : List ℕ) (at : ℕ) → at + lineBytes (length ns) ≤ length old → Writing old ns old at at 0
 unfolding fields
-write-start old ns at h = record { inside = omega arith; long = refl; place = omega arith; is = sym (over-none old at (omega arith)) }
+write-start old ns at h = record { inside = omega arith; long = refl; place = omega arith; is = sym (over-nil old at) }
 
 module _ {old ns out : List ℕ} {at end i : ℕ} (w : Writing old ns out at end i) (room : at + lineBytes (length ns) ≤ length old) where
   module _ (h : i < length ns) where

@@ -236,8 +236,12 @@ pub fn text_outside(bytes: &[u8], t: Text) -> bool
     bytes.len() < start + len
 }
 
+// A text of no bytes is well-formed, and most records have one.
 pub fn text_ill_formed(bytes: &[u8], t: Text) -> bool
     ensures { λ r. ⌜ r ≡ textIllFormed (now (bytes .entry)) t ⌝ }
 {
+    if t.len == 0 {
+        return false;
+    }
     !unicode::utf8::is_utf8(text_of(bytes, t))
 }

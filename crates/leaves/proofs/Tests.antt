@@ -1,17 +1,18 @@
 -- The definitions of `specs`, a byte at a time: where the byte decides, and where what is left does.
 use mathlib.Core.Path.{_≡_, refl, sym, ap, _∙_}
-use mathlib.Core.Bool.{Bool, true, false, not, _&&_, and-false}
+use mathlib.Core.Bool.{Bool, true, false, not, _&&_, and-false, false≢true}
 use mathlib.Core.List.{List, [], _∷_}
 use Prim.Native.Nat.{ℕ, _+_, _<_, _≤_}
 use native.Mathlib.Omega.{arith}
 use lib.Dec.{eqb}
 use lib.ListN.{length, getD, drop, length-drop}
-use borrow.Author.Tests.{ne-eqb}
 use Rattle.strings.specs.Bytes.{pipe, backslash, dollar, backtick}
 use Rattle.multiline.specs.Lines.{startsWith}
 use Rattle.leaves.specs.Math.{holdsBacktickDollar}
 use Rattle.leaves.specs.Pipe.{oddPipeAfter}
 use Rattle.strings.proofs.Scan.{At, next, scan}
+use Rattle.chunks.specs.Chunk.{isNeither, Past}
+use Rattle.chunks.proofs.Chunks.{leap-to}
 use Rattle.multiline.proofs.Tests.{any-no, any-yes, all-yes, all-no}
 
 pub pipe-yes : (odd : Bool) (b : ℕ) (s : List ℕ) → (eqb b pipe && odd) ≡ true → true ≡ oddPipeAfter odd (b ∷ s)
@@ -22,19 +23,37 @@ pub pipe-no : (odd : Bool) (b : ℕ) (s : List ℕ) → (eqb b pipe && odd) ≡ 
 unfolding oddPipeAfter
 pipe-no odd b s e = rw e
 
--- two bytes, of which the second may begin a pair
-module _ (a b : ℕ) (s : List ℕ) where
-  tick-one : b ≡ backtick → holdsBacktickDollar (a ∷ b ∷ s) ≡ holdsBacktickDollar (b ∷ s)
-  unfolding holdsBacktickDollar startsWith
-  tick-one e = rw (e, and-false)
+-- a byte that is none of two equal ones
+neither-same : (x b : ℕ) → isNeither x x b ≡ true → eqb b x ≡ false
+neither-same x b = go (eqb b x)
+  where
+    go : (t : Bool) → (not t && not t) ≡ true → t ≡ false
+    go false e = refl
+    go true e = absurd (false≢true e)
 
-  tick-two : (b ≡ backtick → ⊥) → (eqb a backtick && eqb b dollar) ≡ false → holdsBacktickDollar (a ∷ b ∷ s) ≡ holdsBacktickDollar s
+pub not-and : (odd t : Bool) → (not odd && t) ≡ true → odd ≡ false
+not-and false t e = refl
+not-and true t e = absurd (false≢true e)
+
+-- no backslash, where no odd run of them stands before
+pub pipe-leap : {whole : Bool} {s : List ℕ} {i j : ℕ} (odd : Bool) → odd ≡ false → At whole (oddPipeAfter odd) s i → Past (isNeither backslash backslash) s i j → At whole (oddPipeAfter odd) s j
+unfolding oddPipeAfter
+pipe-leap false e inv p = leap-to (isNeither backslash backslash) (λ b t q. rw (and-false, neither-same backslash b q)) inv p
+pipe-leap true e inv p = absurd (false≢true (sym e))
+
+-- two bytes
+module _ (a b : ℕ) (s : List ℕ) where
+  tick-one : (eqb a backtick && eqb b dollar) ≡ false → holdsBacktickDollar (a ∷ b ∷ s) ≡ holdsBacktickDollar (b ∷ s)
   unfolding holdsBacktickDollar startsWith
-  tick-two n e = rw (e, ne-eqb b backtick n)
+  tick-one e = rw e
 
   tick-pair : (eqb a backtick && eqb b dollar) ≡ true → holdsBacktickDollar (a ∷ b ∷ s) ≡ true
   unfolding holdsBacktickDollar startsWith
   tick-pair e = rw e
+
+tick-none : (b : ℕ) (s : List ℕ) → eqb b backtick ≡ false → holdsBacktickDollar (b ∷ s) ≡ holdsBacktickDollar s
+unfolding holdsBacktickDollar
+tick-none b s e = rw e
 
 tick-short : (s : List ℕ) → length s ≤ 1 → holdsBacktickDollar s ≡ false
 unfolding holdsBacktickDollar startsWith
@@ -48,14 +67,8 @@ module _ (s : List ℕ) (i : ℕ) (v : At (holdsBacktickDollar s) holdsBacktickD
     pair-at : drop i s ≡ getD s i 0 ∷ getD s (i + 1) 0 ∷ drop (i + 1 + 1) s
     pair-at = next s i (omega arith) ∙ ap (λ t. getD s i 0 ∷ t) (next s (i + 1) h)
 
-    pub ticks-one : getD s (i + 1) 0 ≡ backtick → At (holdsBacktickDollar s) holdsBacktickDollar s (i + 1)
+    pub ticks-one : (eqb (getD s i 0) backtick && eqb (getD s (i + 1) 0) dollar) ≡ false → At (holdsBacktickDollar s) holdsBacktickDollar s (i + 1)
     ticks-one e = record { within = omega arith; same = v .same ∙ ap holdsBacktickDollar pair-at ∙ tick-one (getD s i 0) (getD s (i + 1) 0) (drop (i + 1 + 1) s) e ∙ sym (ap holdsBacktickDollar (next s (i + 1) h)) }
-
-    module _ (n : getD s (i + 1) 0 ≡ backtick → ⊥) where
-      pub ticks-two : (eqb (getD s i 0) backtick && eqb (getD s (i + 1) 0) dollar) ≡ false → At (holdsBacktickDollar s) holdsBacktickDollar s (i + 2)
-      ticks-two e =
-          let two : i + 1 + 1 ≡ i + 2 = omega arith in
-          record { within = omega arith; same = v .same ∙ ap holdsBacktickDollar pair-at ∙ tick-two (getD s i 0) (getD s (i + 1) 0) (drop (i + 1 + 1) s) n e ∙ ap (λ k. holdsBacktickDollar (drop k s)) two }
 
     pub ticks-stop : (eqb (getD s i 0) backtick && eqb (getD s (i + 1) 0) dollar) ≡ true → true ≡ holdsBacktickDollar s
     ticks-stop e = sym (v .same ∙ ap holdsBacktickDollar pair-at ∙ tick-pair (getD s i 0) (getD s (i + 1) 0) (drop (i + 1 + 1) s) e)
@@ -63,4 +76,8 @@ module _ (s : List ℕ) (i : ℕ) (v : At (holdsBacktickDollar s) holdsBacktickD
   pub ticks-end : length s ≤ i + 1 → false ≡ holdsBacktickDollar s
   ticks-end h = sym (v .same ∙ tick-short (drop i s) (rw (length-drop i s) (omega arith)))
 
-pub ruleset tests = (any-no, any-yes, all-yes, all-no, pipe-yes, pipe-no, ticks-one, ticks-two, ticks-stop, ticks-end, scan)
+  -- no backtick
+  pub ticks-leap : {j : ℕ} → Past (isNeither backtick backtick) s i j → At (holdsBacktickDollar s) holdsBacktickDollar s j
+  ticks-leap p = leap-to (isNeither backtick backtick) (λ b t q. tick-none b t (neither-same backtick b q)) v p
+
+pub ruleset tests = (any-no, any-yes, all-yes, all-no, pipe-yes, pipe-no, ticks-one, ticks-stop, ticks-end, scan)

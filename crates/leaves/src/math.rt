@@ -1,24 +1,24 @@
 // Inline math in its code form.
 ghost use mathlib.Core.Path.{_≡_};
 ghost use Rattle.leaves.specs.Math.{holdsBacktickDollar};
+use chunks::chunk;
 use strings::bytes::BACKTICK;
 use strings::bytes::DOLLAR;
 
-// Whether a `$` stands right after a backtick. Two bytes are passed at once unless the second is a backtick.
+// Whether a `$` stands right after a backtick.
 pub fn holds_backtick_dollar(s: &[u8]) -> bool
     ensures { λ r. ⌜ r ≡ holdsBacktickDollar (now (s .entry)) ⌝ }
 {
-    let mut i: usize = 0;
+    let mut i = chunk::past(s, 0, BACKTICK, BACKTICK);
     while i + 1 < s.len() {
-        let b = s[i + 1];
-        if b == BACKTICK {
-            i = i + 1;
-            continue;
-        }
-        if (s[i] == BACKTICK) & (b == DOLLAR) {
+        let tick = s[i] == BACKTICK;
+        if tick & (s[i + 1] == DOLLAR) {
             return true;
         }
-        i = i + 2;
+        i = i + 1;
+        if tick {
+            i = chunk::past(s, i, BACKTICK, BACKTICK);
+        }
     }
     false
 }

@@ -1,10 +1,12 @@
 -- Tests of every byte of a text: where the byte decides, and where what is left does. r is what a function answered of the byte.
-use mathlib.Core.Path.{_≡_}
+use mathlib.Core.Path.{_≡_, refl}
 use mathlib.Core.Bool.{Bool, true, false}
 use mathlib.Core.List.{List, _∷_}
 use Prim.Native.Nat.{ℕ}
 use Rattle.strings.specs.Lists.{any, all}
-use Rattle.strings.proofs.Scan.{scan}
+use Rattle.strings.proofs.Scan.{At, scan}
+use Rattle.chunks.specs.Chunk.{isNeither, Past}
+use Rattle.chunks.proofs.Chunks.{leap-to}
 
 module _ (test : ℕ → Bool) (b : ℕ) {r : Bool} (e : r ≡ test b) where
   pub any-no : r ≡ false → (s : List ℕ) → any test (b ∷ s) ≡ any test s
@@ -22,5 +24,9 @@ module _ (test : ℕ → Bool) (b : ℕ) {r : Bool} (e : r ≡ test b) where
   pub all-no : r ≡ false → (s : List ℕ) → false ≡ all test (b ∷ s)
   unfolding all
   all-no n s = rw (← e, n)
+
+-- bytes that are neither of two, where a test asks for no other
+pub any-leap : {whole : Bool} (test : ℕ → Bool) (x y : ℕ) {s : List ℕ} {i j : ℕ} → ((b : ℕ) → isNeither x y b ≡ true → test b ≡ false) → At whole (any test) s i → Past (isNeither x y) s i j → At whole (any test) s j
+any-leap test x y n inv p = leap-to (isNeither x y) (λ b t q. any-no test b refl (n b q) t) inv p
 
 pub ruleset tests = (any-no, any-yes, all-yes, all-no, scan)

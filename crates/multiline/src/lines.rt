@@ -5,6 +5,7 @@ ghost use mathlib.Core.Bool.{true};
 ghost use lib.ListN.{length, getD, drop};
 ghost use Rattle.multiline.specs.Lines.{holdsLineEnding, isBlank, isCrOfCrlf, hasBlankEdgeLine};
 ghost use Rattle.multiline.specs.Scans.{lastBlank, Led, Ended};
+use chunks::chunk;
 use strings::bytes;
 use strings::bytes::CR;
 use strings::bytes::LF;
@@ -12,7 +13,7 @@ use strings::bytes::LF;
 pub fn holds_line_ending(s: &[u8]) -> bool
     ensures { λ r. ⌜ r ≡ holdsLineEnding (now (s .entry)) ⌝ }
 {
-    let mut i: usize = 0;
+    let mut i = chunk::past(s, 0, LF, CR);
     while i < s.len() {
         if bytes::is_line_ending_byte(s[i]) {
             return true;

@@ -11,10 +11,10 @@ use lib.Seq.{take-all, take-at, drop-at, drop-drop, getD-drop}
 use borrow.Author.Needs.{needs}
 use borrow.Author.Tests.{leb-true, leb-false}
 use Rattle.report.specs.Report.{Entry, words, headWords, flat, pathLength, over}
-use Rattle.report.proofs.ReportLaws.{over-fits, over-two, length-over}
+use Rattle.report.proofs.ReportLaws.{over-fits, over-nil, over-two, length-over}
 use Rattle.columns.specs.Field.{places}
 use Rattle.columns.specs.Line.{line, lineBytes, Writes}
-use Rattle.columns.proofs.LineLaws.{over-none, line-long}
+use Rattle.columns.proofs.LineLaws.{line-long}
 use Rattle.printing.specs.Printing.{refusalLine, entryLines, reportWords, outputBytes, Prints}
 use Rattle.printing.specs.InWords.{entryWords, linesIn, entryEnd}
 
@@ -109,8 +109,7 @@ unfolding linesIn
 print-end {old} {w} {out} {n} {end} {at} {i} p h room =
     let none : n - i ≡ 0 = omega arith in
     let e : length (linesIn n w) ≡ end = rw none at (p .ends) ∙ omega arith in
-    let room-left : end ≤ length out = omega (arith, p .long, lines-most n w) in
-    record { written = sym (p .is ∙ rw none (over-none out end room-left)); ends = omega arith }
+    record { written = sym (p .is ∙ rw none (over-nil out end)); ends = omega arith }
 
 pub ruleset printing = (print-start, next-after, next-within, print-room, print-next, print-end, needs)
 

@@ -4,6 +4,7 @@ ghost use Prim.Native.Nat.{_<_, _≤_, _*_, _+_};
 ghost use lib.ListN.{length};
 ghost use Rattle.sheet.specs.Sheet.{recordWords};
 ghost use Rattle.standing.specs.Places.{places};
+ghost use Rattle.standing.specs.Groups.{kindGroups};
 ghost use Rattle.refusal.specs.Refusal.{numberOf, recordOf, mostRecords, isAccepted, badLevel, judgeTexts, judge, judgeFrom, lacksTags, tagsFrom, judgeSheet};
 ghost use Rattle.refusal.specs.Judging.{Slot, Containers, tagUnder};
 use form::fields;
@@ -79,8 +80,16 @@ fn bad_level(before: u32, level: u32) -> bool
 }
 
 // The tests 4 to 9 of record `i`.
-fn judge(table: &[[u32; 7]; 10], bytes: &[u8], i: usize, r: Rec, before: u32, o: Open) -> Judged
-    requires { ⌜ (now table ≡ places) × (before ≤ 64) ⌝ }
+fn judge(
+    table: &[[u32; 7]; 10],
+    groups: &[[u32; 2]; 54],
+    bytes: &[u8],
+    i: usize,
+    r: Rec,
+    before: u32,
+    o: Open,
+) -> Judged
+    requires { ⌜ (now table ≡ places) × (now groups ≡ kindGroups) × (before ≤ 64) ⌝ }
     ensures { λ j. ⌜ j ≡ judge (now (bytes .entry)) i r before o ⌝ }
 {
     if !kinds::is_kind(r.kind) {
@@ -89,7 +98,7 @@ fn judge(table: &[[u32; 7]; 10], bytes: &[u8], i: usize, r: Rec, before: u32, o:
     if bad_level(before, r.level) {
         return Judged::BadLevel(i);
     }
-    if places::misplaced(table, o, r.kind) {
+    if places::misplaced(table, groups, o, r.kind) {
         return Judged::Misplaced(i);
     }
     if fields::bad_field(r) {
@@ -133,6 +142,7 @@ fn judge_records(sheet: &[u32], bytes: &[u8], n: usize) -> Judged
     ensures { λ j. ⌜ j ≡ judgeFrom (now (sheet .entry)) (now (bytes .entry)) n 0 ⌝ }
 {
     let table = places::table();
+    let groups = places::groups();
     let mut open = [places::opened(0); 66];
     let mut before: u32 = 0;
     let mut i: usize = 0;
@@ -140,12 +150,12 @@ fn judge_records(sheet: &[u32], bytes: &[u8], n: usize) -> Judged
         let r = records::record_at(sheet, i);
         let slot = slot_of(r.level);
         let o = open[slot];
-        let j = judge(&table, bytes, i, r, before, o);
+        let j = judge(&table, &groups, bytes, i, r, before, o);
         if !is_accepted(j) {
             return j;
         }
-        open[slot] = places::joined(&table, o, r.kind);
-        open[slot + 1] = places::opened(places::parent_group(r.kind, r.a));
+        open[slot] = places::joined(&table, &groups, o, r.kind);
+        open[slot + 1] = places::opened(places::parent_group(&groups, r.kind, r.a));
         before = r.level;
         i = i + 1;
     }

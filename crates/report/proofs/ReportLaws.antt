@@ -219,7 +219,7 @@ unfolding put
 put-past w s [] c h = refl
 put-past w s (e ∷ es) c h = rw (over-not w (s .words) (words e) (omega (arith, some-words e))) (put-past w (counted s (length (words e))) es c (omega (arith, some-words e)))
 
-over-nil : (w : List ℕ) (at : ℕ) → over w at [] ≡ w
+pub over-nil : (w : List ℕ) (at : ℕ) → over w at [] ≡ w
 over-nil w at = go (leb (at + 0) (length w)) refl
   where
     go : (b : Bool) → leb (at + 0) (length w) ≡ b → over w at [] ≡ w
@@ -316,32 +316,3 @@ pub read-back : (es : List Entry) (rest : List ℕ) → entriesIn (length es) (f
 unfolding entriesIn flat words
 read-back [] rest = refl
 read-back (e ∷ es) rest = rw (append-assoc (e .path) (flat es) rest, take-append-seam, drop-append-seam, read-back es rest)
-
--- the entries of a list that was written whole are read back from the report
-pub read-put : (x : List ℕ) (es : List Entry) → length x * 4 < 2 ^ 63 → length (flat es) ≤ length x → entriesIn (length es) (put x start es) ≡ es
-read-put x es room h = rw (put-whole x es room h) (read-back es (drop (length (flat es)) x))
-
--- ---- measuring, and then writing into a report x that is a slice
-
--- t is what a first listing counted, into whatever report
-module _ {es : List Entry} {s t : Tally} {v v′ : List ℕ} (x : List ℕ) (none : s ≡ start) (measured : Lists s t v v′ es) (room : length x * 4 < 2 ^ 63) where
-  words-are : t .words ≡ after start es .words
-  words-are = rw (measured .tally, none)
-
-  pub measured-short : length x < t .words → length x < length (flat es)
-  measured-short h = counted-short es x room (rw words-are at h)
-
-  module _ (fits : t .words ≤ length x) where
-    pub measured-fits : length (flat es) ≤ length x
-    measured-fits = counted-fits es x room (rw words-are at fits)
-
-    -- the second listing, into x, counts every entry and writes the whole list
-    module _ {u r : Tally} {y : List ℕ} (none-again : u ≡ start) (listed : Lists u r x y es) where
-      pub listed-entries : r .entries ≡ length es
-      listed-entries = rw (listed .tally, none-again) (ap (λ (k : Tally). k .entries) (counted-whole es x room (rw words-are at fits)))
-
-      pub listed-words : y ≡ flat es ++ drop (length (flat es)) x
-      listed-words = rw (listed .written, none-again) (put-whole x es room measured-fits)
-
-      pub listed-read : entriesIn (r .entries) y ≡ es
-      listed-read = rw (listed-entries, listed-words) (read-back es (drop (length (flat es)) x))

@@ -1,2 +1,3 @@
+pub mod GroupLaws
 pub mod PlaceLaws
 pub mod PlacedLaws

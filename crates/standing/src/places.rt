@@ -1,52 +1,17 @@
 // Where a record may stand under its parent.
 ghost use mathlib.Core.Path.{_≡_};
-ghost use mathlib.Core.Bool.{false};
-ghost use mathlib.Core.List.{[], _∷_};
-ghost use lib.Dec.{eqb};
+ghost use mathlib.Core.Bool.{true, false};
+ghost use mathlib.Core.List.{[]};
 ghost use lib.ListN.{getD};
-ghost use Rattle.strings.specs.Lists.{if_then_else_};
-ghost use Rattle.sheet.specs.Kinds.{
-  among,
-  paragraph,
-  heading,
-  blockQuote,
-  alert,
-  footnoteDefinition,
-  item,
-  cell,
-  emphasis,
-  strong,
-  delete,
-  mark,
-  link,
-  image,
-  linkReference,
-  imageReference,
-  inlineFootnote,
-};
-ghost use Rattle.standing.specs.Places.{otherGroup, parentGroup, childGroup, places, placeOf, opened, joined, misplaced};
+ghost use Rattle.sheet.specs.Kinds.{isKind};
+ghost use Rattle.standing.specs.Places.{parentGroup, childGroup, places, placeOf, opened, joined, misplaced};
+ghost use Rattle.standing.specs.Groups.{kindGroups};
 use sheet::kinds;
 use sheet::kinds::pick;
-
-const HOLDS_BLOCKS: u32 = 0;
-
-const HOLDS_ITEMS: u32 = 1;
-
-const HOLDS_ROWS: u32 = 2;
-
-const HOLDS_CELLS: u32 = 3;
-
-const HOLDS_INLINES: u32 = 4;
-
-const HOLDS_LABEL: u32 = 5;
-
-const HOLDS_LABEL_AND_BLOCKS: u32 = 6;
 
 const HOLDS_TAGS_AND_BLOCKS: u32 = 7;
 
 const HOLDS_TAGS_AND_INLINES: u32 = 8;
-
-const HOLDS_NOTHING: u32 = 9;
 
 // The allowed places: a row for each group of parents, a column for each group of children
 // (block, item, row, cell, HTML tag, attribute, inline). 0: not allowed.
@@ -70,67 +35,87 @@ pub struct Open {
     pub tags: u32,
 }
 
-fn holds_blocks(kind: u32) -> bool
-    ensures { λ r. ⌜ r ≡ among kind (blockQuote ∷ alert ∷ footnoteDefinition ∷ item ∷ []) ⌝ }
+// The groups of each kind, from 0 on: as a parent whose A is 0, and as a child.
+const GROUPS: [[u32; 2]; 54] = [
+    [9, 6],
+    [4, 0],
+    [4, 0],
+    [9, 0],
+    [0, 0],
+    [0, 0],
+    [1, 0],
+    [9, 0],
+    [9, 0],
+    [7, 0],
+    [9, 0],
+    [0, 0],
+    [2, 0],
+    [9, 0],
+    [9, 0],
+    [5, 0],
+    [6, 0],
+    [9, 0],
+    [9, 6],
+    [9, 6],
+    [0, 1],
+    [3, 2],
+    [4, 3],
+    [9, 4],
+    [9, 5],
+    [9, 6],
+    [9, 6],
+    [9, 6],
+    [9, 6],
+    [9, 6],
+    [9, 6],
+    [9, 6],
+    [9, 6],
+    [9, 6],
+    [4, 6],
+    [4, 6],
+    [4, 6],
+    [4, 6],
+    [9, 6],
+    [9, 6],
+    [4, 6],
+    [9, 6],
+    [4, 6],
+    [4, 6],
+    [4, 6],
+    [9, 6],
+    [9, 6],
+    [9, 6],
+    [9, 6],
+    [9, 6],
+    [4, 6],
+    [9, 6],
+    [5, 6],
+    [9, 6],
+];
+
+// The groups, made once: what tests a record is lent them.
+pub fn groups() -> [[u32; 2]; 54]
+    ensures { λ r. ⌜ r ≡ kindGroups ⌝ }
 {
-    (kind == kinds::BLOCK_QUOTE)
-        | (kind == kinds::ALERT)
-        | (kind == kinds::FOOTNOTE_DEFINITION)
-        | (kind == kinds::ITEM)
+    GROUPS
 }
 
-fn holds_inlines(kind: u32) -> bool
-    ensures { λ r. ⌜ r ≡ among kind (paragraph ∷ heading ∷ cell ∷ emphasis ∷ strong ∷ delete ∷ mark ∷ link ∷ image ∷ linkReference ∷ imageReference ∷ inlineFootnote ∷ []) ⌝ }
-{
-    (kind == kinds::PARAGRAPH)
-        | (kind == kinds::HEADING)
-        | (kind == kinds::CELL)
-        | (kind == kinds::EMPHASIS)
-        | (kind == kinds::STRONG)
-        | (kind == kinds::DELETE)
-        | (kind == kinds::MARK)
-        | (kind == kinds::LINK)
-        | (kind == kinds::IMAGE)
-        | (kind == kinds::LINK_REFERENCE)
-        | (kind == kinds::IMAGE_REFERENCE)
-        | (kind == kinds::INLINE_FOOTNOTE)
-}
-
-// The group of a directive, of an HTML container by its A, or of what holds nothing.
-fn other_group(kind: u32, a: u32) -> u32
-    ensures { λ r. ⌜ r ≡ otherGroup kind a ⌝ }
-{
-    let labelled = (kind == kinds::LEAF_DIRECTIVE) | (kind == kinds::TEXT_DIRECTIVE);
-    let container = pick(a == 0, HOLDS_TAGS_AND_BLOCKS, HOLDS_TAGS_AND_INLINES);
-    let group = pick(kind == kinds::HTML_CONTAINER, container, HOLDS_NOTHING);
-    let group = pick(
-        kind == kinds::CONTAINER_DIRECTIVE,
-        HOLDS_LABEL_AND_BLOCKS,
-        group,
-    );
-    pick(labelled, HOLDS_LABEL, group)
-}
-
-// What a record of the kind may hold.
-pub fn parent_group(kind: u32, a: u32) -> u32
+// What a record of the kind may hold; an HTML container, inlines where its A is not 0.
+pub fn parent_group(groups: &[[u32; 2]; 54], kind: u32, a: u32) -> u32
+    requires { ⌜ (now groups ≡ kindGroups) × (isKind kind ≡ true) ⌝ }
     ensures { λ r. ⌜ r ≡ parentGroup kind a ⌝ }
 {
-    let group = pick(holds_inlines(kind), HOLDS_INLINES, other_group(kind, a));
-    let group = pick(kind == kinds::ROW, HOLDS_CELLS, group);
-    let group = pick(kind == kinds::TABLE, HOLDS_ROWS, group);
-    let group = pick(kind == kinds::LIST, HOLDS_ITEMS, group);
-    pick(holds_blocks(kind), HOLDS_BLOCKS, group)
+    let k = kind as usize;
+    let inlines = (kind == kinds::HTML_CONTAINER) & (a != 0);
+    pick(inlines, HOLDS_TAGS_AND_INLINES, groups[k][0])
 }
 
-fn child_group(kind: u32) -> u32
+fn child_group(groups: &[[u32; 2]; 54], kind: u32) -> u32
+    requires { ⌜ (now groups ≡ kindGroups) × (isKind kind ≡ true) ⌝ }
     ensures { λ r. ⌜ r ≡ childGroup kind ⌝ }
 {
-    let group = pick(kind == kinds::ATTRIBUTE, 5, 6);
-    let group = pick(kind == kinds::HTML_TAG, 4, group);
-    let group = pick(kind == kinds::CELL, 3, group);
-    let group = pick(kind == kinds::ROW, 2, group);
-    let group = pick(kind == kinds::ITEM, 1, group);
-    pick(kinds::is_block(kind), 0, group)
+    let k = kind as usize;
+    groups[k][1]
 }
 
 // The table, made once: what tests a record is lent it.
@@ -155,11 +140,11 @@ fn place_at(table: &[[u32; 7]; 10], group: u32, column: u32) -> u32
     table[p][c]
 }
 
-fn place_of(table: &[[u32; 7]; 10], group: u32, kind: u32) -> u32
-    requires { ⌜ now table ≡ places ⌝ }
+fn place_of(table: &[[u32; 7]; 10], groups: &[[u32; 2]; 54], group: u32, kind: u32) -> u32
+    requires { ⌜ (now table ≡ places) × (now groups ≡ kindGroups) × (isKind kind ≡ true) ⌝ }
     ensures { λ r. ⌜ r ≡ placeOf group kind ⌝ }
 {
-    place_at(table, group, child_group(kind))
+    place_at(table, group, child_group(groups, kind))
 }
 
 // Under a parent, before its first child.
@@ -174,11 +159,11 @@ pub fn opened(group: u32) -> Open
 }
 
 // The same after one child more.
-pub fn joined(table: &[[u32; 7]; 10], o: Open, kind: u32) -> Open
-    requires { ⌜ (now table ≡ places) × (misplaced o kind ≡ false) ⌝ }
+pub fn joined(table: &[[u32; 7]; 10], groups: &[[u32; 2]; 54], o: Open, kind: u32) -> Open
+    requires { ⌜ (now table ≡ places) × (now groups ≡ kindGroups) × (isKind kind ≡ true) × (misplaced o kind ≡ false) ⌝ }
     ensures { λ r. ⌜ r ≡ joined o kind ⌝ }
 {
-    let stage = place_of(table, o.group, kind);
+    let stage = place_of(table, groups, o.group, kind);
     let tag = kind == kinds::HTML_TAG;
     if tag {
         return Open {
@@ -195,11 +180,11 @@ pub fn joined(table: &[[u32; 7]; 10], o: Open, kind: u32) -> Open
 }
 
 // Not allowed there, out of order, a third HTML tag, or content before the second.
-pub fn misplaced(table: &[[u32; 7]; 10], o: Open, kind: u32) -> bool
-    requires { ⌜ now table ≡ places ⌝ }
+pub fn misplaced(table: &[[u32; 7]; 10], groups: &[[u32; 2]; 54], o: Open, kind: u32) -> bool
+    requires { ⌜ (now table ≡ places) × (now groups ≡ kindGroups) × (isKind kind ≡ true) ⌝ }
     ensures { λ r. ⌜ r ≡ misplaced o kind ⌝ }
 {
-    let place = place_of(table, o.group, kind);
+    let place = place_of(table, groups, o.group, kind);
     let container = (o.group == HOLDS_TAGS_AND_BLOCKS) | (o.group == HOLDS_TAGS_AND_INLINES);
     let tag = kind == kinds::HTML_TAG;
     (place == 0) | (place < o.stage) | (tag & (2 <= o.tags)) | (container & !tag & (o.tags < 2))

@@ -2,17 +2,19 @@
 use mathlib.Core.Path.{_≡_, refl, sym, _∙_}
 use mathlib.Core.Bool.{Bool, true, false, not, _&&_, _||_, false≢true}
 use mathlib.Core.List.{List, [], _∷_}
-use Prim.Native.Nat.{ℕ, zero, suc, _-_, _<_, _≤_}
+use Prim.Native.Nat.{ℕ, zero, suc, _+_, _-_, _<_, _≤_}
 use native.Mathlib.Omega.{arith}
 use lib.Dec.{eqb, leb, ltb, eqb·suc-zero}
-use lib.ListN.{replicate}
-use borrow.Author.Tests.{lt-ltb, le-ltb, le-leb, leb-true, leb-false, ne-eqb, eqb-true, eqb-false, not-true, not-false}
+use lib.ListN.{drop, replicate}
+use borrow.Author.Tests.{lt-leb, lt-ltb, le-ltb, le-leb, ltb-true, leb-true, leb-false, ne-eqb, eqb-true, eqb-false, not-true, not-false}
 use Rattle.strings.specs.Bytes.{between}
 use Rattle.strings.specs.Lists.{none}
 use Rattle.unicode.specs.Utf8.{Range, _to_, within, trail, nothing, table, follow, wellFormed}
 use Rattle.unicode.specs.Scans.{breaks, owedAfter}
 use Rattle.unicode.specs.Owed.{columns}
-use Rattle.strings.proofs.Scan.{scan}
+use Rattle.strings.proofs.Scan.{At, scan}
+use Rattle.chunks.specs.Chunk.{isAscii, Past}
+use Rattle.chunks.proofs.Chunks.{leap-to}
 
 -- ---- a rule of all bytes, by one computed test
 unfoldable pub allBelow : (ℕ → Bool) → ℕ → Bool
@@ -186,6 +188,28 @@ module _ (o : List Range) (b : ℕ) (s : List ℕ) {r : Bool} (e : r ≡ breaks 
       go : (p : List Range) → breaks p b ≡ false → wellFormed p (b ∷ s) ≡ wellFormed (owedAfter p b) s
       go [] h = refl
       go (x ∷ p) h = rw (not-false (within x b) h)
+
+pub utf8-ascii : (b : ℕ) (s : List ℕ) → b < 0x80 → wellFormed [] (b ∷ s) ≡ wellFormed [] s
+unfolding wellFormed
+utf8-ascii b s h = rw (sym (follow-ascii b h))
+
+-- bytes of ASCII where nothing is owed
+pub utf8-leap : {whole : Bool} (more low high : ℕ) {s : List ℕ} {i j : ℕ} → more ≡ 0 → At whole (wellFormed (columns more low high)) s i → Past isAscii s i j → At whole (wellFormed (columns more low high)) s j
+utf8-leap {whole} more low high {s} {i} {j} e inv p = go more e inv
+  where
+    go : (m : ℕ) → m ≡ 0 → At whole (wellFormed (columns m low high)) s i → At whole (wellFormed (columns m low high)) s j
+    go zero e inv = leap-to isAscii (λ b t q. utf8-ascii b t (ltb-true b 0x80 q)) inv p
+    go (suc m) e inv = absurd (omega (arith, e))
+
+-- what follows a byte that begins nothing: no text is well-formed after it
+pub utf8-never : (s : List ℕ) → wellFormed (follow table 0xFF) s ≡ false
+unfolding wellFormed follow table
+utf8-never [] = refl
+utf8-never (b ∷ s) = rw (never (leb 0xBF b) refl)
+  where
+    never : (t : Bool) → leb 0xBF b ≡ t → (leb 0xBF b && leb b 0x80) ≡ false
+    never true e = rw (e, lt-leb b 0x80 (omega (arith, leb-true 0xBF b e)))
+    never false e = rw e
 
 pub utf8-end : (more low high : ℕ) → eqb more 0 ≡ wellFormed (columns more low high) []
 unfolding wellFormed

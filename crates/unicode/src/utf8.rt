@@ -1,9 +1,13 @@
 // Well-formed UTF-8.
 ghost use mathlib.Core.Path.{_≡_};
-ghost use Prim.Native.Nat.{_<_, _≤_};
-ghost use Rattle.unicode.specs.Utf8.{isUtf8, follow, table};
+ghost use Prim.Native.Nat.{_+_, _<_, _≤_, min};
+ghost use lib.ListN.{length, drop};
+ghost use Rattle.unicode.specs.Utf8.{isUtf8, wellFormed, follow, table};
 ghost use Rattle.unicode.specs.Scans.{breaks, owedAfter};
 ghost use Rattle.unicode.specs.Owed.{owedOf};
+use chunks::chunk;
+
+const STRETCH: usize = 64;
 
 // What is owed of a sequence that has begun: how many bytes, and the range of the next.
 // Those after the next are from 0x80 to 0xBF.
@@ -128,6 +132,49 @@ pub fn owed_after(owed: Owed, b: u8) -> Owed
     }
 }
 
+// What is owed at `end`, where `owed` is owed at `from`: what no byte fits, where a byte between them is not
+// what was owed.
+fn owed_at(s: &[u8], from: usize, end: usize, owed: Owed) -> Owed
+    requires { ⌜ (from ≤ end) × (end ≤ length (now s)) ⌝ }
+    ensures { λ r. ⌜ wellFormed (owedOf r) (drop end (now (s .entry))) ≡ wellFormed (owedOf owed) (drop from (now (s .entry))) ⌝ }
+{
+    let mut o = owed;
+    let mut i = from;
+    while i < end {
+        let b = s[i];
+        if breaks(o, b) {
+            return follow(0xFF);
+        }
+        o = owed_after(o, b);
+        i = i + 1;
+    }
+    o
+}
+
+// The end of a stretch of at most `STRETCH` bytes from `i` on.
+fn stretch_end(len: usize, i: usize) -> usize
+    requires { ⌜ i ≤ len ⌝ }
+    ensures { λ r. ⌜ r ≡ min len (i + 64) ⌝ }
+{
+    if len - i < STRETCH {
+        return len;
+    }
+    i + STRETCH
+}
+
+// Past ASCII, sixteen bytes at once, where nothing is owed.
+fn past_ascii(s: &[u8], i: usize, owed: Owed) -> usize
+    requires { ⌜ i ≤ length (now s) ⌝ }
+    ensures { λ r. ⌜ (i ≤ r) × (r ≤ length (now (s .entry))) × (wellFormed (owedOf owed) (drop i (now (s .entry))) ≡ wellFormed (owedOf owed) (drop r (now (s .entry)))) ⌝ }
+{
+    if owed.more == 0 {
+        return chunk::past_ascii(s, i);
+    }
+    i
+}
+
+// ASCII is passed over, and then a stretch is read a byte at a time: among other characters a chunk is seldom
+// all ASCII.
 pub fn is_utf8(s: &[u8]) -> bool
     ensures { λ r. ⌜ r ≡ isUtf8 (now (s .entry)) ⌝ }
 {
@@ -138,12 +185,10 @@ pub fn is_utf8(s: &[u8]) -> bool
     };
     let mut i: usize = 0;
     while i < s.len() {
-        let b = s[i];
-        if breaks(owed, b) {
-            return false;
-        }
-        owed = owed_after(owed, b);
-        i = i + 1;
+        let from = past_ascii(s, i, owed);
+        let end = stretch_end(s.len(), from);
+        owed = owed_at(s, from, end, owed);
+        i = end;
     }
     owed.more == 0
 }

@@ -1,7 +1,13 @@
 -- `refusal::judge::judge` meets its contract.
+use mathlib.Core.Path.{sym, _∙_}
+use borrow.Author.Needs.{needs}
+use borrow.Author.Tests.{not-false}
 use Rattle.refusal.proofs.RefusalLaws.{judging}
 use Rattle.refusal.proofs.judge.judge.Statement.{statement}
 use Rattle.refusal.proofs.judge.judge.Tie as tie
+
+misplaced-requires : tie.Need-misplaced-requires
+misplaced-requires c κs = (search needs, search needs, sym (c .before .before .before .is-kind .ensures) ∙ not-false _ (c .before .before .if1 .left))
 
 pub judge-spec : {M : Type 1} → statement M
 judge-spec =
@@ -11,7 +17,7 @@ judge-spec =
     (λ c. search judging)
     (λ c κs. search judging)
     (λ c. search judging)
-    (λ c κs. search judging)
+    misplaced-requires
     (λ c. search judging)
     (λ c κs. search judging)
     (λ c. search judging)

@@ -6,14 +6,14 @@ use native.Mathlib.Omega.{arith}
 use Rattle.standing.proofs.places.joined.Statement.{statement}
 use Rattle.standing.proofs.places.joined.Tie as tie
 
-add-t7 : tie.Need-add-t7
-add-t7 c = let a = c .before .before .before .args in let few : a .o .tags < 2 = few-tags (a .o) (a .kind) (search needs) (search place-laws) in omega arith
+add-t8 : tie.Need-add-t8
+add-t8 c = let a = c .before .before .before .args in let few : a .o .tags < 2 = few-tags (a .o) (a .kind) (search needs) (search place-laws) in omega arith
 
 pub joined-spec : {M : Type 1} → statement M
 joined-spec =
     tie.close
     (tie.spec
     (λ c κs. search place-laws)
-    add-t7
+    add-t8
     (λ c. search place-laws)
     (λ c. search place-laws))

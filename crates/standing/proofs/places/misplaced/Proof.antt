@@ -6,7 +6,7 @@ use Rattle.standing.proofs.places.misplaced.Tie as tie
 
 returns : tie.Need-returns
 unfolding misplaced
-returns c = cc
+returns c = rw (c .before .before .before .before .before .place-of .ensures)
 
 pub misplaced-spec : {M : Type 1} → statement M
 misplaced-spec =

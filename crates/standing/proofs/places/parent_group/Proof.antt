@@ -1,23 +1,19 @@
 -- `standing::places::parent_group` meets its contract.
-use Rattle.standing.specs.Places.{parentGroup}
+use Rattle.standing.proofs.GroupLaws.{group-laws, parent-group}
 use borrow.Author.Needs.{needs}
+use mathlib.Core.Path.{_∙_}
 use Rattle.standing.proofs.places.parent_group.Statement.{statement}
 use Rattle.standing.proofs.places.parent_group.Tie as tie
 
 returns : tie.Need-returns
-unfolding parentGroup
-returns c = cc
+returns c = c .pick .ensures ∙ parent-group (c .before .before .args .groups .now) (c .before .before .args .kind) (search needs) (search needs) (c .before .before .args .a)
 
 pub parent-group-spec : {M : Type 1} → statement M
 parent-group-spec =
     tie.close
     (tie.spec
-    (λ c κs. search needs)
-    (λ c κs. search needs)
-    (λ c κs. search needs)
-    (λ c κs. search needs)
-    (λ c κs. search needs)
-    (λ c κs. search needs)
-    (λ c κs. search needs)
-    (λ c κs. search needs)
+    (λ c. search group-laws)
+    (λ c. search group-laws)
+    (λ c. search group-laws)
+    (λ c κs. search group-laws)
     returns)

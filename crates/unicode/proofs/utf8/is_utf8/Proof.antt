@@ -1,10 +1,11 @@
 -- `unicode::utf8::is_utf8` meets its contract.
-use Rattle.unicode.proofs.Decoding.{decoding}
+use mathlib.Core.Path.{sym, _∙_}
 use Prim.Native.Nat.{_-_}
+use lib.ListN.{length}
 use Rattle.strings.proofs.Scan.{At}
+use Rattle.unicode.proofs.Decoding.{decoding}
 use Rattle.unicode.specs.Owed.{owedOf}
 use Rattle.unicode.specs.Utf8.{isUtf8, wellFormed}
-use lib.ListN.{length}
 use Rattle.unicode.proofs.utf8.is_utf8.Statement.{statement}
 use Rattle.unicode.proofs.utf8.is_utf8.Tie as tie
 
@@ -18,6 +19,9 @@ loop-holds : tie.Need-loop-holds Inv-loop μ-loop
 unfolding isUtf8
 loop-holds c = search decoding
 
+loop-again : tie.Need-loop-again Inv-loop μ-loop
+loop-again c = record { within = search decoding; same = c .before .before .before .before .loop .inv .same ∙ c .before .before .past-ascii .ensures .2 ∙ sym (c .owed-at .ensures) }
+
 pub is-utf8-spec : {M : Type 1} → statement M
 is-utf8-spec =
     tie.close
@@ -25,11 +29,9 @@ is-utf8-spec =
     Inv-loop
     μ-loop
     loop-holds
-    (λ c. search decoding)
+    (λ c κs. search decoding)
+    (λ c κs. search decoding)
     (λ c κs. search decoding)
     (λ c. search decoding)
-    (λ c κs. search decoding)
-    (λ c. search decoding)
-    (λ c. search decoding)
-    (λ c. search decoding)
+    loop-again
     (λ c. search decoding))

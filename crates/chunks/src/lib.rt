@@ -1,0 +1,2 @@
+// Sixteen bytes at once. The definitions are in specs/Chunk.antt.
+pub mod chunk;
