@@ -5,9 +5,9 @@ use mathlib.Core.List.{List, [], _∷_, _++_}
 use Prim.Native.Nat.{ℕ}
 use lib.ListN.{length, replicate}
 use Rattle.strings.specs.Bytes.{space, lf}
-use Rattle.columns.specs.Field.{front, field, pastSpaces, readDigits, readNumber, readField}
+use Rattle.digits.specs.Field.{front, field, pastSpaces, readDigits, readNumber, readField}
 use Rattle.columns.specs.Line.{fields, line, areFields, isLine, numbers}
-use Rattle.columns.specs.declared.fields.Column.the-variants.{Number, Malformed}
+use Rattle.digits.specs.declared.fields.Column.the-variants.{Number, Malformed}
 
 -- spaces, and what stands behind them
 abbrev behind : ℕ → List ℕ → List ℕ

@@ -15,10 +15,10 @@ use Rattle.strings.specs.Bytes.{lf}
 use Rattle.strings.specs.Part.{partOf}
 use Rattle.report.specs.Report.{over}
 use Rattle.report.proofs.ReportLaws.{over-fits, over-nil, length-over, over-two}
-use Rattle.columns.specs.Field.{places, field, readField, numberOf, isNumber}
+use Rattle.digits.specs.Field.{places, field, readField, numberOf, isNumber}
 use Rattle.columns.specs.Line.{fields, line, lineBytes, areFields, isLine, numbers, Writes}
-use Rattle.columns.specs.declared.fields.Column.{Column}
-use Rattle.columns.proofs.FieldLaws.{field-long}
+use Rattle.digits.specs.declared.fields.Column.{Column}
+use Rattle.digits.proofs.FieldLaws.{field-long}
 
 -- ---- `ends_at`
 pub ends-past : (s : List ℕ) (at : ℕ) → length s ≤ at → false ≡ eqb (getD s at 0) lf

@@ -12,12 +12,12 @@ use borrow.Author.Tests.{leb-true, leb-false, eqb-true}
 use Rattle.strings.specs.Bytes.{lf}
 use Rattle.strings.specs.Lists.{all}
 use Rattle.unicode.proofs.Decoding.{and-left, and-right}
-use Rattle.columns.specs.Field.{places, mostNumber, field, readField, numberOf, isNumber}
+use Rattle.digits.specs.Field.{places, mostNumber, field, readField, numberOf, isNumber}
 use Rattle.columns.specs.Line.{fields, line, lineBytes, areFields, isLine, numbers}
-use Rattle.columns.specs.declared.fields.Column.{Column}
-use Rattle.columns.specs.declared.fields.Column.the-variants.{Number, Malformed}
-use Rattle.columns.proofs.FieldLaws.{field-long}
-use Rattle.columns.proofs.FieldReadLaws.{written-read, read-written}
+use Rattle.digits.specs.declared.fields.Column.{Column}
+use Rattle.digits.specs.declared.fields.Column.the-variants.{Number, Malformed}
+use Rattle.digits.proofs.FieldLaws.{field-long}
+use Rattle.digits.proofs.FieldReadLaws.{written-read, read-written}
 use Rattle.columns.proofs.LineLaws.{fields-long}
 
 -- no number is over the largest

@@ -8,7 +8,7 @@ use lib.Dec.{eqb}
 use lib.ListN.{length, getD, take, drop}
 use Rattle.strings.specs.Bytes.{lf}
 use Rattle.report.specs.Report.{over}
-use Rattle.columns.specs.Field.{places, field, readField, numberOf, isNumber}
+use Rattle.digits.specs.Field.{places, field, readField, numberOf, isNumber}
 
 -- ---- a line as it is written
 

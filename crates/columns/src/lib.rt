@@ -1,3 +1,2 @@
-// The columns of the program's lines: fields of 11 places, and lines of fields.
-pub mod fields;
+// The lines of the program: fields side by side, each line ended by LF.
 pub mod lines;

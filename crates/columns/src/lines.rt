@@ -4,12 +4,12 @@ ghost use Prim.Native.Nat.{_+_, _≤_};
 ghost use lib.Dec.{eqb};
 ghost use lib.ListN.{length, getD};
 ghost use Rattle.strings.specs.Bytes.{lf};
-ghost use Rattle.columns.specs.Field.{numberOf, isNumber};
+ghost use Rattle.digits.specs.Field.{numberOf, isNumber};
 ghost use Rattle.columns.specs.Line.{line, lineBytes, isLine, numbers, Writes};
-use crate::fields::Column;
-use crate::fields::PLACES;
-use crate::fields::read_field;
-use crate::fields::write_field;
+use digits::fields::Column;
+use digits::fields::PLACES;
+use digits::fields::read_field;
+use digits::fields::write_field;
 use strings::bytes::LF;
 use strings::part::part;
 

@@ -12,8 +12,8 @@ use Rattle.strings.specs.Lists.{firstOr, lastOr}
 use Rattle.names.specs.Names.{isAttributeName}
 use Rattle.strings.specs.Part.{partOf}
 use Rattle.leaves.specs.Pipe.{hasOddEscapedPipe, oddPipeAfter}
-use Rattle.unicode.specs.Scalars.{scalars, decode}
-use Rattle.unicode.specs.White.{isWhite, startsWithWhite, endsWithWhite}
+use Rattle.scalars.specs.Scalars.{scalars, decode}
+use Rattle.scalars.specs.White.{isWhite, startsWithWhite, endsWithWhite}
 use Rattle.form.specs.Fields.{textOf}
 use Rattle.sheet.specs.Kinds.{attribute, text, wikiLink}
 use Rattle.sheet.specs.declared.records.Rec.{Rec}

@@ -6,7 +6,7 @@ use lib.Dec.{eqb}
 use Rattle.strings.specs.Lists.{if_then_else_}
 use Rattle.names.specs.Names.{isAttributeName}
 use Rattle.leaves.specs.Pipe.{hasOddEscapedPipe}
-use Rattle.unicode.specs.White.{startsWithWhite, endsWithWhite}
+use Rattle.scalars.specs.White.{startsWithWhite, endsWithWhite}
 use Rattle.sheet.specs.Kinds.{attribute, text, wikiLink}
 use Rattle.classes.specs.Classes.{isBreak, isPlainBreak, namesOwnValue, namesLabel}
 use Rattle.form.specs.Fields.{textOf}

@@ -16,10 +16,10 @@ use classes::class::names_own_value;
 use form::fields::text_of;
 use leaves::pipe::has_odd_escaped_pipe;
 use names::name::is_attribute_name;
+use scalars::white;
 use sheet::kinds;
 use sheet::records::Rec;
 use sheet::records::Text;
-use unicode::white;
 
 pub fn is_empty(t: Text) -> bool
     ensures { λ r. ⌜ r ≡ isEmpty t ⌝ }

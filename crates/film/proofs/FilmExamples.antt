@@ -2,7 +2,7 @@
 use mathlib.Core.Path.{_≡_, refl}
 use mathlib.Core.List.{List, [], _∷_, _++_}
 use Prim.Native.Nat.{ℕ}
-use Rattle.columns.specs.Field.{front, field, pastSpaces, readDigits, readNumber, readField}
+use Rattle.digits.specs.Field.{front, field, pastSpaces, readDigits, readNumber, readField}
 use Rattle.columns.specs.Line.{fields, line, areFields, isLine, numbers}
 use Rattle.film.specs.Film.{mostInput, areRecords, sheetOf, filmSheet, textBehind, filmOf}
 use Rattle.film.specs.declared.films.Film.the-variants.{BadColumn, BigFilm, Ready}

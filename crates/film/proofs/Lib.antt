@@ -1,4 +1,3 @@
-pub mod RecordLaws
 pub mod FilmLaws
 pub mod CutLaws
 pub mod FilmExamples

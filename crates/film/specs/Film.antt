@@ -1,14 +1,16 @@
 -- A film: what the program reads, a sheet and its text.
 -- Document 01: "The program reads a sheet on standard input: counts of records and text bytes; a line a record; the text."
-use Prim.Native.Nat.{ℕ, zero, suc, _+_, _*_}
+use Prim.Native.Nat.{ℕ, _+_, _*_}
 use mathlib.Core.Path.{_≡_}
-use mathlib.Core.Bool.{Bool, true, not, _&&_, _||_}
-use mathlib.Core.List.{List, [], _++_}
+use mathlib.Core.Bool.{Bool, not, _&&_, _||_}
+use mathlib.Core.List.{List, _++_}
 use lib.Dec.{eqb, ltb}
 use lib.ListN.{length, getD, drop}
 use Rattle.strings.specs.Lists.{if_then_else_}
 use Rattle.sheet.specs.Sheet.{recordWords}
 use Rattle.columns.specs.Line.{lineBytes, isLine, numbers}
+unfoldable pub use Rattle.recordlines.specs.Records.{areRecords, sheetOf}
+pub use Rattle.recordlines.specs.Records.{mostRecords}
 use Rattle.film.specs.declared.films.Film.{Film}
 use Rattle.film.specs.declared.films.Film.the-variants.{BadColumn, BigFilm, Ready}
 
@@ -22,18 +24,6 @@ recordCount s = getD (numbers countFields s) 0 0
 
 abbrev pub byteCount : List ℕ → ℕ
 byteCount s = getD (numbers countFields s) 1 0
-
--- ---- the records: "a line a record", a field for each of its words
-
--- n lines of records stand at the front
-unfoldable pub areRecords : ℕ → List ℕ → Bool
-areRecords zero s = true
-areRecords (suc n) s = isLine recordWords s && areRecords n (drop (lineBytes recordWords) s)
-
--- their words
-unfoldable pub sheetOf : ℕ → List ℕ → List ℕ
-sheetOf zero s = []
-sheetOf (suc n) s = numbers recordWords s ++ sheetOf n (drop (lineBytes recordWords) s)
 
 -- what stands behind the first line
 abbrev pub behindCounts : List ℕ → List ℕ
@@ -53,10 +43,7 @@ filmText s = textBehind (recordCount s) s
 
 -- ---- the tests. "The program tests its first line (13, then 14), then each line, before the call".
 
--- 14, big film: "over 512 records or 16,384 text bytes"
-abbrev pub mostRecords : ℕ
-mostRecords = 512
-
+-- 14, big film: "over 512 records or 16,384 text bytes" (`mostRecords` is 512)
 abbrev pub mostBytes : ℕ
 mostBytes = 16384
 

@@ -2,11 +2,11 @@
 ghost use mathlib.Core.Path.{_≡_};
 ghost use Prim.Native.Nat.{_≤_};
 ghost use Rattle.film.specs.Film.{mostRecords, textBehind, filmNumber, filmRecords, Reads};
-use crate::records::RECORD_BYTES;
-use crate::records::behind;
-use crate::records::read_records;
-use columns::fields::PLACES;
 use columns::lines::read_line;
+use digits::fields::PLACES;
+use recordlines::records::RECORD_BYTES;
+use recordlines::records::behind;
+use recordlines::records::read_records;
 
 // How many bytes the first line has: two counts.
 const COUNT_BYTES: usize = 2 * PLACES + 1;

@@ -1,3 +1,2 @@
 // A film as the program reads it: counts, lines of records, text.
 pub mod films;
-pub mod records;

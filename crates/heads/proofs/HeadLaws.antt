@@ -4,11 +4,11 @@ use mathlib.Core.Bool.{Bool, not, _&&_, _||_}
 use mathlib.Core.List.{List}
 use Prim.Native.Nat.{ℕ}
 use lib.Dec.{eqb, ltb}
-use Rattle.multiline.specs.Fence.{holdsFenceLine}
+use Rattle.fences.specs.Fence.{holdsFenceLine}
 use Rattle.multiline.specs.Lines.{hasBlankEdgeLine}
 use Rattle.names.specs.Names.{isBlankIdentifier}
 use Rattle.leaves.specs.Title.{isAlertTitle}
-use Rattle.multiline.specs.declared.fence.FrontmatterKind.{FrontmatterKind}
+use Rattle.fences.specs.declared.fence.FrontmatterKind.{FrontmatterKind}
 use Rattle.form.specs.Fields.{textOf}
 use Rattle.report.specs.Report.{Lists, listIf}
 use Rattle.sheet.specs.declared.records.Span.{Span}

@@ -4,12 +4,12 @@ use mathlib.Core.Bool.{not, _&&_, _||_}
 use mathlib.Core.List.{List}
 use lib.Dec.{eqb, ltb}
 use Rattle.strings.specs.Lists.{if_then_else_}
-use Rattle.multiline.specs.Fence.{holdsFenceLine}
+use Rattle.fences.specs.Fence.{holdsFenceLine}
 use Rattle.multiline.specs.Lines.{hasBlankEdgeLine}
 use Rattle.names.specs.Names.{isBlankIdentifier}
 use Rattle.leaves.specs.Title.{isAlertTitle}
-use Rattle.multiline.specs.declared.fence.FrontmatterKind.{FrontmatterKind}
-use Rattle.multiline.specs.declared.fence.FrontmatterKind.the-variants.{Yaml, Toml}
+use Rattle.fences.specs.declared.fence.FrontmatterKind.{FrontmatterKind}
+use Rattle.fences.specs.declared.fence.FrontmatterKind.the-variants.{Yaml, Toml}
 use Rattle.form.specs.Fields.{textOf}
 use Rattle.report.specs.Report.{Entry, listIf, _⊕_}
 use Rattle.sheet.specs.declared.records.Span.{Span}

@@ -14,10 +14,10 @@ ghost use Rattle.heads.specs.Heads.{
 use checks::rules;
 use checks::single;
 use facts::values::is_empty;
+use fences::fence::FrontmatterKind;
+use fences::fence::holds_fence_line;
 use form::fields::text_of;
 use leaves::title::is_alert_title;
-use multiline::fence::FrontmatterKind;
-use multiline::fence::holds_fence_line;
 use multiline::lines::has_blank_edge_line;
 use names::name::is_blank_identifier;
 use report::entries::Tally;

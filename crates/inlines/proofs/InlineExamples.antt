@@ -8,9 +8,9 @@ use Rattle.leaves.specs.Math.{holdsBacktickDollar}
 use Rattle.names.specs.Names.{isDirectiveName, isRun, runs, isAttributeName}
 use Rattle.strings.specs.Part.{partOf}
 use Rattle.leaves.specs.Pipe.{hasOddEscapedPipe, oddPipeAfter}
-use Rattle.unicode.specs.Scalars.{scalars, decode, emit, leadBits, trailBits}
+use Rattle.scalars.specs.Scalars.{scalars, decode, emit, leadBits, trailBits}
 use Rattle.unicode.specs.Utf8.{follow, table}
-use Rattle.unicode.specs.White.{isWhite, startsWithWhite, endsWithWhite}
+use Rattle.scalars.specs.White.{isWhite, startsWithWhite, endsWithWhite}
 use Rattle.form.specs.Fields.{textOf}
 use Rattle.sheet.specs.Forest.{Forest, none, tree}
 use Rattle.sheet.specs.Kinds.{attribute, text, escape, emphasis, strong, delete, mark, code, link, autolink, image, linkReference, imageReference, softBreak, lineBreak, math, footnoteReference, inlineFootnote, wikiLink, textDirective}

@@ -18,7 +18,7 @@ use Rattle.oneblock.specs.OneBlock.{holdsBlocks, validateContainer, validateLea
 use Rattle.blocks.specs.Blocks.{validateBlock, validateBlocks, validateDocument, validateItem, validateItems}
 use Rattle.checker.specs.Check.{outcome}
 use Rattle.machine.specs.Machine.{closings, remain, stepsFrom, stepsOf, columns, nearest, inLink, behindList, onlyEmpty, openingTests, closingTests, stopOf, position, pathOf, blockPath, outcomeOf, answerStop, answerRecord, outcome as runOutcome, lastMark}
-use Rattle.columns.specs.Field.{front, field, pastSpaces, readDigits, readNumber, readField}
+use Rattle.digits.specs.Field.{front, field, pastSpaces, readDigits, readNumber, readField}
 use Rattle.columns.specs.Line.{fields, line, areFields, isLine, numbers}
 use Rattle.film.specs.Film.{areRecords, sheetOf, filmSheet, textBehind, filmOf}
 use Rattle.printing.specs.Printing.{refusalLine, entryLines, listLines}

@@ -1,4 +1,3 @@
 pub mod Tests
 pub mod LineLaws
-pub mod FenceLaws
 pub mod LineExamples

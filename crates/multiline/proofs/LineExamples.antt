@@ -3,11 +3,7 @@ use mathlib.Core.Path.{_≡_, refl}
 use mathlib.Core.Bool.{true, false}
 use mathlib.Core.List.{[], _∷_}
 use Rattle.strings.specs.Lists.{all, any, firstOr, lastOr}
-use Rattle.strings.specs.Same.{sameBytes}
 use Rattle.multiline.specs.Lines.{lines, longer, isCrOfCrlf, startsWith, isBlank, hasBlankEdgeLine, holdsLineEnding}
-use Rattle.multiline.specs.Trim.{trimEnd, trimCons}
-use Rattle.multiline.specs.Fence.{isFence, holdsFenceLine}
-use Rattle.multiline.specs.declared.fence.FrontmatterKind.the-variants.{Yaml, Toml}
 
 -- lines: CRLF is one line ending, CR LF LF and CR CR are two; `a CRLF b`, `a LF`, nothing
 crlf : (lines (97 ∷ 13 ∷ 10 ∷ 98 ∷ []) ≡ (97 ∷ []) ∷ (98 ∷ []) ∷ []) × (lines (97 ∷ 13 ∷ 10 ∷ 10 ∷ []) ≡ (97 ∷ []) ∷ [] ∷ []) × (lines (97 ∷ 13 ∷ 13 ∷ []) ≡ (97 ∷ []) ∷ [] ∷ []) × (lines (97 ∷ 10 ∷ []) ≡ (97 ∷ []) ∷ []) × (lines [] ≡ [])
@@ -18,11 +14,6 @@ crlf = (refl, refl, refl, refl, refl)
 code : (hasBlankEdgeLine (97 ∷ 13 ∷ 10 ∷ []) ≡ false) × (hasBlankEdgeLine (97 ∷ []) ≡ false) × (hasBlankEdgeLine [] ≡ true) × (hasBlankEdgeLine (13 ∷ 10 ∷ []) ≡ true) × (hasBlankEdgeLine (97 ∷ 10 ∷ 10 ∷ []) ≡ true) × (hasBlankEdgeLine (97 ∷ 13 ∷ 13 ∷ 10 ∷ []) ≡ true) × (hasBlankEdgeLine (32 ∷ 10 ∷ 97 ∷ []) ≡ true)
 unfolding hasBlankEdgeLine firstOr lastOr isBlank all lines longer isCrOfCrlf startsWith
 code = (refl, refl, refl, refl, refl, refl, refl)
-
--- rule 29: `a CRLF --- space tab` holds YAML's fence and not TOML's; `----` and ` ---` are none; `+++` is TOML's
-fences : (holdsFenceLine Yaml (97 ∷ 13 ∷ 10 ∷ 45 ∷ 45 ∷ 45 ∷ 32 ∷ 9 ∷ []) ≡ true) × (holdsFenceLine Toml (97 ∷ 13 ∷ 10 ∷ 45 ∷ 45 ∷ 45 ∷ 32 ∷ 9 ∷ []) ≡ false) × (holdsFenceLine Yaml (45 ∷ 45 ∷ 45 ∷ 45 ∷ []) ≡ false) × (holdsFenceLine Yaml (32 ∷ 45 ∷ 45 ∷ 45 ∷ []) ≡ false) × (holdsFenceLine Toml (43 ∷ 43 ∷ 43 ∷ 10 ∷ []) ≡ true)
-unfolding holdsFenceLine any isFence sameBytes trimEnd trimCons lines longer isCrOfCrlf startsWith
-fences = (refl, refl, refl, refl, refl)
 
 -- rules 31 and 45
 endings : (holdsLineEnding (97 ∷ 13 ∷ []) ≡ true) × (holdsLineEnding (97 ∷ 11 ∷ []) ≡ false)

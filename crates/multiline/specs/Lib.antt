@@ -1,4 +1,3 @@
 pub mod Lines
 pub mod Trim
-pub mod Fence
 pub mod Scans

@@ -1,9 +1,8 @@
 -- How the code reads a text, a byte at a time. The proofs equate each of these with a definition of another file, and no promise to a caller cites them.
 use mathlib.Core.Path.{_≡_}
-use Prim.Native.Nat.{ℕ, _-_, _<_, _≤_}
+use Prim.Native.Nat.{ℕ, _<_, _≤_}
 use mathlib.Core.Bool.{Bool, true, false, _&&_, _||_}
 use mathlib.Core.List.{List, [], _∷_}
-use lib.Dec.{eqb, leb}
 use lib.ListN.{length, getD, drop}
 use Rattle.strings.specs.Bytes.{isBlankByte, isLineEndingByte}
 use Rattle.strings.specs.Lists.{if_then_else_, firstOr, lastOr}
@@ -30,16 +29,3 @@ pub record Led (s : List ℕ) (at : ℕ) : Type 0 where
 pub record Ended (s : List ℕ) (at i : ℕ) : Type 0 where
   pub within : i ≤ length s
   pub same : lastBlank true true (drop at s) ≡ lastBlank true true (drop i s)
-
--- how many bytes of a fence are still to come in the line, after b; 4: the line is no fence
-unfoldable pub fenceLeft : ℕ → ℕ → ℕ → ℕ
-fenceLeft c left b = if eqb left 0 then (if isBlankByte b then 0 else 4) else if eqb b c && leb left 3 then left - 1 else 4
-
--- a line from here on is a fence, where `left` bytes of one are to come in the line being read
-unfoldable pub fenceFrom : ℕ → ℕ → List ℕ → Bool
-fenceFrom c left [] = eqb left 0
-fenceFrom c left (b ∷ s) =
-    let skips = fenceFrom c left s in
-    let ends = fenceFrom c 3 s in
-    let holds = fenceFrom c (fenceLeft c left b) s in
-    if isCrOfCrlf b s then skips else if isLineEndingByte b then eqb left 0 || ends else holds

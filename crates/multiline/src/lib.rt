@@ -1,3 +1,2 @@
-// Texts of several lines: lines and their endings, blank lines, fences. Each module's definitions are in the file of specs/ that bears its name.
-pub mod fence;
+// Texts of several lines: lines and their endings, blank lines. The definitions are in specs/Lines.antt.
 pub mod lines;

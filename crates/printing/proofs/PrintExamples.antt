@@ -5,7 +5,7 @@ use Prim.Native.Nat.{ℕ}
 use lib.ListN.{replicate}
 use Rattle.strings.specs.Bytes.{space, lf}
 use Rattle.report.specs.Report.{Entry, words}
-use Rattle.columns.specs.Field.{front, field}
+use Rattle.digits.specs.Field.{front, field}
 use Rattle.columns.specs.Line.{fields, line}
 use Rattle.printing.specs.Printing.{refusalLine, entryLines, listLines, outputBytes}
 

@@ -12,7 +12,7 @@ use borrow.Author.Needs.{needs}
 use borrow.Author.Tests.{leb-true, leb-false}
 use Rattle.report.specs.Report.{Entry, words, headWords, flat, pathLength, over}
 use Rattle.report.proofs.ReportLaws.{over-fits, over-nil, over-two, length-over}
-use Rattle.columns.specs.Field.{places}
+use Rattle.digits.specs.Field.{places}
 use Rattle.columns.specs.Line.{line, lineBytes, Writes}
 use Rattle.columns.proofs.LineLaws.{line-long}
 use Rattle.printing.specs.Printing.{refusalLine, entryLines, reportWords, outputBytes, Prints}

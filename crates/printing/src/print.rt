@@ -3,7 +3,7 @@ ghost use mathlib.Core.Path.{_≡_};
 ghost use mathlib.Core.List.{[], _∷_, _++_};
 ghost use Prim.Native.Nat.{_+_, _*_, _≤_};
 ghost use lib.ListN.{length};
-ghost use Rattle.columns.specs.Field.{places};
+ghost use Rattle.digits.specs.Field.{places};
 ghost use Rattle.columns.specs.Line.{line, Writes};
 ghost use Rattle.printing.specs.Printing.{refusalLine, reportWords, Prints};
 ghost use Rattle.printing.specs.InWords.{linesIn, entryEnd};

@@ -2,7 +2,7 @@
 use mathlib.Core.Path.{_≡_, refl}
 use mathlib.Core.List.{List, [], _∷_, _++_, map}
 use Prim.Native.Nat.{ℕ, _+_}
-use Rattle.multiline.specs.Fence.{holdsFenceLine, isFence}
+use Rattle.fences.specs.Fence.{holdsFenceLine, isFence}
 use Rattle.multiline.specs.Lines.{hasBlankEdgeLine, holdsLineEnding, isBlank, isCrOfCrlf, lines, longer, startsWith}
 use Rattle.strings.specs.Lists.{all, any, none, firstOr, lastOr}
 use Rattle.names.specs.Names.{isAttributeName, isBlankIdentifier, isDirectiveName, isRun, runs}

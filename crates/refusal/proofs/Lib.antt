@@ -3,4 +3,3 @@ pub mod OpenLaws
 pub mod TagLaws
 pub mod AcceptLaws
 pub mod FormedLaws
-pub mod ContainerLaws

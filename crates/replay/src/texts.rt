@@ -1,5 +1,5 @@
 // Texts with the answers of each function that takes one.
-use multiline::fence::FrontmatterKind;
+use fences::fence::FrontmatterKind;
 use stored::read;
 use stored::tally::Tally;
 ghost use Prim.Native.Nat.{_≤_};
@@ -14,13 +14,13 @@ fn first_seven(s: &[u8]) -> u32
     ensures { λ r. ⌜ r ≤ 0x7F ⌝ }
 {
     flag(unicode::utf8::is_utf8(s), 0x01)
-        + flag(unicode::white::starts_with_white(s), 0x02)
-        + flag(unicode::white::ends_with_white(s), 0x04)
+        + flag(scalars::white::starts_with_white(s), 0x02)
+        + flag(scalars::white::ends_with_white(s), 0x04)
         + flag(multiline::lines::holds_line_ending(s), 0x08)
         + flag(multiline::lines::is_blank(s), 0x10)
         + flag(multiline::lines::has_blank_edge_line(s), 0x20)
         + flag(
-            multiline::fence::holds_fence_line(s, FrontmatterKind::Yaml),
+            fences::fence::holds_fence_line(s, FrontmatterKind::Yaml),
             0x40,
         )
 }
@@ -29,7 +29,7 @@ fn last_seven(s: &[u8]) -> u32
     ensures { λ r. ⌜ r ≤ 0x7F ⌝ }
 {
     flag(
-        multiline::fence::holds_fence_line(s, FrontmatterKind::Toml),
+        fences::fence::holds_fence_line(s, FrontmatterKind::Toml),
         0x01,
     )
         + flag(leaves::title::is_alert_title(s), 0x02)

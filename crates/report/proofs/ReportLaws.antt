@@ -77,11 +77,6 @@ module _ (w : List ℕ) (at : ℕ) (e : List ℕ) where
       go true h = rw h (simp (length-append, length-take, length-drop) (omega (arith, leb-true)))
       go false h = rw h
 
-pub length-put : (w : List ℕ) (s : Tally) (es : List Entry) → length (put w s es) ≡ length w
-unfolding put
-length-put w s [] = refl
-length-put w s (e ∷ es) = length-put (over w (s .words) (words e)) (counted s (length (words e))) es ∙ length-over w (s .words) (words e)
-
 -- words written in two goes, the second behind the first, are written whole
 pub over-two : (w h p : List ℕ) (at : ℕ) → at + (length h + length p) ≤ length w → over (over w at h) (at + length h) p ≡ over w at (h ++ p)
 over-two w h p at fits =
@@ -254,12 +249,6 @@ unfolding flat fitting
 fitting-fits n [] = omega arith
 fitting-fits n (e ∷ es) = fitting-cases (λ fs. length (flat fs) ≤ n) n e es (λ h. simp length-append (omega (arith, fitting-fits (n - length (words e)) es))) (omega arith)
 
--- what fits is a beginning of the list
-pub fitting-begins : (n : ℕ) (es : List Entry) → fitting n es ≡ take (length (fitting n es)) es
-unfolding fitting
-fitting-begins n [] = refl
-fitting-begins n (e ∷ es) = fitting-cases (λ fs. fs ≡ take (length fs) (e ∷ es)) n e es (λ h. ap (λ (fs : List Entry). e ∷ fs) (fitting-begins (n - length (words e)) es)) refl
-
 -- and no longer beginning fits
 pub fitting-longest : (n k : ℕ) (es : List Entry) → length (flat (take k es)) ≤ n → length (take k es) ≤ length (fitting n es)
 unfolding flat
@@ -306,11 +295,6 @@ module _ (x : List ℕ) (es : List Entry) (room : length x * 4 < 2 ^ 63) where
   put-whole h = rw (fitting-all (length x) es h) at put-start
 
 -- ---- reading back
-
-pub flat-append : (es fs : List Entry) → flat (es ⊕ fs) ≡ flat es ++ flat fs
-unfolding flat _⊕_
-flat-append [] fs = refl
-flat-append (e ∷ es) fs = rw (append-assoc (words e) (flat es) (flat fs), ← flat-append es fs)
 
 pub read-back : (es : List Entry) (rest : List ℕ) → entriesIn (length es) (flat es ++ rest) ≡ es
 unfolding entriesIn flat words

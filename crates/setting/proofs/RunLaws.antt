@@ -23,9 +23,9 @@ use Rattle.refusal.proofs.OpenLaws.{Deep, deep}
 use Rattle.refusal.proofs.FormedLaws.{each-passed, accepted}
 use Rattle.machine.specs.Machine.{Frame, fresh, withKid, theSheet, Step, opens, closes, closings, stepsFrom, stepsOf, lastMark, itemMark, seen, lowest, openingTests, closingTests, stopOf, Outcome, ended, stopped, outcomeOf, runOf, outcome, run, markOf, marksOf}
 use Rattle.machine.proofs.StepLaws.{Low, open-one, close-one, goes-on, stops-here}
-use Rattle.stops.specs.Kept.{keptOf, seenBy, openedIn, joinedBy}
-use Rattle.stops.specs.declared.kept.Kept.{Kept}
-use Rattle.stops.proofs.KeptLaws.{seen-kept, opened-kept, joined-kept, small-number}
+use Rattle.frames.specs.Kept.{keptOf, seenBy, openedIn, joinedBy}
+use Rattle.frames.specs.declared.kept.Kept.{Kept}
+use Rattle.frames.proofs.KeptLaws.{seen-kept, opened-kept, joined-kept, small-number}
 use Rattle.setting.specs.Setting.{answerOf, afterRun}
 use Rattle.setting.specs.Running.{nextLevel}
 use Rattle.setting.specs.declared.run.Setting.{Setting}

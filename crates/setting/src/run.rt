@@ -7,12 +7,12 @@ ghost use Rattle.refusal.specs.Refusal.{judgeSheet};
 ghost use Rattle.refusal.specs.declared.judge.Judged.the-variants.{Accepted};
 ghost use Rattle.setting.specs.Setting.{stopNumber, afterRun, settingOf};
 ghost use Rattle.setting.specs.Running.{nextLevel};
+use frames::kept;
 use refusal::judge;
 use refusal::judge::Judged;
 use sheet::records::RECORD_WORDS;
 use sheet::records::level_at;
 use sheet::records::record_at;
-use stops::kept;
 use stops::tests;
 
 // The answer: how many records were opened and closed, or the stop and its record, or why nothing was set.

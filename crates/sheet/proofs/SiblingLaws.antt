@@ -8,9 +8,8 @@ use native.Mathlib.Numerals.{add-one}
 use native.Mathlib.Omega.{arith}
 use lib.Dec.{ltb}
 use borrow.Author.Tests.{eq-eqb, ne-eqb, ltb-true, ltb-false}
-use Rattle.strings.specs.Lists.{if_then_else_}
 use Rattle.sheet.specs.Sheet.{recordAt}
-use Rattle.sheet.specs.Siblings.{gather, isCounted, counting, positionAt}
+use Rattle.sheet.specs.Siblings.{gather}
 use Rattle.sheet.specs.Forest.{under, size}
 use Rattle.sheet.specs.declared.records.Rec.{Rec}
 use Rattle.sheet.proofs.Trees.{size-step, size-out, size-end}
@@ -67,14 +66,3 @@ module _ {A : Type 0} (sheet : A) (first : Rec → A) (next : A → Rec → A) (
       let (h, d) = begins w n m j s e in
       let p : j + suc s ≡ j + 1 + s = omega arith in
       rw p (gather-past n m s (j + 1) (size-less w n m j s e) ∙ gather-deeper j m d)
-
--- ---- positions among siblings
-module _ (w : List ℕ) (n i l : ℕ) (e : recordAt w i .level ≡ l) where
-  pub position-first : positionAt w (l + 1) (i + 1) ≡ 0
-  unfolding positionAt
-  position-first = gather-kid 0 (λ r. 0) counting w i l e
-
-  -- the sibling after record i and the records under it stands one further on, where record i is counted
-  pub position-next : positionAt w l (i + 1 + size (under w n (i + 1) l)) ≡ (if isCounted (recordAt w i .kind) then suc (positionAt w l i) else positionAt w l i)
-  unfolding positionAt
-  position-next = gather-past 0 (λ r. 0) counting w n l (size (under w n (i + 1) l)) (i + 1) refl ∙ gather-next 0 (λ r. 0) counting w i l e

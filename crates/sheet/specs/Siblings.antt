@@ -2,8 +2,6 @@
 use mathlib.Core.List.{List}
 use Prim.Native.Nat.{ℕ, zero, suc, _+_}
 use lib.Dec.{eqb}
-use mathlib.Core.Bool.{Bool}
-use Rattle.strings.specs.Bytes.{between}
 use Rattle.strings.specs.Lists.{if_then_else_}
 use Rattle.sheet.specs.Sheet.{recordAt}
 use Rattle.sheet.specs.declared.records.Rec.{Rec}
@@ -20,14 +18,3 @@ gather sheet first next w level (suc i) =
     else if eqb (r .level) level
     then next before r
     else before
-
--- Document 01: "Path indices count blocks, items, rows and cells only."
-abbrev pub isCounted : ℕ → Bool
-isCounted kind = between 1 22 kind
-
-abbrev pub counting : ℕ → Rec → ℕ
-counting p r = if isCounted (r .kind) then suc p else p
-
--- how many blocks, items, rows and cells stand before record i under the same parent, where its level is `level`
-unfoldable pub positionAt : List ℕ → ℕ → ℕ → ℕ
-positionAt w level i = gather 0 (λ r. 0) counting w level i

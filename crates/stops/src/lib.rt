@@ -1,3 +1,2 @@
-// The setting machine's stops and marks, from what is kept of the open records.
-pub mod kept;
+// The machine's stops and marks, from what is kept of the records that are open.
 pub mod tests;

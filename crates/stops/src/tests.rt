@@ -7,11 +7,11 @@ ghost use Rattle.sheet.specs.Kinds.{among, leafDirective, containerDirective, c
 ghost use Rattle.multiline.specs.Lines.{holdsLineEnding};
 ghost use Rattle.form.specs.Fields.{textOf};
 ghost use Rattle.machine.specs.Machine.{lowest, openingTests, closingTests, markOf};
-ghost use Rattle.stops.specs.Kept.{seenBy, mostKids, mostNumber};
-use crate::kept::Kept;
-use crate::kept::item_mark;
+ghost use Rattle.frames.specs.Kept.{seenBy, mostKids, mostNumber};
 use classes::class;
 use form::fields::text_of;
+use frames::kept::Kept;
+use frames::kept::item_mark;
 use multiline::lines::holds_line_ending;
 use neighbours::taken::written_marker;
 use sheet::kinds;

@@ -2,10 +2,7 @@
 use mathlib.Core.Path.{_≡_, refl}
 use mathlib.Core.Bool.{true, false}
 use mathlib.Core.List.{[], _∷_}
-use Rattle.strings.specs.Lists.{firstOr, lastOr}
 use Rattle.unicode.specs.Utf8.{isUtf8, wellFormed, follow, table}
-use Rattle.unicode.specs.Scalars.{scalars, decode, emit, leadBits, trailBits}
-use Rattle.unicode.specs.White.{isWhite, startsWithWhite, endsWithWhite}
 
 -- ---- UTF-8: the euro sign and U+1F3AC; C0 80 is overlong, ED A0 80 a surrogate, F4 90 80 80 above 10FFFF; cut short; a stray byte
 well-formed : (isUtf8 (0xE2 ∷ 0x82 ∷ 0xAC ∷ []) ≡ true) × (isUtf8 (0xF0 ∷ 0x9F ∷ 0x8E ∷ 0xAC ∷ []) ≡ true) × (isUtf8 [] ≡ true)
@@ -15,13 +12,3 @@ well-formed = (refl, refl, refl)
 ill-formed : (isUtf8 (0xC0 ∷ 0x80 ∷ []) ≡ false) × (isUtf8 (0xED ∷ 0xA0 ∷ 0x80 ∷ []) ≡ false) × (isUtf8 (0xF4 ∷ 0x90 ∷ 0x80 ∷ 0x80 ∷ []) ≡ false) × (isUtf8 (0xE2 ∷ 0x82 ∷ []) ≡ false) × (isUtf8 (0x61 ∷ 0x80 ∷ []) ≡ false)
 unfolding isUtf8 wellFormed follow table
 ill-formed = (refl, refl, refl, refl, refl)
-
--- a, é, €, U+1F3AC; and a sequence that is broken by an a, and one that is cut short
-decoded : (scalars (0x61 ∷ 0xC3 ∷ 0xA9 ∷ 0xE2 ∷ 0x82 ∷ 0xAC ∷ 0xF0 ∷ 0x9F ∷ 0x8E ∷ 0xAC ∷ []) ≡ 0x61 ∷ 0xE9 ∷ 0x20AC ∷ 0x1F3AC ∷ []) × (scalars (0xE2 ∷ 0x82 ∷ 0x61 ∷ 0xE2 ∷ []) ≡ 0xFFFD ∷ 0x61 ∷ 0xFFFD ∷ [])
-unfolding scalars decode emit leadBits trailBits follow table
-decoded = (refl, refl)
-
--- ---- white space: U+000B, 0085, 2028 and 2029 are white here, and not CommonMark's Unicode whitespace; U+200B is not white
-white : (startsWithWhite (0x0B ∷ 0x61 ∷ []) ≡ true) × (startsWithWhite (0xC2 ∷ 0x85 ∷ []) ≡ true) × (endsWithWhite (0x61 ∷ 0xE2 ∷ 0x80 ∷ 0xA8 ∷ []) ≡ true) × (endsWithWhite (0xE2 ∷ 0x80 ∷ 0xA9 ∷ []) ≡ true) × (endsWithWhite (0xE2 ∷ 0x80 ∷ 0x8B ∷ []) ≡ false) × (startsWithWhite [] ≡ false)
-unfolding startsWithWhite endsWithWhite isWhite firstOr lastOr scalars decode emit leadBits trailBits follow table
-white = (refl, refl, refl, refl, refl, refl)

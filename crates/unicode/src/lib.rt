@@ -1,3 +1,2 @@
-// UTF-8 and white space, over all bytes. Each module's definitions are in the file of specs/ that bears its name.
+// UTF-8, over all bytes. The definitions are in specs/Utf8.antt.
 pub mod utf8;
-pub mod white;

@@ -1,0 +1,25 @@
+-- `digits::fields::put_front` meets its contract.
+use Rattle.digits.proofs.FieldLaws.{Filling, writing}
+use Rattle.digits.proofs.fields.put_front.Statement.{statement}
+use Rattle.digits.proofs.fields.put_front.Tie as tie
+
+abbrev Inv-loop : tie.InvT-loop
+Inv-loop cells₀ n rest₀ i₀ cells rest i = Filling cells₀ n cells rest i
+
+abbrev μ-loop : tie.MeasureT-loop
+μ-loop cells₀ n rest₀ i₀ cells rest i = i
+
+pub put-front-spec : {M : Type 1} → statement M
+put-front-spec =
+    tie.close
+    (tie.spec
+    Inv-loop
+    μ-loop
+    (λ c. search writing)
+    (λ c. search writing)
+    (λ c κs. search writing)
+    (λ c. search writing)
+    (λ c. search writing)
+    (λ c. search writing)
+    (λ c. search writing)
+    (λ c. search writing))

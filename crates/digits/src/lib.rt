@@ -1,0 +1,2 @@
+// Numbers as fields of 11 places.
+pub mod fields;

@@ -1,0 +1,2 @@
+pub mod FenceLaws
+pub mod FenceExamples

@@ -1,0 +1,2 @@
+pub mod Fence
+pub mod Scans

@@ -1,0 +1,39 @@
+-- `scalars::white::last_is_white` meets its contract.
+use Prim.Native.Nat.{_-_, _<_}
+use Rattle.strings.proofs.Scan.{At}
+use Rattle.scalars.proofs.WhiteLaws.{endFrom, white-laws}
+use Rattle.unicode.specs.Owed.{owedOf}
+use Rattle.scalars.specs.Scalars.{scalars}
+use Rattle.scalars.specs.Values.{room}
+use Rattle.scalars.specs.White.{endsWithWhite}
+use lib.ListN.{length}
+use Rattle.scalars.proofs.white.last_is_white.Statement.{statement}
+use Rattle.scalars.proofs.white.last_is_white.Tie as tie
+
+abbrev Inv-loop : tie.InvT-loop
+Inv-loop s owed₀ value₀ last₀ i₀ owed value last i = (value < room (owed .more)) × (At (endsWithWhite s) (endFrom last (owedOf owed) value) s i)
+
+abbrev μ-loop : tie.MeasureT-loop
+μ-loop s owed₀ value₀ last₀ i₀ owed value last i = length s - i
+
+loop-holds : tie.Need-loop-holds Inv-loop μ-loop
+unfolding endsWithWhite endFrom scalars
+loop-holds c = search white-laws
+
+pub last-is-white-spec : {M : Type 1} → statement M
+last-is-white-spec =
+    tie.close
+    (tie.spec
+    Inv-loop
+    μ-loop
+    loop-holds
+    (λ c. search white-laws)
+    (λ c κs. search white-laws)
+    (λ c κs. search white-laws)
+    (λ c κs. search white-laws)
+    (λ c κs. search white-laws)
+    (λ c. search white-laws)
+    (λ c. search white-laws)
+    (λ c. search white-laws)
+    (λ c κs. search white-laws)
+    (λ c. search white-laws))

@@ -1,0 +1,3 @@
+pub mod Scalars
+pub mod White
+pub mod Values
