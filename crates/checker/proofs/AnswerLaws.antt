@@ -21,8 +21,8 @@ use Rattle.refusal.specs.declared.judge.Judged.{Judged}
 use Rattle.refusal.specs.declared.judge.Judged.the-variants.{Accepted, OddSheet, LongSheet, LongText, UnknownKind, BadLevel, Misplaced, BadField, TextOutside, NotUtf8, TagsMissing}
 use Rattle.blocks.specs.Blocks.{validateDocument}
 use Rattle.checker.specs.Check.{answerNumber, answerValue, outcome}
-use Rattle.checker.specs.declared.check.Checked.{Checked}
-use Rattle.checker.specs.declared.check.Checked.the-variants.{Listed, Refused, ShortReport}
+use Rattle.answers.specs.declared.answer.Checked.{Checked}
+use Rattle.answers.specs.declared.answer.Checked.the-variants.{Listed, Refused, ShortReport}
 
 pub few-numbers : (j : Judged) → numberOf j ≤ 10
 few-numbers Accepted = omega arith

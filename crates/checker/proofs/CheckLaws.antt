@@ -17,7 +17,7 @@ use Rattle.refusal.proofs.AcceptLaws.{none-refused, some-refused}
 use Rattle.refusal.proofs.FormedLaws.{accepted}
 use Rattle.blocks.specs.Blocks.{validateDocument}
 use Rattle.checker.specs.Check.{outcome}
-use Rattle.checker.specs.declared.check.Checked.the-variants.{Listed, Refused, ShortReport}
+use Rattle.answers.specs.declared.answer.Checked.the-variants.{Listed, Refused, ShortReport}
 
 module _ (w bytes : List ℕ) {j : Judged} {k : ℕ} (e : j ≡ judgeSheet w bytes) (g : k ≡ numberOf j) where
   pub check-refused : (x : List ℕ) → (k ≡ 0 → ⊥) → (Refused j, x) ≡ outcome w bytes x

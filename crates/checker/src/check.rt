@@ -4,41 +4,12 @@ ghost use Rattle.sheet.specs.Sheet.{recordsOf};
 ghost use Rattle.report.specs.Report.{start, after};
 ghost use Rattle.refusal.specs.Formed.{Sound};
 ghost use Rattle.blocks.specs.Blocks.{validateDocument};
-ghost use Rattle.checker.specs.Check.{answerNumber, answerValue, outcome};
+ghost use Rattle.checker.specs.Check.{outcome};
+use answers::answer::Checked;
 use blockwalk::walk::validate_document;
 use refusal::judge;
-use refusal::judge::Judged;
 use report::entries::Tally;
 use sheet::records::RECORD_WORDS;
-
-// The answer: how many entries were listed, or why nothing was.
-pub enum Checked {
-    Listed(usize),
-    Refused(Judged),
-    ShortReport,
-}
-
-// Document 01's number of the answer; 0 where the sheet is accepted.
-pub fn answer_number(c: Checked) -> u32
-    ensures { λ r. ⌜ r ≡ answerNumber c ⌝ }
-{
-    match c {
-        Checked::Listed(_) => 0,
-        Checked::Refused(judged) => judge::number_of(judged),
-        Checked::ShortReport => 11,
-    }
-}
-
-// The number of entries, or the record of a refusal.
-pub fn answer_value(c: Checked) -> usize
-    ensures { λ r. ⌜ r ≡ answerValue c ⌝ }
-{
-    match c {
-        Checked::Listed(entries) => entries,
-        Checked::Refused(judged) => judge::record_of(judged),
-        Checked::ShortReport => 0,
-    }
-}
 
 // The walk into no report at all: how much the list needs.
 fn measure(sheet: &[u32], text: &[u8], n: usize) -> Tally

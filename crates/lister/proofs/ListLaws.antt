@@ -21,7 +21,7 @@ use Rattle.machine.specs.Machine.{Outcome, ended, stopped, answerStop, answerRe
 use Rattle.setting.specs.Setting.{stopNumber, answerOf, afterRun, settingOf}
 use Rattle.setting.specs.declared.run.Setting.{Setting}
 use Rattle.checker.specs.Check.{answerNumber, answerValue, outcome}
-use Rattle.checker.specs.declared.check.Checked.{Checked}
+use Rattle.answers.specs.declared.answer.Checked.{Checked}
 use Rattle.checker.proofs.AnswerLaws.{value-word}
 use Rattle.columns.specs.Line.{line}
 use Rattle.film.specs.Film.{recordCount, behindCounts, filmSheet, textBehind, filmText, mostRecords, mostInput, filmNumber, filmRecords, filmOf, Reads}

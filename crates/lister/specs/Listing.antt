@@ -9,7 +9,7 @@ use Rattle.sheet.specs.Sheet.{recordsOf}
 use Rattle.blocks.specs.Blocks.{validateDocument}
 use Rattle.machine.specs.Machine.{answerStop, answerRecord, outcome as runOutcome}
 use Rattle.checker.specs.Check.{answerNumber, answerValue, outcome}
-use Rattle.checker.specs.declared.check.Checked.{Checked}
+use Rattle.answers.specs.declared.answer.Checked.{Checked}
 use Rattle.film.specs.Film.{filmSheet, filmText, filmNumber, filmOf}
 use Rattle.printing.specs.Printing.{reportWords, refusalLine, listLines}
 

@@ -13,7 +13,7 @@ use Rattle.machine.specs.Machine.{Outcome, ended, stopped}
 use Rattle.setting.specs.Setting.{answerOf, afterRun, settingOf}
 use Rattle.setting.specs.declared.run.Setting.{Setting}
 use Rattle.checker.specs.Check.{answerNumber, answerValue, outcome}
-use Rattle.checker.specs.declared.check.Checked.{Checked}
+use Rattle.answers.specs.declared.answer.Checked.{Checked}
 use Rattle.checker.proofs.AnswerLaws.{judged-record, number-small, value-small, value-word}
 use Rattle.reedsander.specs.Packed.{packed, packedSetting, refusedAt}
 

@@ -3,7 +3,7 @@ use Prim.Native.Nat.{ℕ, _+_, _*_, _^_}
 use Rattle.strings.specs.Lists.{if_then_else_}
 use Rattle.refusal.specs.Refusal.{recordOf}
 use Rattle.checker.specs.Check.{answerNumber, answerValue}
-use Rattle.checker.specs.declared.check.Checked.{Checked}
+use Rattle.answers.specs.declared.answer.Checked.{Checked}
 use Rattle.setting.specs.Setting.{isRefused, stopNumber, refusalNumber, answerRecord}
 use Rattle.setting.specs.declared.run.Setting.{Setting}
 use Rattle.setting.specs.declared.run.Setting.the-variants.{Ended, Stopped, Refused, ShortMarks}

@@ -13,8 +13,8 @@ use Rattle.refusal.proofs.AcceptLaws.{is-accepted}
 use Rattle.refusal.specs.declared.judge.Judged.the-variants.{Accepted}
 use Rattle.blocks.specs.Blocks.{validateDocument}
 use Rattle.checker.specs.Check.{outcome}
-use Rattle.checker.specs.declared.check.Checked.{Checked}
-use Rattle.checker.specs.declared.check.Checked.the-variants.{Listed, Refused, ShortReport}
+use Rattle.answers.specs.declared.answer.Checked.{Checked}
+use Rattle.answers.specs.declared.answer.Checked.the-variants.{Listed, Refused, ShortReport}
 use Rattle.setting.specs.Setting.{settingOf}
 use Rattle.setting.specs.declared.run.Setting.{Setting}
 use Rattle.demand.specs.Demand.{Agrees, Demand}

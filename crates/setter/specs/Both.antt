@@ -4,8 +4,8 @@ use mathlib.Core.Path.{_≡_}
 use mathlib.Core.List.{List}
 use Rattle.report.specs.Report.{entriesIn}
 use Rattle.checker.specs.Check.{outcome}
-use Rattle.checker.specs.declared.check.Checked.{Checked}
-use Rattle.checker.specs.declared.check.Checked.the-variants.{Listed}
+use Rattle.answers.specs.declared.answer.Checked.{Checked}
+use Rattle.answers.specs.declared.answer.Checked.the-variants.{Listed}
 use Rattle.setting.specs.Setting.{settingOf}
 use Rattle.setting.specs.declared.run.Setting.{Setting}
 use Rattle.demand.specs.Demand.{Agrees}

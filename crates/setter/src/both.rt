@@ -1,6 +1,6 @@
 // The check and the setting machine, one after the other, on the same sheet and text.
 ghost use Rattle.setter.specs.Both.{Done};
-use checker::check::Checked;
+use answers::answer::Checked;
 use checker::check::check;
 use setting::run::Setting;
 use setting::run::set;
