@@ -27,7 +27,8 @@ fn is_ascii(s: &[u8], i: usize) -> bool
     four_ascii(s, i) & four_ascii(s, i + 4) & four_ascii(s, i + 8) & four_ascii(s, i + 12)
 }
 
-// Passes over chunks from `from` on as long as all their bytes are ASCII.
+// Passes over chunks from `from` on as long as all their bytes are ASCII. What is promised is that every byte
+// passed over is ASCII; how far it goes is a matter of speed alone.
 pub fn past_ascii(s: &[u8], from: usize) -> usize
     requires { ⌜ from ≤ length (now s) ⌝ }
     ensures { λ r. ⌜ Past isAscii (now (s .entry)) from r ⌝ }
@@ -71,8 +72,7 @@ fn lacks(s: &[u8], i: usize, a: u8, b: u8) -> bool
         & four_lack(s, i + 12, a, b)
 }
 
-// Passes over chunks from `from` on as long as none of their bytes is `a` or `b`. Where it ends, fewer than
-// sixteen bytes are left, or `a` or `b` is among the next sixteen.
+// The same as long as none of their bytes is `a` or `b`.
 pub fn past(s: &[u8], from: usize, a: u8, b: u8) -> usize
     requires { ⌜ from ≤ length (now s) ⌝ }
     ensures { λ r. ⌜ Past (isNeither a b) (now (s .entry)) from r ⌝ }
