@@ -1,6 +1,6 @@
 -- The number of the check's answer, and its record or count.
 use Prim.Native.Nat.{ℕ}
-use Rattle.refusal.specs.Refusal.{numberOf, recordOf}
+use Rattle.verdicts.specs.Verdict.{numberOf, recordOf}
 use Rattle.answers.specs.declared.answer.Checked.{Checked}
 use Rattle.answers.specs.declared.answer.Checked.the-variants.{Listed, Refused, ShortReport}
 

@@ -1,8 +1,8 @@
 // The answer of the check, with its number and its record or count.
 ghost use mathlib.Core.Path.{_≡_};
 ghost use Rattle.answers.specs.Answer.{answerNumber, answerValue};
-use refusal::judge;
-use refusal::judge::Judged;
+use verdicts::verdict;
+use verdicts::verdict::Judged;
 
 // The answer: how many entries were listed, or why nothing was.
 pub enum Checked {
@@ -17,7 +17,7 @@ pub fn answer_number(c: Checked) -> u32
 {
     match c {
         Checked::Listed(_) => 0,
-        Checked::Refused(judged) => judge::number_of(judged),
+        Checked::Refused(judged) => verdict::number_of(judged),
         Checked::ShortReport => 11,
     }
 }
@@ -28,7 +28,7 @@ pub fn answer_value(c: Checked) -> usize
 {
     match c {
         Checked::Listed(entries) => entries,
-        Checked::Refused(judged) => judge::record_of(judged),
+        Checked::Refused(judged) => verdict::record_of(judged),
         Checked::ShortReport => 0,
     }
 }

@@ -1,2 +1,3 @@
-// The answer of the check. The definitions are in specs/Answer.antt.
+// The answers of the check and of the setting machine.
 pub mod answer;
+pub mod setting;

@@ -26,7 +26,8 @@ use Rattle.neighbours.specs.Taken.{first, beforeNext, validateTakenBlock, befor
 use Rattle.items.specs.Items.{validateItemBlankLines, validateTaskItem}
 use Rattle.numbers.specs.Numbers.{itemNumber, validateItemNumber}
 use Rattle.numbers.specs.declared.number.Number.{Number}
-use Rattle.oneblock.specs.OneBlock.{holdsBlocks, validateOwn}
+use Rattle.oneblock.specs.OneBlock.{validateOwn}
+use Rattle.blocks.specs.Holds.{holdsBlocks}
 use Rattle.blocks.specs.Blocks.{validateBlock, validateBlocks, validateItem, validateItems}
 use Rattle.blocks.specs.At.{At, blockAt}
 

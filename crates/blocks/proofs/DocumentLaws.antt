@@ -11,7 +11,7 @@ use Rattle.sheet.specs.Forest.{Forest, none, tree, deeper, forestOf, under}
 use Rattle.standing.specs.declared.places.Open.{Open}
 use Rattle.report.specs.Report.{Lists, start}
 use Rattle.report.specs.declared.entries.Tally.{Tally}
-use Rattle.refusal.specs.Formed.{Formed, Sound}
+use Rattle.recordtests.specs.Formed.{Formed, Sound}
 use Rattle.walks.specs.Walk.{Begin, Done}
 use Rattle.walks.specs.declared.trees.Walked.{Walked}
 use Rattle.walks.proofs.WalkLaws.{start-of}

@@ -11,7 +11,8 @@ use Rattle.report.specs.Report.{Entry, _⊕_}
 use Rattle.sheet.specs.declared.records.Rec.{Rec}
 use Rattle.neighbours.specs.declared.taken.Before.{Before}
 use Rattle.neighbours.specs.Taken.{first, beforeNext, validateTakenBlock}
-use Rattle.oneblock.specs.OneBlock.{holdsBlocks, validateOwn}
+use Rattle.oneblock.specs.OneBlock.{validateOwn}
+use Rattle.blocks.specs.Holds.{holdsBlocks}
 use Rattle.items.specs.Items.{validateItemBlankLines, validateTaskItem}
 use Rattle.numbers.specs.Numbers.{itemNumber, validateItemNumber}
 

@@ -11,14 +11,19 @@ use Rattle.strings.specs.Lists.{if_then_else_}
 use Rattle.sheet.specs.Kinds.{isKind}
 use Rattle.sheet.specs.Sheet.{recordWords, recordsOf}
 use Rattle.standing.specs.Places.{misplaced}
-use Rattle.form.specs.Fields.{badField, textOutside, textIllFormed}
+use Rattle.form.specs.Fields.{badField}
+use Rattle.texts.specs.Texts.{textOutside, textIllFormed}
 use Rattle.sheet.specs.declared.records.Rec.{Rec}
 use Rattle.standing.specs.declared.places.Open.{Open}
 use Rattle.report.specs.Report.{flat}
 use Rattle.report.proofs.ReportLaws.{few-entries}
-use Rattle.refusal.specs.Refusal.{numberOf, recordOf, mostRecords, mostBytes, isAccepted, badLevel, judgeTexts, judge, judgeAt, orElse, judgeFrom, lacksTags, tagsFrom, judgeSheet}
-use Rattle.refusal.specs.declared.judge.Judged.{Judged}
-use Rattle.refusal.specs.declared.judge.Judged.the-variants.{Accepted, OddSheet, LongSheet, LongText, UnknownKind, BadLevel, Misplaced, BadField, TextOutside, NotUtf8, TagsMissing}
+use Rattle.verdicts.specs.Verdict.{numberOf, recordOf, isAccepted, orElse}
+use Rattle.verdicts.specs.Limits.{mostRecords, mostBytes}
+use Rattle.recordtests.specs.Tests.{badLevel, judgeTexts, judge}
+use Rattle.refusal.specs.Refusal.{judgeAt, judgeFrom, judgeSheet}
+use Rattle.htmltags.specs.Tags.{lacksTags, tagsFrom}
+use Rattle.verdicts.specs.declared.verdict.Judged.{Judged}
+use Rattle.verdicts.specs.declared.verdict.Judged.the-variants.{Accepted, OddSheet, LongSheet, LongText, UnknownKind, BadLevel, Misplaced, BadField, TextOutside, NotUtf8, TagsMissing}
 use Rattle.blocks.specs.Blocks.{validateDocument}
 use Rattle.checker.specs.Check.{answerNumber, answerValue, outcome}
 use Rattle.answers.specs.declared.answer.Checked.{Checked}

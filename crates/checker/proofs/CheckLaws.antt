@@ -9,11 +9,12 @@ use lib.ListN.{length, drop}
 use Rattle.report.specs.Report.{Entry, Lists, flat, start, after}
 use Rattle.report.specs.declared.entries.Tally.{Tally}
 use Rattle.report.proofs.ReportLaws.{entries-counted, counted-fits, counted-short, counted-whole, put-whole}
-use Rattle.refusal.specs.Refusal.{numberOf, isAccepted, judgeSheet}
-use Rattle.refusal.specs.Formed.{Sound}
-use Rattle.refusal.specs.declared.judge.Judged.{Judged}
-use Rattle.refusal.specs.declared.judge.Judged.the-variants.{Accepted}
-use Rattle.refusal.proofs.AcceptLaws.{none-refused, some-refused}
+use Rattle.verdicts.specs.Verdict.{numberOf, isAccepted}
+use Rattle.refusal.specs.Refusal.{judgeSheet}
+use Rattle.recordtests.specs.Formed.{Sound}
+use Rattle.verdicts.specs.declared.verdict.Judged.{Judged}
+use Rattle.verdicts.specs.declared.verdict.Judged.the-variants.{Accepted}
+use Rattle.verdicts.proofs.VerdictLaws.{none-refused, some-refused}
 use Rattle.refusal.proofs.FormedLaws.{accepted}
 use Rattle.blocks.specs.Blocks.{validateDocument}
 use Rattle.checker.specs.Check.{outcome}

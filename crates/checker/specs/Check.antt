@@ -6,7 +6,8 @@ use lib.Dec.{ltb}
 use lib.ListN.{length, drop}
 use Rattle.strings.specs.Lists.{if_then_else_}
 use Rattle.report.specs.Report.{flat}
-use Rattle.refusal.specs.Refusal.{isAccepted, judgeSheet}
+use Rattle.verdicts.specs.Verdict.{isAccepted}
+use Rattle.refusal.specs.Refusal.{judgeSheet}
 pub use Rattle.answers.specs.Answer.{answerNumber, answerValue}
 use Rattle.blocks.specs.Blocks.{validateDocument}
 use Rattle.answers.specs.declared.answer.Checked.{Checked}

@@ -2,7 +2,7 @@
 ghost use mathlib.Core.Path.{_≡_};
 ghost use Rattle.sheet.specs.Sheet.{recordsOf};
 ghost use Rattle.report.specs.Report.{start, after};
-ghost use Rattle.refusal.specs.Formed.{Sound};
+ghost use Rattle.recordtests.specs.Formed.{Sound};
 ghost use Rattle.blocks.specs.Blocks.{validateDocument};
 ghost use Rattle.checker.specs.Check.{outcome};
 use answers::answer::Checked;
@@ -10,6 +10,7 @@ use blockwalk::walk::validate_document;
 use refusal::judge;
 use report::entries::Tally;
 use sheet::records::RECORD_WORDS;
+use verdicts::verdict;
 
 // The walk into no report at all: how much the list needs.
 fn measure(sheet: &[u32], text: &[u8], n: usize) -> Tally
@@ -25,7 +26,7 @@ pub fn check(sheet: &[u32], text: &[u8], report: &mut [u32]) -> Checked
     ensures { λ r. ⌜ (r, now (report .exit)) ≡ outcome (now (sheet .entry)) (now (text .entry)) (now (report .entry)) ⌝ }
 {
     let judged = judge::accept(sheet, text);
-    if judge::number_of(judged) != 0 {
+    if verdict::number_of(judged) != 0 {
         return Checked::Refused(judged);
     }
     let n = sheet.len() / RECORD_WORDS;

@@ -6,7 +6,7 @@ use lib.Dec.{eqb}
 use Rattle.names.specs.Names.{isDirectiveName}
 use Rattle.strings.specs.Punctuation.{isAsciiPunctuation}
 use Rattle.sheet.specs.Kinds.{delete}
-use Rattle.form.specs.Fields.{textOf}
+use Rattle.texts.specs.Texts.{textOf}
 use Rattle.report.specs.Report.{Entry, listIf, _⊕_}
 use Rattle.sheet.specs.declared.records.Span.{Span}
 use Rattle.sheet.specs.declared.records.Text.{Text}

@@ -6,7 +6,6 @@ ghost use Rattle.checks.specs.Single.{validateDestination, validateIdent
 use crate::rules;
 use classes::class;
 use facts::values;
-use form::fields::text_of;
 use names::name::is_directive_name;
 use report::entries::Tally;
 use report::entries::list_if;
@@ -14,6 +13,7 @@ use sheet::kinds;
 use sheet::records::Span;
 use sheet::records::Text;
 use strings::punctuation::is_ascii_punctuation;
+use texts::text::text_of;
 
 // Rule 25: a bare destination (`a` is 0) is not empty.
 pub fn validate_destination(

@@ -11,7 +11,7 @@ use lib.Seq.{take-at, drop-at, getD-at, take-add, take-suc}
 use borrow.Author.Tests.{leb-true, leb-false, eqb-true}
 use Rattle.strings.specs.Bytes.{lf}
 use Rattle.strings.specs.Lists.{all}
-use Rattle.unicode.proofs.Decoding.{and-left, and-right}
+use Rattle.strings.proofs.Tests.{and-left, and-right}
 use Rattle.digits.specs.Field.{places, mostNumber, field, readField, numberOf, isNumber}
 use Rattle.columns.specs.Line.{fields, line, lineBytes, areFields, isLine, numbers}
 use Rattle.digits.specs.declared.fields.Column.{Column}

@@ -1,2 +1,1 @@
 pub mod TagLaws
-pub mod FootnoteLaws

@@ -4,7 +4,7 @@ use mathlib.Core.Bool.{Bool, not}
 use mathlib.Core.List.{List}
 use Prim.Native.Nat.{ℕ, _+_}
 use Rattle.strings.specs.Same.{sameBytes}
-use Rattle.form.specs.Fields.{textOf}
+use Rattle.texts.specs.Texts.{textOf}
 use Rattle.sheet.specs.Forest.{none, under, size}
 use Rattle.sheet.specs.Sheet.{recordAt}
 use Rattle.report.specs.Report.{Lists, listIf}

@@ -1,3 +1,2 @@
-// What a container reports of itself by what it holds: HTML containers and footnote definitions.
-pub mod footnotes;
+// What an HTML container reports of its tags.
 pub mod tags;

@@ -7,13 +7,13 @@ ghost use Rattle.walks.specs.Walk.{Start};
 ghost use Rattle.containers.specs.Tags.{validateTags, validateHtmlContainer};
 use checks::rules;
 use facts::values::is_empty;
-use form::fields::text_of;
 use report::entries::Tally;
 use report::entries::list_if;
 use sheet::records::Rec;
 use sheet::records::Span;
 use sheet::records::record_at;
 use strings::same::same_bytes;
+use texts::text::text_of;
 use walks::trees::ends;
 use walks::trees::skip;
 

@@ -15,17 +15,18 @@ use Rattle.sheet.specs.declared.records.Rec.{Rec}
 use Rattle.sheet.specs.declared.records.Span.{Span}
 use Rattle.sheet.specs.declared.records.Text.{Text}
 use Rattle.report.specs.Report.{Entry, listIf, _⊕_}
-use Rattle.standing.specs.Places.{holdsBlocks, holdsNothing, parentGroup, otherGroup}
+use Rattle.groups.specs.Groups.{holdsBlocks, holdsNothing, parentGroup, otherGroup}
 use Rattle.classes.specs.Classes.{isBreak}
 use Rattle.depths.specs.Every.{validateOneLine}
 use Rattle.inlines.specs.Inlines.{validateInlineNodesAfter, validateInlineNodes, validateInlines}
 use Rattle.neighbours.specs.declared.taken.Before.{Before}
 use Rattle.heads.specs.Heads.{validateHeading, validateFrontmatter}
-use Rattle.neighbours.specs.Taken.{writtenMarker, takesIndentedCode, validateTakenBlock, first, beforeNext}
+use Rattle.markers.specs.Marker.{writtenMarker}
+use Rattle.neighbours.specs.Taken.{takesIndentedCode, validateTakenBlock, first, beforeNext}
 use Rattle.lists.specs.Lists.{validateList}
 use Rattle.numbers.specs.Numbers.{itemNumber, validateItemNumber}
 use Rattle.prose.specs.Prose.{beforeBlocks, validateParagraph, validateDirective}
-use Rattle.oneblock.specs.OneBlock
+use Rattle.blocks.specs.Holds
 use Rattle.oneblock.specs.OneBlock.{validateLeaf, validateHtml, validateContainer, validateOwn}
 use Rattle.blocks.specs.Blocks.{validateBlock, validateItem, validateBlocks, validateItems}
 use Rattle.machine.specs.Machine.{Frame, fresh, withKid, opens, closes, stopOf, openingTests, closingTests, pathOf, blockPath, position, nearest, inLink, behindBreak, behindList, onlyEmpty}
@@ -190,7 +191,7 @@ abbrev held : List ℕ → List ℕ → Rec → Forest → List Entry
 held bytes q r kids =
     if eqb (r .kind) list
     then validateItems bytes q 0 (r .a) (r .c) kids
-    else if OneBlock.holdsBlocks (r .kind) (r .a)
+    else if Holds.holdsBlocks (r .kind) (r .a)
     then validateBlocks bytes q 0 first kids
     else []
 
@@ -249,7 +250,7 @@ module _ (bytes : List ℕ) (es : List Entry) (f : Frame) (st : List Frame) (i :
       (one-stop (eqb (length (pile kids [])) 0) 8 (rw e) (λ h. sub-if 12 _ q (sub-left _ l) (n ∙ h) refl (at (pile kids [])))))
 
   block-front : r .kind ≡ frontmatter → Block
-  unfolding stopOf openingTests closingTests validateOwn validateContainer validateLeaf validateFrontmatter OneBlock.holdsBlocks groupOf parentGroup otherGroup beside named
+  unfolding stopOf openingTests closingTests validateOwn validateContainer validateLeaf validateFrontmatter Holds.holdsBlocks groupOf parentGroup otherGroup beside named
   block-front e =
       let l : Sub (validateFrontmatter bytes q (r .span) (r .level) (r .a) (r .first)) es = rw e at s in
       fits-map (λ c. (apart (rw e), rw e (clean-append (clean-if 28 _ q (c .0)) (clean-noise _ 29 _ q refl)), rw e clean-none))
@@ -259,7 +260,7 @@ module _ (bytes : List ℕ) (es : List Entry) (f : Frame) (st : List Frame) (i :
       (still (rw e)))
 
   block-leaf-directive : r .kind ≡ leafDirective → Block
-  unfolding stopOf openingTests closingTests validateOwn validateContainer validateLeaf validateDirective OneBlock.holdsBlocks groupOf parentGroup otherGroup inLink nearest beside named
+  unfolding stopOf openingTests closingTests validateOwn validateContainer validateLeaf validateDirective Holds.holdsBlocks groupOf parentGroup otherGroup inLink nearest beside named
   block-leaf-directive e =
       let l : Sub (validateDirective bytes q 22 (r .span) (r .first) kids) es = rw e at s in
       let a : (k : ℕ) → Stands r k → InlineRoot k = hold-label r (rw e) in
@@ -272,7 +273,7 @@ module _ (bytes : List ℕ) (es : List Entry) (f : Frame) (st : List Frame) (i :
       (still (rw e)))
 
   block-directive : Blocks bytes kids → r .kind ≡ containerDirective → Block
-  unfolding stopOf openingTests closingTests validateOwn validateContainer validateDirective validateInlines validateInlineNodes OneBlock.holdsBlocks groupOf parentGroup otherGroup inLink named
+  unfolding stopOf openingTests closingTests validateOwn validateContainer validateDirective validateInlines validateInlineNodes Holds.holdsBlocks groupOf parentGroup otherGroup inLink named
   block-directive ih e =
       let l : Sub (validateDirective bytes q 23 (r .span) (r .first) kids) es = rw e at s in
       let u : Sub (validateBlocks bytes q 0 first kids) es = rw e at t in
@@ -285,7 +286,7 @@ module _ (bytes : List ℕ) (es : List Entry) (f : Frame) (st : List Frame) (i :
       (still (rw e)))
 
   block-html : Blocks bytes kids → r .kind ≡ htmlContainer → Block
-  unfolding stopOf openingTests closingTests validateOwn validateContainer validateHtml OneBlock.holdsBlocks groupOf parentGroup otherGroup inLink nearest named
+  unfolding stopOf openingTests closingTests validateOwn validateContainer validateHtml Holds.holdsBlocks groupOf parentGroup otherGroup inLink nearest named
   block-html ih e = go (eqb (r .a) 0) refl
     where
       go : (x : Bool) → eqb (r .a) 0 ≡ x → Block
@@ -297,7 +298,7 @@ module _ (bytes : List ℕ) (es : List Entry) (f : Frame) (st : List Frame) (i :
           (sub-right _ (rw (e, u) at s)) (λ x c y. rw (e, u) (clean-append (clean-tags bytes q (r .span) kids) c)) (rw (e, u) clean-none)
 
   block-fits : Blocks bytes kids → Items bytes kids → BlockKind (r .kind) → Block
-  unfolding stopOf openingTests closingTests validateOwn validateContainer validateLeaf validateParagraph validateHeading OneBlock.holdsBlocks groupOf parentGroup otherGroup inLink nearest beside named
+  unfolding stopOf openingTests closingTests validateOwn validateContainer validateLeaf validateParagraph validateHeading Holds.holdsBlocks groupOf parentGroup otherGroup inLink nearest beside named
   block-fits ihb ihi (b1 e) =
       block-content (hold-inlines r (rw e)) (rw e) (rw e out) (rw e) (still (rw e))
       (one-stop (onlyEmpty (pile kids [])) 9 (rw e) (λ h. sub-if 2 _ q (sub-left _ (rw e at s)) (sym (empty-kids r kids (rw e) placed) ∙ h) refl (at (pile kids []))))

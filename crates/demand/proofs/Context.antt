@@ -8,7 +8,7 @@ use lib.ListN.{length}
 use Rattle.sheet.specs.Kinds.{isBlock, isInline}
 use Rattle.sheet.specs.Forest.{Forest, none, tree, count}
 use Rattle.sheet.specs.declared.records.Rec.{Rec}
-use Rattle.standing.specs.Places.{holdsInlines}
+use Rattle.groups.specs.Groups.{holdsInlines}
 use Rattle.facts.specs.Values.{isEmptyText}
 use Rattle.contents.specs.Beside.{allEmpty}
 use Rattle.machine.specs.Machine.{Frame, inPath, pathOf, blockPath, siblings, position, nearest, onlyEmpty}

@@ -10,9 +10,9 @@ use borrow.Author.Tests.{eqb-true, eqb-false}
 use Rattle.sheet.specs.Kinds.{among}
 use Rattle.sheet.specs.Forest.{forestOf}
 use Rattle.report.specs.Report.{Entry}
-use Rattle.refusal.specs.Formed.{Sound}
+use Rattle.recordtests.specs.Formed.{Sound}
 use Rattle.refusal.specs.Refusal.{judgeSheet}
-use Rattle.refusal.specs.declared.judge.Judged.the-variants.{Accepted}
+use Rattle.verdicts.specs.declared.verdict.Judged.the-variants.{Accepted}
 use Rattle.refusal.proofs.FormedLaws.{accepted}
 use Rattle.blocks.specs.Blocks.{validateDocument}
 use Rattle.neighbours.specs.Taken.{first}

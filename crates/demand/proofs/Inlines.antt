@@ -11,13 +11,14 @@ use Rattle.multiline.specs.Lines.{holdsLineEnding}
 use Rattle.sheet.specs.Kinds.{among, isInline, cell, leafDirective, containerDirective}
 use Rattle.sheet.specs.Forest.{Forest, none, tree, size}
 use Rattle.sheet.specs.declared.records.Rec.{Rec}
-use Rattle.form.specs.Fields.{textOf}
+use Rattle.texts.specs.Texts.{textOf}
 use Rattle.report.specs.Report.{Entry, listIf, _⊕_}
-use Rattle.standing.specs.Places.{holdsInlines, holdsLabel, holdsNothing, parentGroup, otherGroup}
+use Rattle.groups.specs.Groups.{holdsInlines, holdsLabel, holdsNothing, parentGroup, otherGroup}
 use Rattle.classes.specs.Classes.{isBreak, isPlainBreak, isLink}
 use Rattle.checks.specs.Single.{validateSiblings}
 use Rattle.literals.specs.Literals.{validateText, validateCodeInline}
-use Rattle.depths.specs.Every.{eachRecord, validateOneLine, validateLinkText}
+use Rattle.depths.specs.Every.{eachRecord, validateOneLine}
+use Rattle.linktext.specs.LinkText.{validateLinkText}
 use Rattle.contents.specs.Beside.{allEmpty}
 use Rattle.inlinevalues.specs.InlineValues.{validateInlineValues}
 use Rattle.oneinline.specs.Inline.{validateEmphasisContainer, validateInline}

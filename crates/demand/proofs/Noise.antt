@@ -13,11 +13,12 @@ use Rattle.sheet.specs.declared.records.Text.{Text}
 use Rattle.report.specs.Report.{Entry}
 use Rattle.checks.specs.Single.{validateDestination, validateIdentifier, validateEscape, validateDirectiveName}
 use Rattle.literals.specs.Literals.{validateMathInline}
-use Rattle.depths.specs.Every.{validateDirectiveAttributes, eachRecord, validateCellValues}
+use Rattle.attributes.specs.Attributes.{validateDirectiveAttributes}
+use Rattle.depths.specs.Every.{eachRecord, validateCellValues}
 use Rattle.contents.specs.Beside.{finalBreakAfter, finalBreak}
 use Rattle.oneinline.specs.Inline.{validateTextDirective}
 use Rattle.heads.specs.Heads.{validateAlert, validateCodeBlock, validateDefinition}
-use Rattle.containers.specs.Footnotes.{blankLineAt, validateFootnoteDefinition}
+use Rattle.footnotes.specs.Footnotes.{blankLineAt, validateFootnoteDefinition}
 use Rattle.items.specs.Items.{validateBlankLine, validateItemBlankLines, validateTaskItem}
 use Rattle.containers.specs.Tags.{validateTags, validateHtmlContainer}
 use Rattle.demand.specs.Demand.{named}

@@ -10,15 +10,16 @@ use lib.Dec.{leb, ltb, eqb}
 use lib.ListN.{getD}
 use borrow.Author.Tests.{eqb-true, leb-true, le-leb, ltb-true}
 use Rattle.strings.specs.Lists.{if_then_else_}
-use Rattle.unicode.proofs.Decoding.{allBelow, each, and-left, and-right}
+use Rattle.strings.proofs.Tests.{allBelow, each, and-left, and-right}
 use Rattle.sheet.specs.Kinds.{among, isKind, paragraph, heading, blockQuote, alert, list, htmlContainer, footnoteDefinition, table, leafDirective, containerDirective, item, row, cell, emphasis, strong, delete, mark, link, image, linkReference, imageReference, inlineFootnote, textDirective}
 use Rattle.sheet.specs.Forest.{Forest, none, tree}
 use Rattle.sheet.specs.declared.records.Rec.{Rec}
-use Rattle.standing.specs.Places.{holdsBlocks, holdsItems, holdsRows, holdsCells, holdsInlines, holdsLabel, holdsLabelAndBlocks, holdsTagsAndBlocks, holdsTagsAndInlines, holdsNothing, otherGroup, parentGroup, childGroup, places, placeOf, opened, joined, misplaced}
+use Rattle.groups.specs.Groups.{holdsBlocks, holdsItems, holdsRows, holdsCells, holdsInlines, holdsLabel, holdsLabelAndBlocks, holdsTagsAndBlocks, holdsTagsAndInlines, holdsNothing, otherGroup, parentGroup, childGroup}
+use Rattle.standing.specs.Places.{places, placeOf, opened, joined, misplaced}
 use Rattle.standing.specs.declared.places.Open.{Open}
 use Rattle.standing.proofs.PlacedLaws.{has-place, in-order, joined-group, opened-group, blocks-only, items-only, rows-only, cells-only, inlines-only, label-only, label-and-blocks-only, tags-and-blocks-only, tags-and-inlines-only, nothing-there}
 use Rattle.machine.specs.Machine.{theSheet}
-use Rattle.refusal.specs.Formed.{Formed}
+use Rattle.recordtests.specs.Formed.{Formed}
 use Rattle.demand.proofs.Flat.{Deep}
 use Rattle.demand.proofs.KindCases.{rank, known, or-cases, InlineKind, inline-kind, BlockKind, block-kind, Extra, tag, attr}
 

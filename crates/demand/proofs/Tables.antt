@@ -12,7 +12,7 @@ use Rattle.sheet.specs.Forest.{Forest, none, tree, size, count}
 use Rattle.sheet.specs.declared.records.Rec.{Rec}
 use Rattle.sheet.specs.declared.records.Span.{Span}
 use Rattle.report.specs.Report.{Entry, listIf, _⊕_}
-use Rattle.standing.specs.Places.{parentGroup}
+use Rattle.groups.specs.Groups.{parentGroup}
 use Rattle.depths.specs.Every.{validateOneLine}
 use Rattle.inlines.specs.Inlines.{validateInlineNodes, validateInlines}
 use Rattle.tables.specs.Tables.{validateCell, validateCells, validateRows, headerWidth, validateTable}

@@ -14,7 +14,7 @@ use borrow.Rule.Slice.PartMut.{putMid}
 use borrow.Author.Tests.{eq-eqb, ne-eqb, leb-true, le-leb, lt-leb, not-true, not-false}
 use Rattle.strings.specs.Bytes.{space, isDigit}
 use Rattle.strings.proofs.Scan.{At, turn, stop, end}
-use Rattle.unicode.proofs.Decoding.{and-left, and-right}
+use Rattle.strings.proofs.Tests.{and-left, and-right}
 use Rattle.report.specs.Report.{over}
 use Rattle.report.proofs.ReportLaws.{over-fits}
 use Rattle.digits.specs.Field.{places, mostNumber, digitZero, digit, lastPlace, front, field, pastSpaces, readDigits, readNumber, readField}

@@ -9,7 +9,7 @@ use lib.Dec.{eqb, ltb, leb}
 use lib.ListN.{length}
 use borrow.Author.Tests.{eq-eqb, ne-eqb, eqb-true, eqb-false, le-leb, leb-true, ltb-false}
 use Rattle.strings.specs.Bytes.{space, isDigit}
-use Rattle.unicode.proofs.Decoding.{and-left, and-right}
+use Rattle.strings.proofs.Tests.{and-left, and-right}
 use Rattle.digits.specs.Field.{places, mostNumber, digitZero, digit, lastPlace, front, field, pastSpaces, readDigits, readNumber, readField}
 use Rattle.digits.specs.declared.fields.Column.the-variants.{Number, Malformed}
 use Rattle.digits.proofs.FieldLaws.{field-long}

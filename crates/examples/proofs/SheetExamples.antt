@@ -9,11 +9,16 @@ use Rattle.sheet.specs.Kinds.{paragraph, heading, thematicBreak, blockQuote, al
 use Rattle.sheet.specs.Sheet.{recordAt}
 use Rattle.sheet.specs.Siblings.{gather}
 use Rattle.sheet.specs.Forest.{deeper, past, grow, forestAt, countKind}
-use Rattle.standing.specs.Places.{parentGroup, otherGroup, childGroup, places, placeOf, opened, joined, misplaced, openAt}
-use Rattle.form.specs.Fields.{mostA, mostB, mostC, hasFirst, hasSecond, badText, badSpan, isSurrogate, badNumber, badField, textOf, textOutside, textIllFormed}
-use Rattle.refusal.specs.Refusal.{numberOf, recordOf, levelBefore, badLevel, judgeTexts, judge, judgeAt, orElse, judgeFrom, lacksTags, tagsFrom, judgeSheet}
-use Rattle.refusal.specs.declared.judge.Judged.{Judged}
-use Rattle.refusal.specs.declared.judge.Judged.the-variants.{Accepted, OddSheet, LongSheet, LongText, UnknownKind, BadLevel, Misplaced, BadField, TextOutside, NotUtf8, TagsMissing}
+use Rattle.groups.specs.Groups.{parentGroup, otherGroup, childGroup}
+use Rattle.standing.specs.Places.{places, placeOf, opened, joined, misplaced, openAt}
+use Rattle.form.specs.Fields.{mostA, mostB, mostC, hasFirst, hasSecond, badText, badSpan, isSurrogate, badNumber, badField}
+use Rattle.texts.specs.Texts.{textOf, textOutside, textIllFormed}
+use Rattle.verdicts.specs.Verdict.{numberOf, recordOf, orElse}
+use Rattle.recordtests.specs.Tests.{levelBefore, badLevel, judgeTexts, judge}
+use Rattle.refusal.specs.Refusal.{judgeAt, judgeFrom, judgeSheet}
+use Rattle.htmltags.specs.Tags.{lacksTags, tagsFrom}
+use Rattle.verdicts.specs.declared.verdict.Judged.{Judged}
+use Rattle.verdicts.specs.declared.verdict.Judged.the-variants.{Accepted, OddSheet, LongSheet, LongText, UnknownKind, BadLevel, Misplaced, BadField, TextOutside, NotUtf8, TagsMissing}
 
 -- the answer; a declaration that unfolds this unfolds all that the answer computes with
 computed : List ℕ → List ℕ → Judged

@@ -9,7 +9,7 @@ use Rattle.leaves.specs.Pipe.{hasOddEscapedPipe}
 use Rattle.scalars.specs.White.{startsWithWhite, endsWithWhite}
 use Rattle.sheet.specs.Kinds.{attribute, text, wikiLink}
 use Rattle.classes.specs.Classes.{isBreak, isPlainBreak, namesOwnValue, namesLabel}
-use Rattle.form.specs.Fields.{textOf}
+use Rattle.texts.specs.Texts.{textOf}
 use Rattle.sheet.specs.declared.records.Rec.{Rec}
 use Rattle.sheet.specs.declared.records.Text.{Text}
 

@@ -13,13 +13,13 @@ use classes::class::is_break;
 use classes::class::is_plain_break;
 use classes::class::names_label;
 use classes::class::names_own_value;
-use form::fields::text_of;
 use leaves::pipe::has_odd_escaped_pipe;
 use names::name::is_attribute_name;
 use scalars::white;
 use sheet::kinds;
 use sheet::records::Rec;
 use sheet::records::Text;
+use texts::text::text_of;
 
 pub fn is_empty(t: Text) -> bool
     ensures { λ r. ⌜ r ≡ isEmpty t ⌝ }

@@ -8,7 +8,7 @@ use lib.Dec.{eqb, ltb}
 use lib.ListN.{length, take, drop, length-take, length-drop}
 use borrow.Author.Tests.{ne-eqb, ltb-false}
 use Rattle.sheet.specs.Sheet.{recordWords}
-use Rattle.standing.proofs.PlaceLaws.{or-left, or-right}
+use Rattle.strings.proofs.Tests.{or-left, or-right}
 use Rattle.columns.specs.Line.{lineBytes, isLine, numbers}
 use Rattle.columns.proofs.LineLaws.{drop-take, numbers-take, line-take}
 use Rattle.film.specs.Film.{countFields, recordCount, byteCount, areRecords, behindCounts, textBehind, mostRecords, mostBytes, mostInput, isBig, filmNumber, filmOf}

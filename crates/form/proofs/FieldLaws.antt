@@ -1,21 +1,16 @@
 -- What is 0 is in range, and no text that is 0, 0 is bad, whatever the kind.
 use mathlib.Core.Path.{_≡_, refl, sym}
 use mathlib.Core.Bool.{Bool, true, false, not, _&&_, _||_, true≢false}
-use mathlib.Core.List.{List, []}
-use Prim.Native.Nat.{ℕ, _+_}
+use Prim.Native.Nat.{ℕ}
 use native.Mathlib.Omega.{arith}
-use lib.Dec.{eqb, ltb, leb}
-use lib.ListN.{length}
+use lib.Dec.{eqb, ltb}
 use borrow.Author.Tests.{eqb-true, le-ltb}
 use Rattle.strings.specs.Bytes.{between}
-use Rattle.strings.specs.Lists.{if_then_else_}
-use Rattle.strings.specs.Part.{partOf}
-use Rattle.unicode.specs.Utf8.{isUtf8, wellFormed}
 use Rattle.sheet.specs.Kinds.{escape}
 use Rattle.sheet.specs.declared.records.Rec.{Rec}
 use Rattle.sheet.specs.declared.records.Text.{Text}
-use Rattle.unicode.proofs.Decoding.{and-left, and-right}
-use Rattle.form.specs.Fields.{mostA, mostB, mostC, badText, isSurrogate, badNumber, textOf, textIllFormed}
+use Rattle.strings.proofs.Tests.{and-left, and-right}
+use Rattle.form.specs.Fields.{mostA, mostB, mostC, badText, isSurrogate, badNumber}
 
 and-false : (b : Bool) → (b && false) ≡ false
 and-false true = refl
@@ -44,12 +39,3 @@ module _ (has : Bool) (t : Text) {b : Bool} (e : b ≡ (eqb (t .start) 0 && eqb 
       go : (x : Bool) → not x ≡ (not x && true)
       go true = refl
       go false = refl
-
--- a text of no bytes
-pub no-bytes : (bytes : List ℕ) (t : Text) → t .len ≡ 0 → false ≡ textIllFormed bytes t
-unfolding textIllFormed textOf partOf isUtf8 wellFormed
-no-bytes bytes t e = rw e (go (leb (t .start + 0) (length bytes)))
-  where
-    go : (b : Bool) → false ≡ not (isUtf8 (if b then [] else []))
-    go true = refl
-    go false = refl

@@ -1,13 +1,10 @@
--- The fields of a record (refusal 7: "value out of range, unused word not 0"), its texts (8: "start plus length past the text"; 9: "a named text part alone" that is not UTF-8).
-use Prim.Native.Nat.{ℕ, _+_}
+-- The fields of a record (refusal 7: "value out of range, unused word not 0").
+use Prim.Native.Nat.{ℕ}
 use mathlib.Core.Bool.{Bool, not, _&&_, _||_}
-use mathlib.Core.List.{List, [], _∷_}
+use mathlib.Core.List.{[], _∷_}
 use lib.Dec.{eqb, ltb}
-use lib.ListN.{length}
 use Rattle.strings.specs.Bytes.{between}
 use Rattle.strings.specs.Lists.{if_then_else_}
-use Rattle.strings.specs.Part.{partOf}
-use Rattle.unicode.specs.Utf8.{isUtf8}
 use Rattle.sheet.specs.Kinds.{among, heading, alert, list, codeBlock, htmlContainer, definition, footnoteDefinition, table, frontmatter, leafDirective, containerDirective, item, htmlTag, attribute, text, escape, emphasis, strong, code, link, autolink, image, linkReference, imageReference, html, lineBreak, math, footnoteReference, wikiLink, textDirective, tag}
 use Rattle.sheet.specs.declared.records.Rec.{Rec}
 use Rattle.sheet.specs.declared.records.Span.{Span}
@@ -88,13 +85,3 @@ badField r =
     || badSpan (r .kind) (r .span)
     || badText (hasFirst (r .kind) (r .a)) (r .first)
     || badText (hasSecond (r .kind) (r .b)) (r .second)
-
--- the part of the sheet's text that a record names
-unfoldable pub textOf : List ℕ → Text → List ℕ
-textOf bytes t = partOf bytes (t .start) (t .len)
-
-unfoldable pub textOutside : List ℕ → Text → Bool
-textOutside bytes t = ltb (length bytes) (t .start + t .len)
-
-unfoldable pub textIllFormed : List ℕ → Text → Bool
-textIllFormed bytes t = not (isUtf8 (textOf bytes t))

@@ -1,4 +1,4 @@
-// The fields of a record, and the texts that it names.
+// The fields of a record.
 ghost use mathlib.Core.Path.{_≡_};
 ghost use mathlib.Core.Bool.{_&&_};
 ghost use mathlib.Core.List.{[], _∷_};
@@ -27,21 +27,7 @@ ghost use Rattle.sheet.specs.Kinds.{
   textDirective,
   tag,
 };
-ghost use Rattle.form.specs.Fields.{
-  mostA,
-  mostB,
-  mostC,
-  hasFirst,
-  hasSecond,
-  badText,
-  badSpan,
-  isSurrogate,
-  badNumber,
-  badField,
-  textOf,
-  textOutside,
-  textIllFormed,
-};
+ghost use Rattle.form.specs.Fields.{mostA, mostB, mostC, hasFirst, hasSecond, badText, badSpan, isSurrogate, badNumber, badField};
 use sheet::kinds;
 use sheet::kinds::pick;
 use sheet::records::Rec;
@@ -219,29 +205,4 @@ pub fn bad_field(r: Rec) -> bool
         | bad_span(r.kind, r.span)
         | bad_first(r.kind, r.a, r.first)
         | bad_second(r.kind, r.b, r.second)
-}
-
-// The part of the sheet's text that a record names.
-pub fn text_of(bytes: &[u8], t: Text) -> &[u8]
-    ensures { λ r. ⌜ now r ≡ textOf (now (bytes .entry)) t ⌝ }
-{
-    strings::part::part(bytes, t.start as usize, t.len as usize)
-}
-
-pub fn text_outside(bytes: &[u8], t: Text) -> bool
-    ensures { λ r. ⌜ r ≡ textOutside (now (bytes .entry)) t ⌝ }
-{
-    let start = t.start as usize;
-    let len = t.len as usize;
-    bytes.len() < start + len
-}
-
-// A text of no bytes is well-formed, and most records have one.
-pub fn text_ill_formed(bytes: &[u8], t: Text) -> bool
-    ensures { λ r. ⌜ r ≡ textIllFormed (now (bytes .entry)) t ⌝ }
-{
-    if t.len == 0 {
-        return false;
-    }
-    !unicode::utf8::is_utf8(text_of(bytes, t))
 }

@@ -12,9 +12,9 @@ use Rattle.strings.specs.Lists.{if_then_else_}
 use Rattle.sheet.specs.Kinds.{list, blankLine, item}
 use Rattle.sheet.specs.declared.records.Rec.{Rec}
 use Rattle.form.specs.Fields.{mostA, mostB, mostC, isSurrogate, badNumber, badField}
-use Rattle.unicode.proofs.Decoding.{and-left, and-right}
-use Rattle.standing.proofs.PlaceLaws.{or-left, or-right}
-use Rattle.neighbours.specs.Taken.{writtenMarker}
+use Rattle.strings.proofs.Tests.{and-left, and-right}
+use Rattle.strings.proofs.Tests.{or-left, or-right}
+use Rattle.markers.specs.Marker.{writtenMarker}
 use Rattle.machine.specs.Machine.{Frame, fresh, withKid, columns, nearest, inLink, behindList, onlyEmpty, lastMark, Seen, seen, Test, lowest, openingTests}
 use Rattle.frames.specs.Kept.{markerBehind, keptOf, seenBy, openedIn, joinedBy}
 

@@ -9,7 +9,7 @@ use Rattle.sheet.specs.Kinds.{among, isInline, list, table, blankLine, link, li
 use Rattle.sheet.specs.declared.records.Rec.{Rec}
 use Rattle.classes.specs.Classes.{isBreak}
 use Rattle.facts.specs.Values.{isEmptyText}
-use Rattle.neighbours.specs.Taken.{writtenMarker}
+use Rattle.markers.specs.Marker.{writtenMarker}
 use Rattle.machine.specs.Machine.{Frame, Seen, columns, nearest, inLink, behindBreak, onlyEmpty, itemMark, lastMark}
 use Rattle.frames.specs.declared.kept.Kept.{Kept}
 

@@ -7,7 +7,7 @@ ghost use Rattle.machine.specs.Machine.{itemMark};
 ghost use mathlib.Core.List.{[]};
 use classes::class;
 use facts::values;
-use neighbours::taken::written_marker;
+use markers::marker::written_marker;
 use sheet::kinds;
 use sheet::records::Rec;
 

@@ -9,7 +9,7 @@ use Rattle.multiline.specs.Lines.{hasBlankEdgeLine}
 use Rattle.names.specs.Names.{isBlankIdentifier}
 use Rattle.leaves.specs.Title.{isAlertTitle}
 use Rattle.fences.specs.declared.fence.FrontmatterKind.{FrontmatterKind}
-use Rattle.form.specs.Fields.{textOf}
+use Rattle.texts.specs.Texts.{textOf}
 use Rattle.report.specs.Report.{Lists, listIf}
 use Rattle.sheet.specs.declared.records.Span.{Span}
 use Rattle.sheet.specs.declared.records.Text.{Text}

@@ -10,7 +10,7 @@ use Rattle.names.specs.Names.{isBlankIdentifier}
 use Rattle.leaves.specs.Title.{isAlertTitle}
 use Rattle.fences.specs.declared.fence.FrontmatterKind.{FrontmatterKind}
 use Rattle.fences.specs.declared.fence.FrontmatterKind.the-variants.{Yaml, Toml}
-use Rattle.form.specs.Fields.{textOf}
+use Rattle.texts.specs.Texts.{textOf}
 use Rattle.report.specs.Report.{Entry, listIf, _⊕_}
 use Rattle.sheet.specs.declared.records.Span.{Span}
 use Rattle.sheet.specs.declared.records.Text.{Text}

@@ -16,7 +16,6 @@ use checks::single;
 use facts::values::is_empty;
 use fences::fence::FrontmatterKind;
 use fences::fence::holds_fence_line;
-use form::fields::text_of;
 use leaves::title::is_alert_title;
 use multiline::lines::has_blank_edge_line;
 use names::name::is_blank_identifier;
@@ -24,6 +23,7 @@ use report::entries::Tally;
 use report::entries::list_if;
 use sheet::records::Span;
 use sheet::records::Text;
+use texts::text::text_of;
 
 // Rule 10: a heading's depth is from 1 to 6.
 pub fn validate_heading(

@@ -11,7 +11,7 @@ use Rattle.leaves.specs.Pipe.{hasOddEscapedPipe, oddPipeAfter}
 use Rattle.scalars.specs.Scalars.{scalars, decode, emit, leadBits, trailBits}
 use Rattle.unicode.specs.Utf8.{follow, table}
 use Rattle.scalars.specs.White.{isWhite, startsWithWhite, endsWithWhite}
-use Rattle.form.specs.Fields.{textOf}
+use Rattle.texts.specs.Texts.{textOf}
 use Rattle.sheet.specs.Forest.{Forest, none, tree}
 use Rattle.sheet.specs.Kinds.{attribute, text, escape, emphasis, strong, delete, mark, code, link, autolink, image, linkReference, imageReference, softBreak, lineBreak, math, footnoteReference, inlineFootnote, wikiLink, textDirective}
 use Rattle.report.specs.Report.{Entry, listIf, _⊕_}
@@ -20,7 +20,9 @@ use Rattle.sheet.specs.declared.records.Text.{Text}
 use Rattle.facts.specs.Values.{startsWhite, endsWhite, isUnwritable, isBadAttribute}
 use Rattle.checks.specs.Single.{validateDestination, validateIdentifier, validateEscape, validateDirectiveName, validateSiblings}
 use Rattle.literals.specs.Literals.{validateText, validateCodeInline, validateMathInline}
-use Rattle.depths.specs.Every.{validateDirectiveAttributes, validateLinkText, validateCellValues, validateOneLine, eachRecord}
+use Rattle.attributes.specs.Attributes.{validateDirectiveAttributes}
+use Rattle.linktext.specs.LinkText.{validateLinkText}
+use Rattle.depths.specs.Every.{validateCellValues, validateOneLine, eachRecord}
 use Rattle.inlines.specs.Inlines.{noInline, allEmpty, startsWithWhitespace, endsWithWhitespaceAfter, endsWithWhitespace, holdsJoined, validateTextDirective, finalBreakAfter, finalBreak, validateEmphasisContainer, validateInline, validateInlineValues, validateNode, validateInlineNodesAfter, validateInlineNodes, validateInlines}
 
 -- ---- records over the text

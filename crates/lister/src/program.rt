@@ -4,10 +4,11 @@ ghost use Prim.Native.Nat.{_*_, _≤_};
 ghost use Rattle.sheet.specs.Sheet.{recordsOf};
 ghost use Rattle.film.specs.Film.{mostRecords};
 ghost use Rattle.printing.specs.Printing.{Prints};
-ghost use Rattle.lister.specs.Listing.{sheetLines, listing};
-ghost use Rattle.lister.specs.RunRecord.{runRecord};
+ghost use Rattle.listings.specs.Listing.{sheetLines, listing};
 use answers::answer::answer_number;
 use answers::answer::answer_value;
+use answers::setting::run_record;
+use answers::setting::stop_number;
 use film::films::MOST_RECORDS;
 use film::films::SHEET_WORDS;
 use film::films::film_number;
@@ -19,8 +20,6 @@ use printing::print::REPORT_WORDS;
 use printing::print::write_list;
 use printing::print::write_refusal;
 use setter::both::check_and_set;
-use setting::run::Setting;
-use setting::run::stop_number;
 use sheet::records::RECORD_WORDS;
 
 fn sheet_words() -> [u32; SHEET_WORDS] {
@@ -33,18 +32,6 @@ fn report_words() -> [u32; REPORT_WORDS] {
 
 fn no_marks() -> [u32; MOST_RECORDS] {
     [0u32; MOST_RECORDS]
-}
-
-// The record of a stop; the number of records at the end.
-fn run_record(s: Setting) -> u32
-    ensures { λ r. ⌜ r ≡ runRecord s ⌝ }
-{
-    match s {
-        Setting::Ended(records) => records,
-        Setting::Stopped(_, i) => i,
-        Setting::Refused(_) => 0,
-        Setting::ShortMarks => 0,
-    }
 }
 
 // Checks and sets a sheet and its text, and prints the list with the stop and its record, or the refusal.

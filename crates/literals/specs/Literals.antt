@@ -5,7 +5,7 @@ use mathlib.Core.List.{List}
 use lib.Dec.{eqb}
 use Rattle.multiline.specs.Lines.{holdsLineEnding}
 use Rattle.leaves.specs.Math.{holdsBacktickDollar}
-use Rattle.form.specs.Fields.{textOf}
+use Rattle.texts.specs.Texts.{textOf}
 use Rattle.report.specs.Report.{Entry, listIf, _⊕_}
 use Rattle.sheet.specs.declared.records.Span.{Span}
 use Rattle.sheet.specs.declared.records.Text.{Text}

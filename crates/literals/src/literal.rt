@@ -5,13 +5,13 @@ ghost use Rattle.report.specs.Report.{Lists};
 ghost use Rattle.literals.specs.Literals.{validateText, validateCodeInline, validateMathInline};
 use checks::rules;
 use facts::values;
-use form::fields::text_of;
 use leaves::math::holds_backtick_dollar;
 use multiline::lines::holds_line_ending;
 use report::entries::Tally;
 use report::entries::list_if;
 use sheet::records::Span;
 use sheet::records::Text;
+use texts::text::text_of;
 
 // Rule 31: text holds no line ending.
 pub fn validate_text(

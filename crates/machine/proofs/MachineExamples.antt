@@ -8,8 +8,8 @@ use Rattle.multiline.specs.Lines.{holdsLineEnding}
 use Rattle.sheet.specs.Kinds.{paragraph, heading, blockQuote, list, table, frontmatter, leafDirective, containerDirective, blankLine, item, row, cell, attribute, text, emphasis, code, link, autolink, image, softBreak, lineBreak}
 use Rattle.sheet.specs.Sheet.{recordAt}
 use Rattle.sheet.specs.Forest.{recordsFrom}
-use Rattle.form.specs.Fields.{textOf}
-use Rattle.neighbours.specs.Taken.{writtenMarker}
+use Rattle.texts.specs.Texts.{textOf}
+use Rattle.markers.specs.Marker.{writtenMarker}
 use Rattle.machine.specs.Machine.{Outcome, ended, stopped, closings, remain, stepsFrom, stepsOf, columns, nearest, inLink, behindList, onlyEmpty, openingTests, closingTests, stopOf, position, pathOf, blockPath, outcomeOf, runOf, outcome, run, lastMark, markOf, marksOf}
 
 -- ---- sheets over the text `a LF`

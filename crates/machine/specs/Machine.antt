@@ -12,10 +12,10 @@ use Rattle.sheet.specs.Kinds.{among, isBlock, isInline, paragraph, heading, lis
 use Rattle.sheet.specs.Sheet.{recordsOf}
 use Rattle.sheet.specs.Forest.{recordsFrom}
 use Rattle.sheet.specs.declared.records.Rec.{Rec}
-use Rattle.form.specs.Fields.{textOf}
+use Rattle.texts.specs.Texts.{textOf}
 use Rattle.facts.specs.Values.{isEmptyText}
 use Rattle.classes.specs.Classes.{isBreak, isPlainBreak, isEmphasisContainer, isLink}
-use Rattle.neighbours.specs.Taken.{writtenMarker}
+use Rattle.markers.specs.Marker.{writtenMarker}
 
 -- ---- openings and closings. "It opens records in order and closes innermost first: before a record opens, it closes every open one of that level or deeper; after the last, all that are open, and then it is at the end."
 

@@ -11,7 +11,8 @@ use Rattle.sheet.specs.declared.records.Span.{Span}
 use Rattle.report.specs.declared.entries.Tally.{Tally}
 use Rattle.report.proofs.ReportLaws.{lists-then}
 use Rattle.checks.specs.Rules
-use Rattle.neighbours.specs.Taken.{beforeAt, beforeNext, indexAt, takesIndentedCode, validateTakenBlock, writtenMarker}
+use Rattle.neighbours.specs.Taken.{beforeAt, beforeNext, indexAt, takesIndentedCode, validateTakenBlock}
+use Rattle.markers.specs.Marker.{writtenMarker}
 use Rattle.neighbours.specs.declared.taken.Before.{Before}
 
 pub taken-law : (path : List ℕ) (span : Span) {s t u : Tally} {x y z : List ℕ} (before : Before) (kind a b : ℕ) {m n : ℕ} {q : Bool} → m ≡ writtenMarker (before .a) (before .b) → n ≡ writtenMarker a b → q ≡ takesIndentedCode (before .kind) (before .a) → Lists s t x y (listIf (eqb (before .kind) list && eqb kind list && eqb m n) Rules.adjacentLists span path) → Lists t u y z (listIf (eqb kind codeBlock && eqb a 1 && q) Rules.indentedCodeTaken span path) → Lists s u x z (validateTakenBlock path span before kind a b)

@@ -7,19 +7,9 @@ use Rattle.strings.specs.Lists.{if_then_else_}
 use Rattle.sheet.specs.Kinds.{isBlock, list, codeBlock, footnoteDefinition, blankLine}
 use Rattle.report.specs.Report.{Entry, listIf, _⊕_}
 use Rattle.sheet.specs.declared.records.Span.{Span}
+use Rattle.markers.specs.Marker.{writtenMarker}
 use Rattle.checks.specs.Rules
 use Rattle.neighbours.specs.declared.taken.Before.{Before}
-
--- the leaf `written_marker`. Document 01: "written marker `*` or `+` for such bullets, `-` for other bullets, `)` for ordered paren, `.` for other ordered."
-unfoldable pub writtenMarker : ℕ → ℕ → ℕ
-writtenMarker ordered delimiter =
-    if eqb ordered 1
-    then (if eqb delimiter 4 then 0x29 else 0x2E)
-    else if eqb delimiter 1
-    then 0x2A
-    else if eqb delimiter 2
-    then 0x2B
-    else 0x2D
 
 -- `takes_indented_code`
 unfoldable pub takesIndentedCode : ℕ → ℕ → Bool

@@ -3,8 +3,9 @@ ghost use mathlib.Core.Path.{_≡_};
 ghost use Prim.Native.Nat.{_≤_};
 ghost use lib.ListN.{length};
 ghost use Rattle.report.specs.Report.{Lists};
-ghost use Rattle.neighbours.specs.Taken.{beforeAt, indexAt, takesIndentedCode, validateTakenBlock, writtenMarker};
+ghost use Rattle.neighbours.specs.Taken.{beforeAt, indexAt, takesIndentedCode, validateTakenBlock};
 use checks::rules;
+use markers::marker::written_marker;
 use report::entries::Tally;
 use report::entries::list_if;
 use sheet::kinds;
@@ -15,16 +16,6 @@ pub struct Before {
     pub kind: u32,
     pub a: u32,
     pub b: u32,
-}
-
-// The byte that a list's items are written with.
-pub fn written_marker(ordered: u32, delimiter: u32) -> u32
-    ensures { λ r. ⌜ r ≡ writtenMarker ordered delimiter ⌝ }
-{
-    let numbered = kinds::pick(delimiter == 4, 0x29, 0x2E);
-    let bullet = kinds::pick(delimiter == 2, 0x2B, 0x2D);
-    let bullet = kinds::pick(delimiter == 1, 0x2A, bullet);
-    kinds::pick(ordered == 1, numbered, bullet)
 }
 
 // Indented code, and a footnote definition, take the lines of indented code behind them.

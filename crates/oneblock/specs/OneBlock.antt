@@ -1,10 +1,9 @@
 -- The match of `validate_block` on one block, up to the blocks or items that it holds: for each kind the list of its entries in validate.rs's order. Kept rules only. Its arms are cut in three; no kind is in two of them. `path` is the block's own.
 use Prim.Native.Nat.{ℕ}
-use mathlib.Core.Bool.{Bool, _&&_, _||_}
 use mathlib.Core.List.{List, []}
 use lib.Dec.{eqb}
 use Rattle.strings.specs.Lists.{if_then_else_}
-use Rattle.sheet.specs.Kinds.{paragraph, heading, blockQuote, alert, list, codeBlock, htmlContainer, definition, footnoteDefinition, table, frontmatter, leafDirective, containerDirective}
+use Rattle.sheet.specs.Kinds.{paragraph, heading, alert, list, codeBlock, htmlContainer, definition, footnoteDefinition, table, frontmatter, leafDirective, containerDirective}
 use Rattle.sheet.specs.Forest.{Forest}
 use Rattle.report.specs.Report.{Entry, _⊕_}
 use Rattle.sheet.specs.declared.records.Rec.{Rec}
@@ -12,7 +11,7 @@ use Rattle.sheet.specs.declared.records.Span.{Span}
 use Rattle.inlines.specs.Inlines.{validateInlines}
 use Rattle.heads.specs.Heads.{validateHeading, validateAlert, validateCodeBlock, validateFrontmatter, validateDefinition}
 use Rattle.containers.specs.Tags.{validateHtmlContainer}
-use Rattle.containers.specs.Footnotes.{validateFootnoteDefinition}
+use Rattle.footnotes.specs.Footnotes.{validateFootnoteDefinition}
 use Rattle.lists.specs.Lists.{validateList}
 use Rattle.prose.specs.Prose.{validateParagraph, validateLeafDirective, validateContainerDirective}
 use Rattle.tables.specs.Tables.{validateTable}
@@ -59,8 +58,3 @@ validateOwn bytes path r kids =
     else if eqb (r .kind) table
     then validateTable bytes path (r .span) (r .a) kids
     else validateContainer bytes path r kids
-
--- the blocks that hold blocks: quotes, alerts, footnote definitions, container directives, and HTML containers of blocks (A is 0)
-unfoldable pub holdsBlocks : ℕ → ℕ → Bool
-holdsBlocks kind a =
-    eqb kind blockQuote || eqb kind alert || eqb kind footnoteDefinition || eqb kind containerDirective || eqb kind htmlContainer && eqb a 0

@@ -6,10 +6,10 @@ ghost use Rattle.report.specs.Report.{Lists, _⊕_};
 ghost use Rattle.heads.specs.Heads.{validateHeading};
 ghost use Rattle.inlines.specs.Inlines.{validateInlines};
 ghost use Rattle.walks.specs.Walk.{Start, Begin};
-ghost use Rattle.oneblock.specs.OneBlock.{validateLeaf, validateHtml, validateContainer, validateOwn, holdsBlocks};
+ghost use Rattle.oneblock.specs.OneBlock.{validateLeaf, validateHtml, validateContainer, validateOwn};
 use checks::rules;
-use containers::footnotes::validate_footnote_definition;
 use containers::tags::validate_html_container;
+use footnotes::definition::validate_footnote_definition;
 use heads::own;
 use inlines::nodes::validate_inlines;
 use lists::list::validate_list;
@@ -206,15 +206,4 @@ pub fn validate_own(
         }
         _ => validate_container(sheet, bytes, report, &path[..len], n, from, r, tally),
     }
-}
-
-// The blocks that hold blocks.
-pub fn holds_blocks(kind: u32, a: u32) -> bool
-    ensures { λ r. ⌜ r ≡ holdsBlocks kind a ⌝ }
-{
-    (kind == kinds::BLOCK_QUOTE)
-        | (kind == kinds::ALERT)
-        | (kind == kinds::FOOTNOTE_DEFINITION)
-        | (kind == kinds::CONTAINER_DIRECTIVE)
-        | ((kind == kinds::HTML_CONTAINER) & (a == 0))
 }

@@ -15,7 +15,7 @@ use Rattle.report.specs.declared.entries.Tally.{Tally}
 use Rattle.report.proofs.ReportLaws.{lists-then}
 use Rattle.contents.specs.Content.{contentOf}
 use Rattle.checks.specs.Single.{validateDirectiveName}
-use Rattle.depths.specs.Every.{validateDirectiveAttributes}
+use Rattle.attributes.specs.Attributes.{validateDirectiveAttributes}
 use Rattle.contents.specs.Beside.{noInline}
 use Rattle.oneinline.specs.Inline.{validateTextDirective, validateEmphasisContainer, validateInline}
 use Rattle.inlinevalues.specs.InlineValues.{validateInlineValues}

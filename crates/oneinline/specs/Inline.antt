@@ -15,7 +15,8 @@ use Rattle.checks.specs.Rules
 use Rattle.classes.specs.Classes.{isEmphasisContainer}
 use Rattle.checks.specs.Single.{validateDestination, validateIdentifier, validateDirectiveName}
 use Rattle.inlinevalues.specs.InlineValues.{validateInlineValues}
-use Rattle.depths.specs.Every.{validateDirectiveAttributes, validateLinkText}
+use Rattle.attributes.specs.Attributes.{validateDirectiveAttributes}
+use Rattle.linktext.specs.LinkText.{validateLinkText}
 use Rattle.contents.specs.Beside.{noInline, allEmpty, startsWithWhitespace, endsWithWhitespace, holdsJoined, finalBreak}
 
 -- `validate_text_directive`, up to the walk of its label: 54, then 55

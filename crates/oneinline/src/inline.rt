@@ -2,17 +2,18 @@
 ghost use Rattle.sheet.specs.Forest.{under};
 ghost use Rattle.report.specs.Report.{Lists, listIf, _⊕_};
 ghost use Rattle.checks.specs.Single.{validateDestination, validateIdentifier};
-ghost use Rattle.depths.specs.Every.{validateLinkText};
+ghost use Rattle.linktext.specs.LinkText.{validateLinkText};
 ghost use Rattle.contents.specs.Beside.{noInline};
 ghost use Rattle.oneinline.specs.Inline.{validateTextDirective, validateEmphasisContainer, validateInline};
 ghost use Rattle.checks.specs.Rules;
 ghost use Rattle.walks.specs.Walk.{Start};
+use attributes::names::validate_directive_attributes;
 use checks::rules;
 use checks::single;
 use classes::class;
 use contents::content::gather;
-use depths::every;
 use inlinevalues::values::validate_inline_values;
+use linktext::links::validate_link_text;
 use report::entries::Tally;
 use report::entries::list_if;
 use sheet::kinds;
@@ -54,7 +55,7 @@ fn validate_link(
     ensures { λ q. ⌜ Lists tally q (now (report .entry)) (now (report .exit)) (validateDestination (now (path .entry)) (r .span) (r .a) (r .first) ⊕ validateLinkText (now (path .entry)) (under (now (sheet .entry)) n from (r .level))) ⌝ }
 {
     let out = single::validate_destination(report, path, r.span, r.a, r.first, tally);
-    let walked = every::validate_link_text(sheet, report, path, n, from, r.level, out);
+    let walked = validate_link_text(sheet, report, path, n, from, r.level, out);
     walked.tally
 }
 
@@ -73,7 +74,7 @@ fn validate_link_reference(
 {
     let rule = rules::EMPTY_LINK_REFERENCE;
     let out = single::validate_identifier(report, path, rule, r.span, r.first, tally);
-    let walked = every::validate_link_text(sheet, report, path, n, from, r.level, out);
+    let walked = validate_link_text(sheet, report, path, n, from, r.level, out);
     walked.tally
 }
 
@@ -92,16 +93,7 @@ fn validate_text_directive(
     ensures { λ q. ⌜ Lists tally q (now (report .entry)) (now (report .exit)) (validateTextDirective (now (bytes .entry)) (now (path .entry)) (r .span) (r .first) (under (now (sheet .entry)) n from (r .level))) ⌝ }
 {
     let out = single::validate_directive_name(bytes, report, path, r.span, r.first, tally);
-    let walked = every::validate_directive_attributes(
-        sheet,
-        bytes,
-        report,
-        path,
-        n,
-        from,
-        r.level,
-        out,
-    );
+    let walked = validate_directive_attributes(sheet, bytes, report, path, n, from, r.level, out);
     walked.tally
 }
 

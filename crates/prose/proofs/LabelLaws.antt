@@ -17,7 +17,8 @@ use Rattle.report.specs.Report.{Lists}
 use Rattle.report.specs.declared.entries.Tally.{Tally}
 use Rattle.report.proofs.ReportLaws.{lists-then}
 use Rattle.checks.specs.Single.{validateDirectiveName}
-use Rattle.depths.specs.Every.{validateDirectiveAttributes, validateOneLine}
+use Rattle.attributes.specs.Attributes.{validateDirectiveAttributes}
+use Rattle.depths.specs.Every.{validateOneLine}
 use Rattle.walks.specs.Walk.{Start, Done}
 use Rattle.walks.specs.declared.trees.Walked.{Walked}
 use Rattle.walks.proofs.WalkLaws.{behindKids}

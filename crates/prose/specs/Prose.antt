@@ -9,7 +9,8 @@ use Rattle.sheet.specs.declared.records.Span.{Span}
 use Rattle.sheet.specs.declared.records.Text.{Text}
 use Rattle.checks.specs.Rules
 use Rattle.checks.specs.Single.{validateDirectiveName}
-use Rattle.depths.specs.Every.{validateDirectiveAttributes, validateOneLine}
+use Rattle.attributes.specs.Attributes.{validateDirectiveAttributes}
+use Rattle.depths.specs.Every.{validateOneLine}
 use Rattle.inlines.specs.Inlines.{allEmpty, validateInlines}
 
 -- the arm of `validate_block` for a paragraph: 2, then its inlines

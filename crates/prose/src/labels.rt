@@ -7,6 +7,7 @@ ghost use Rattle.sheet.specs.Forest.{under, size};
 ghost use Rattle.report.specs.Report.{Lists};
 ghost use Rattle.walks.specs.Walk.{Start};
 ghost use Rattle.prose.specs.Prose.{beforeBlocks, validateDirective};
+use attributes::names::validate_directive_attributes;
 use checks::single::validate_directive_name;
 use depths::every;
 use inlines::nodes::validate_inlines;
@@ -56,7 +57,7 @@ pub fn validate_directive(
 {
     let out = validate_directive_name(bytes, report, path, span, name, tally);
     let end = label_end(sheet, n, from, level);
-    let w = every::validate_directive_attributes(sheet, bytes, report, path, end, from, level, out);
+    let w = validate_directive_attributes(sheet, bytes, report, path, end, from, level, out);
     let w = validate_inlines(sheet, bytes, report, path, end, from, level, w.tally);
     let w = every::validate_one_line(sheet, report, path, end, from, level, rule, w.tally);
     w.tally

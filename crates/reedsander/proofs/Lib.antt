@@ -1,2 +1,1 @@
 pub mod PackedLaws
-pub mod BlockExamples

@@ -7,11 +7,12 @@ use native.Mathlib.Omega.{arith}
 use lib.ListN.{length}
 use lib.Dec.{ltb}
 use Rattle.sheet.specs.Sheet.{recordsOf}
-use Rattle.refusal.specs.Refusal.{isAccepted, judgeSheet}
+use Rattle.verdicts.specs.Verdict.{isAccepted}
+use Rattle.refusal.specs.Refusal.{judgeSheet}
 use Rattle.machine.specs.Machine as Machine
 use Rattle.machine.specs.Machine.{Outcome, ended, stopped}
 use Rattle.setting.specs.Setting.{answerOf, afterRun, settingOf}
-use Rattle.setting.specs.declared.run.Setting.{Setting}
+use Rattle.answers.specs.declared.setting.Setting.{Setting}
 use Rattle.checker.specs.Check.{answerNumber, answerValue, outcome}
 use Rattle.answers.specs.declared.answer.Checked.{Checked}
 use Rattle.checker.proofs.AnswerLaws.{judged-record, number-small, value-small, value-word}

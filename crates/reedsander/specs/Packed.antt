@@ -1,12 +1,12 @@
 -- Answers as one number, for C: a number times 2^32, and a record or count.
 use Prim.Native.Nat.{ℕ, _+_, _*_, _^_}
 use Rattle.strings.specs.Lists.{if_then_else_}
-use Rattle.refusal.specs.Refusal.{recordOf}
+use Rattle.verdicts.specs.Verdict.{recordOf}
 use Rattle.checker.specs.Check.{answerNumber, answerValue}
 use Rattle.answers.specs.declared.answer.Checked.{Checked}
-use Rattle.setting.specs.Setting.{isRefused, stopNumber, refusalNumber, answerRecord}
-use Rattle.setting.specs.declared.run.Setting.{Setting}
-use Rattle.setting.specs.declared.run.Setting.the-variants.{Ended, Stopped, Refused, ShortMarks}
+use Rattle.answers.specs.Setting.{isRefused, stopNumber, refusalNumber, answerRecord}
+use Rattle.answers.specs.declared.setting.Setting.{Setting}
+use Rattle.answers.specs.declared.setting.Setting.the-variants.{Ended, Stopped, Refused, ShortMarks}
 
 -- the answer of the check
 unfoldable pub packed : Checked → ℕ

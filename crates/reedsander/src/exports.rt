@@ -1,17 +1,17 @@
 // The functions that C and Rust call.
 ghost use mathlib.Core.Path.{_≡_};
-ghost use Rattle.refusal.specs.Refusal.{numberOf, recordOf};
+ghost use Rattle.verdicts.specs.Verdict.{numberOf, recordOf};
 ghost use Rattle.checker.specs.Check.{outcome};
 ghost use Rattle.reedsander.specs.Packed.{packed, packedSetting, refusedAt};
 ghost use Prim.Native.Nat.{_+_, _*_, _^_, _≤_};
 ghost use Rattle.setting.specs.Setting.{settingOf};
 use answers::answer::answer_number;
 use answers::answer::answer_value;
+use answers::setting::Setting;
 use checker::check::check;
-use refusal::judge;
-use refusal::judge::Judged;
-use setting::run::Setting;
 use setting::run::set;
+use verdicts::verdict;
+use verdicts::verdict::Judged;
 
 const NUMBER: u64 = 4294967296;
 
@@ -39,8 +39,8 @@ fn packed_refusal(judged: Judged) -> u64
     requires { ⌜ recordOf judged ≤ 65535 ⌝ }
     ensures { λ r. ⌜ r ≡ (256 + numberOf judged) * 2 ^ 32 + recordOf judged ⌝ }
 {
-    let number = judge::number_of(judged);
-    joined(REFUSED + number, judge::record_of(judged) as u32)
+    let number = verdict::number_of(judged);
+    joined(REFUSED + number, verdict::record_of(judged) as u32)
 }
 
 // The machine's answer as one number.

@@ -1,6 +1,6 @@
 -- A sheet that is accepted, and what that says of each of its records.
 use mathlib.Core.Path.{_≡_, refl, sym, _∙_}
-use mathlib.Core.Bool.{Bool, true, false, false≢true}
+use mathlib.Core.Bool.{Bool, true, false}
 use mathlib.Core.List.{List}
 use Prim.Native.Nat.{ℕ, zero, suc, _+_, _/_, _%_, _<_, _≤_}
 use native.Mathlib.Nat.{add-zero, zero-add}
@@ -10,63 +10,15 @@ use borrow.Author.Tests.{not-true, not-false, lt-ltb, le-ltb, eq-eqb, ne-eqb}
 use lib.ListN.{length}
 use Rattle.sheet.specs.Sheet.{recordAt}
 use Rattle.standing.specs.Places.{openAt}
-use Rattle.refusal.specs.Refusal.{numberOf, isAccepted, orElse, levelBefore, judgeAt, judgeFrom, tagsFrom, judgeSheet}
-use Rattle.refusal.specs.Judging.{Placed, Containers}
-use Rattle.refusal.specs.declared.judge.Judged.{Judged}
-use Rattle.refusal.specs.declared.judge.Judged.the-variants.{Accepted, OddSheet, LongSheet, LongText, UnknownKind, BadLevel, Misplaced, BadField, TextOutside, NotUtf8, TagsMissing}
-use Rattle.refusal.proofs.OpenLaws.{or-first, or-second, Passed, passed}
-
--- ---- the number of an answer tells whether it is a refusal
-pub none-refused : (j : Judged) → numberOf j ≡ 0 → j ≡ Accepted
-none-refused Accepted e = refl
-none-refused OddSheet e = absurd (omega arith)
-none-refused LongSheet e = absurd (omega arith)
-none-refused LongText e = absurd (omega arith)
-none-refused (UnknownKind i) e = absurd (omega arith)
-none-refused (BadLevel i) e = absurd (omega arith)
-none-refused (Misplaced i) e = absurd (omega arith)
-none-refused (BadField i) e = absurd (omega arith)
-none-refused (TextOutside i) e = absurd (omega arith)
-none-refused (NotUtf8 i) e = absurd (omega arith)
-none-refused (TagsMissing i) e = absurd (omega arith)
-
-pub some-refused : (j : Judged) → (numberOf j ≡ 0 → ⊥) → isAccepted j ≡ false
-some-refused Accepted e = absurd (e refl)
-some-refused OddSheet e = refl
-some-refused LongSheet e = refl
-some-refused LongText e = refl
-some-refused (UnknownKind i) e = refl
-some-refused (BadLevel i) e = refl
-some-refused (Misplaced i) e = refl
-some-refused (BadField i) e = refl
-some-refused (TextOutside i) e = refl
-some-refused (NotUtf8 i) e = refl
-some-refused (TagsMissing i) e = refl
-
-pub is-accepted : (j : Judged) → isAccepted j ≡ true → j ≡ Accepted
-is-accepted Accepted h = refl
-is-accepted OddSheet h = absurd (false≢true h)
-is-accepted LongSheet h = absurd (false≢true h)
-is-accepted LongText h = absurd (false≢true h)
-is-accepted (UnknownKind i) h = absurd (false≢true h)
-is-accepted (BadLevel i) h = absurd (false≢true h)
-is-accepted (Misplaced i) h = absurd (false≢true h)
-is-accepted (BadField i) h = absurd (false≢true h)
-is-accepted (TextOutside i) h = absurd (false≢true h)
-is-accepted (NotUtf8 i) h = absurd (false≢true h)
-is-accepted (TagsMissing i) h = absurd (false≢true h)
-
--- both are accepted where the first that is given is
-pub both-first : (j k : Judged) → isAccepted (orElse j k) ≡ true → isAccepted j ≡ true
-unfolding orElse
-both-first j k h = go (isAccepted j) refl
-  where
-    go : (t : Bool) → isAccepted j ≡ t → isAccepted j ≡ true
-    go true e = e
-    go false e = absurd (false≢true (sym e ∙ (rw e at h)))
-
-pub both-second : (j k : Judged) → isAccepted (orElse j k) ≡ true → isAccepted k ≡ true
-both-second j k h = rw (or-second j k (both-first j k h)) at h
+use Rattle.verdicts.specs.Verdict.{isAccepted, orElse}
+use Rattle.recordtests.specs.Tests.{levelBefore}
+use Rattle.htmltags.specs.Tags.{tagsFrom}
+use Rattle.htmltags.specs.Placed.{Placed, Containers}
+use Rattle.refusal.specs.Refusal.{judgeAt, judgeFrom, judgeSheet}
+use Rattle.verdicts.specs.declared.verdict.Judged.{Judged}
+use Rattle.verdicts.specs.declared.verdict.Judged.the-variants.{OddSheet, LongSheet, LongText}
+use Rattle.verdicts.proofs.VerdictLaws.{or-first, or-second, both-first, both-second}
+use Rattle.recordtests.proofs.PassLaws.{Passed, passed}
 
 each-from : (w bytes : List ℕ) (k i m : ℕ) → m < k → isAccepted (judgeFrom w bytes k i) ≡ true → isAccepted (judgeAt w bytes (i + m)) ≡ true
 unfolding judgeFrom

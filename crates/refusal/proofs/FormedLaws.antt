@@ -12,19 +12,26 @@ use lib.ListN.{length}
 use Rattle.unicode.specs.Utf8.{isUtf8}
 use Rattle.sheet.specs.Sheet.{recordAt, recordWords, recordsOf}
 use Rattle.sheet.specs.Forest.{none, tree, forestAt, forestOf, under, size}
-use Rattle.standing.specs.Places.{holdsBlocks, parentGroup, opened, joined, openAt}
-use Rattle.form.specs.Fields.{textOf, textOutside, textIllFormed}
-use Rattle.refusal.specs.Refusal.{mostRecords, mostBytes, isAccepted, orElse, levelBefore, judgeFrom, tagsFrom, lacksTags, judgeSheet}
-use Rattle.refusal.specs.Judging.{Placed}
-use Rattle.refusal.specs.Formed.{Named, Head, Formed, Sound}
+use Rattle.groups.specs.Groups.{holdsBlocks, parentGroup}
+use Rattle.standing.specs.Places.{opened, joined, openAt}
+use Rattle.texts.specs.Texts.{textOf, textOutside, textIllFormed}
+use Rattle.verdicts.specs.Verdict.{isAccepted, orElse}
+use Rattle.verdicts.specs.Limits.{mostRecords, mostBytes}
+use Rattle.recordtests.specs.Tests.{levelBefore}
+use Rattle.htmltags.specs.Tags.{tagsFrom, lacksTags}
+use Rattle.htmltags.specs.Placed.{Placed}
+use Rattle.refusal.specs.Refusal.{judgeFrom, judgeSheet}
+use Rattle.recordtests.specs.Formed.{Named, Head, Formed, Sound}
 use Rattle.sheet.specs.declared.records.Text.{Text}
-use Rattle.refusal.specs.declared.judge.Judged.the-variants.{Accepted}
-use Rattle.standing.proofs.PlaceLaws.{or-left, or-right}
-use Rattle.refusal.proofs.OpenLaws.{Passed, deep, open-kid, open-same, open-past}
+use Rattle.verdicts.specs.declared.verdict.Judged.the-variants.{Accepted}
+use Rattle.strings.proofs.Tests.{or-left, or-right}
+use Rattle.standing.proofs.OpenLaws.{open-kid, open-same, open-past}
+use Rattle.recordtests.proofs.PassLaws.{Passed, deep}
 use Rattle.sheet.proofs.SiblingLaws.{level-past}
 use Rattle.sheet.specs.Siblings.{gather}
-use Rattle.refusal.proofs.AcceptLaws.{both-first, both-second, every-passed}
-use Rattle.refusal.proofs.TagLaws.{next-level}
+use Rattle.verdicts.proofs.VerdictLaws.{both-first, both-second}
+use Rattle.refusal.proofs.AcceptLaws.{every-passed}
+use Rattle.htmltags.proofs.TagLaws.{next-level}
 use Rattle.sheet.proofs.Trees.{under-end, under-out, under-in, under-fits, all-under}
 
 -- ---- one record

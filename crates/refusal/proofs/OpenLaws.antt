@@ -1,46 +1,33 @@
 -- What stands before a record under its parent, kept by level; and the records judged one after another.
 use mathlib.Core.Path.{_≡_, refl, sym, _∙_}
-use mathlib.Core.Bool.{Bool, true, false, not, _||_, false≢true}
+use mathlib.Core.Bool.{Bool, true, false}
 use mathlib.Core.List.{List}
 use Prim.Native.Nat.{ℕ, suc, _+_, _-_, _<_, _≤_}
 use native.Mathlib.Numerals.{add-one}
 use native.Mathlib.Nat.{sub-zero}
 use native.Mathlib.Omega.{arith}
 use borrow.Author.Needs.{needs}
-use borrow.Author.Tests.{not-true, not-false, ltb-false, le-leb, lt-leb, eqb-true, eqb-false}
-use lib.Dec.{eqb, ltb}
+use borrow.Author.Tests.{not-true, not-false, le-leb, lt-leb, eqb-true, eqb-false}
+use lib.Dec.{eqb}
 use lib.ListN.{length, getD, set, replicate, length-set}
 use lib.Seq.{getD-set-same, getD-set-other}
-use Rattle.strings.specs.Lists.{if_then_else_}
-use Rattle.sheet.specs.Kinds.{isKind}
 use Rattle.sheet.specs.Sheet.{recordAt}
-use Rattle.standing.specs.Places.{holdsBlocks, parentGroup, opened, joined, misplaced, openAt}
-use Rattle.form.specs.Fields.{badField, textOutside, textIllFormed}
-use Rattle.refusal.specs.Refusal.{numberOf, isAccepted, orElse, levelBefore, badLevel, judgeTexts, judge, judgeAt, judgeFrom}
+use Rattle.groups.specs.Groups.{parentGroup}
+use Rattle.standing.specs.Places.{opened, joined, openAt}
+use Rattle.verdicts.specs.Verdict.{isAccepted, orElse}
+use Rattle.recordtests.specs.Tests.{levelBefore, badLevel, judge}
+use Rattle.refusal.specs.Refusal.{judgeAt, judgeFrom}
 use Rattle.refusal.specs.Judging.{slotOf, Slot}
 use Rattle.sheet.specs.declared.records.Rec.{Rec}
 use Rattle.standing.specs.declared.places.Open.{Open}
-use Rattle.refusal.specs.declared.judge.Judged.{Judged}
-use Rattle.refusal.specs.declared.judge.Judged.the-variants.{Accepted, OddSheet, LongSheet, LongText, UnknownKind, BadLevel, Misplaced, BadField, TextOutside, NotUtf8, TagsMissing}
+use Rattle.verdicts.specs.declared.verdict.Judged.{Judged}
+use Rattle.verdicts.specs.declared.verdict.Judged.the-variants.{Accepted}
 use Rattle.sheet.specs.Siblings.{gather}
-use Rattle.sheet.specs.Forest.{under, size}
-use Rattle.standing.proofs.PlaceLaws.{or-left, or-right}
-use Rattle.sheet.proofs.SiblingLaws.{gather-kid, gather-next, gather-deeper, gather-past}
+use Rattle.standing.proofs.OpenLaws.{open-kid, open-same, open-above}
+use Rattle.verdicts.proofs.VerdictLaws.{or-first, or-second}
+use Rattle.recordtests.proofs.PassLaws.{Passed, passed, Deep, deep, blind}
 
--- ---- answers
-pub accepted-number : (j : Judged) {n : ℕ} → n ≡ numberOf j → eqb n 0 ≡ isAccepted j
-accepted-number Accepted e = rw e
-accepted-number OddSheet e = rw e
-accepted-number LongSheet e = rw e
-accepted-number LongText e = rw e
-accepted-number (UnknownKind i) e = rw e
-accepted-number (BadLevel i) e = rw e
-accepted-number (Misplaced i) e = rw e
-accepted-number (BadField i) e = rw e
-accepted-number (TextOutside i) e = rw e
-accepted-number (NotUtf8 i) e = rw e
-accepted-number (TagsMissing i) e = rw e
-
+-- ---- where a level's state is kept
 pub slot-low : (level : ℕ) → level ≤ 64 → Slot level level
 slot-low level h = record { is = rw (le-leb level 64 h); most = h }
 
@@ -49,54 +36,6 @@ slot-high level h = record { is = rw (lt-leb level 64 h); most = omega arith }
 
 slot-in : (level : ℕ) → level ≤ 64 → level ≡ slotOf level
 slot-in level h = rw (le-leb level 64 h)
-
-pub or-first : (j k : Judged) → isAccepted j ≡ false → orElse j k ≡ j
-unfolding orElse
-or-first j k e = rw e
-
-pub or-second : (j k : Judged) → isAccepted j ≡ true → orElse j k ≡ k
-unfolding orElse
-or-second j k e = rw e
-
--- ---- what passing the tests says of a record
-pub record Passed (bytes : List ℕ) (r : Rec) (before : ℕ) (o : Open) : Type 0 where
-  pub kind : isKind (r .kind) ≡ true
-  pub level : badLevel before (r .level) ≡ false
-  pub place : misplaced o (r .kind) ≡ false
-  pub field : badField r ≡ false
-  pub inside : (textOutside bytes (r .first) || textOutside bytes (r .second)) ≡ false
-  pub formed : (textIllFormed bytes (r .first) || textIllFormed bytes (r .second)) ≡ false
-
-pub passed : (bytes : List ℕ) (i : ℕ) (r : Rec) (before : ℕ) (o : Open) → isAccepted (judge bytes i r before o) ≡ true → Passed bytes r before o
-unfolding judge judgeTexts
-passed bytes i r before o = go (isKind (r .kind)) (badLevel before (r .level)) (misplaced o (r .kind)) (badField r) (textOutside bytes (r .first) || textOutside bytes (r .second)) (textIllFormed bytes (r .first) || textIllFormed bytes (r .second)) refl refl refl refl refl refl
-  where
-    go : (k l m f t u : Bool) → isKind (r .kind) ≡ k → badLevel before (r .level) ≡ l → misplaced o (r .kind) ≡ m → badField r ≡ f → (textOutside bytes (r .first) || textOutside bytes (r .second)) ≡ t → (textIllFormed bytes (r .first) || textIllFormed bytes (r .second)) ≡ u → isAccepted (if not k then UnknownKind i else if l then BadLevel i else if m then Misplaced i else if f then BadField i else if t then TextOutside i else if u then NotUtf8 i else Accepted) ≡ true → Passed bytes r before o
-    go false l m f t u a b c d e g h = absurd (false≢true h)
-    go true true m f t u a b c d e g h = absurd (false≢true h)
-    go true false true f t u a b c d e g h = absurd (false≢true h)
-    go true false false true t u a b c d e g h = absurd (false≢true h)
-    go true false false false true u a b c d e g h = absurd (false≢true h)
-    go true false false false false true a b c d e g h = absurd (false≢true h)
-    go true false false false false false a b c d e g h = record { kind = a; level = b; place = c; field = d; inside = e; formed = g }
-
--- a level that is not bad
-pub record Deep (before level : ℕ) : Type 0 where
-  pub some : 0 < level
-  pub most : level ≤ 64
-  pub near : level ≤ before + 1
-
-pub deep : (before level : ℕ) → badLevel before level ≡ false → Deep before level
-unfolding badLevel
-deep before level h =
-    let ab : (eqb level 0 || ltb 64 level) ≡ false = or-left _ (ltb (before + 1) level) h in
-    let n : (level ≡ 0 → ⊥) = eqb-false level 0 (or-left (eqb level 0) (ltb 64 level) ab) in
-    record { some = omega arith; most = ltb-false _ _ (or-right (eqb level 0) (ltb 64 level) ab); near = ltb-false _ _ (or-right (eqb level 0 || ltb 64 level) (ltb (before + 1) level) h) }
-
--- a bad level is told whatever stands before the record
-blind : (bytes : List ℕ) (i : ℕ) (r : Rec) (before : ℕ) (o p : Open) → badLevel before (r .level) ≡ true → judge bytes i r before o ≡ judge bytes i r before p
-unfolding judge
-blind bytes i r before o p h = rw h
 
 -- ---- the states that are kept by level
 abbrev pub closed : Open
@@ -117,30 +56,6 @@ kept-start w e =
       long = refl;
       each = λ l h. let z : l ≡ 0 = omega arith in rw (z, e);
     }
-
--- how the state of a level changes with one record more
-abbrev under-record : Rec → Open
-under-record r = opened (parentGroup (r .kind) (r .a))
-
-abbrev after-child : Open → Rec → Open
-after-child o r = joined o (r .kind)
-
-module _ (w : List ℕ) (i l : ℕ) where
-  pub open-kid : recordAt w i .level ≡ l → openAt w (l + 1) (i + 1) ≡ opened (parentGroup (recordAt w i .kind) (recordAt w i .a))
-  unfolding openAt
-  open-kid = gather-kid (opened holdsBlocks) under-record after-child w i l
-
-  pub open-same : recordAt w i .level ≡ l → openAt w l (i + 1) ≡ joined (openAt w l i) (recordAt w i .kind)
-  unfolding openAt
-  open-same = gather-next (opened holdsBlocks) under-record after-child w i l
-
-  pub open-above : l < recordAt w i .level → openAt w l (i + 1) ≡ openAt w l i
-  unfolding openAt
-  open-above = gather-deeper (opened holdsBlocks) under-record after-child w i l
-
-pub open-past : (w : List ℕ) (n m s j : ℕ) → size (under w n j m) ≡ s → openAt w m (j + s) ≡ openAt w m j
-unfolding openAt
-open-past w n m s j = gather-past (opened holdsBlocks) under-record after-child w n m s j
 
 -- the record at i is judged by what is kept of its level
 module _ (w bytes : List ℕ) (i before : ℕ) (os : List Open) (k : Kept w i before os) where
@@ -222,4 +137,4 @@ pub judging-end : (w bytes : List ℕ) (n i before : ℕ) (os : List Open) → n
 unfolding judgeFrom
 judging-end w bytes n i before os h v = let e : n - i ≡ 0 = omega (arith, v .within) in sym (v .same ∙ rw e)
 
-pub ruleset records-judged = (judging-start, judging-stop, judging-turn, judging-end, accepted-number, slot-low, slot-high, not-true, not-false, needs)
+pub ruleset records-judged = (judging-start, judging-stop, judging-turn, judging-end, slot-low, slot-high, not-true, not-false, needs)

@@ -1,3 +1,2 @@
 pub mod Refusal
 pub mod Judging
-pub mod Formed

@@ -2,7 +2,6 @@
 ghost use Prim.Native.Nat.{_≤_};
 use inlines::nodes::validate_inlines;
 use refusal::judge;
-use refusal::judge::Judged;
 use report::entries;
 use sheet::records::RECORD_WORDS;
 use stored::read;
@@ -10,6 +9,7 @@ use stored::tally::Tally;
 use stored::words;
 use stored::words::fill;
 use strings::part::part;
+use verdicts::verdict::Judged;
 
 // How many bytes stand before a record's words: how many words the sheet has, how many bytes its text, how many words the list.
 pub const HEAD: usize = 6;

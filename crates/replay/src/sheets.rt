@@ -1,9 +1,10 @@
 // Sheets with the refusal that a plain reading of document 01 gives each.
 ghost use Prim.Native.Nat.{_≤_};
-use refusal::judge::Judged;
 use stored::read;
 use stored::tally::Tally;
 use stored::words::fill;
+use verdicts::verdict;
+use verdicts::verdict::Judged;
 
 // How many bytes stand before a record's words: two counts, the number, and its record.
 pub const HEAD: usize = 7;
@@ -41,8 +42,8 @@ fn judged(words: &mut [u32], r: &[u8]) -> Judged {
 pub fn replay_record(r: &[u8], tally: Tally) -> Tally {
     let mut words = [0u32; 800];
     let answer = judged(&mut words, r);
-    let number = refusal::judge::number_of(answer) as usize;
-    let record = refusal::judge::record_of(answer);
+    let number = verdict::number_of(answer) as usize;
+    let record = verdict::record_of(answer);
     let fits = words_of(r) <= 800;
     let expected = read::size(read::byte(r, 4));
     tally

@@ -17,7 +17,8 @@ use Rattle.scalars.specs.Values.{valueAfter, room, Valued, Begins}
 use Rattle.unicode.specs.Owed.{columns}
 use Rattle.scalars.specs.White.{isWhite, endsWithWhite}
 use Rattle.strings.proofs.Scan.{next}
-use Rattle.unicode.proofs.Decoding.{allBelow, each, whole, outside, and-left, and-right, from-to}
+use Rattle.strings.proofs.Tests.{allBelow, each, and-left, and-right}
+use Rattle.unicode.proofs.Decoding.{whole, outside, from-to}
 use Rattle.strings.proofs.Scan.{scan}
 
 -- ---- the value of the bits

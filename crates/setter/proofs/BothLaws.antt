@@ -8,15 +8,16 @@ use lib.Dec.{ltb}
 use lib.ListN.{length, drop}
 use Rattle.report.specs.Report.{Entry, flat, entriesIn}
 use Rattle.report.proofs.ReportLaws.{read-back}
-use Rattle.refusal.specs.Refusal.{isAccepted, judgeSheet}
-use Rattle.refusal.proofs.AcceptLaws.{is-accepted}
-use Rattle.refusal.specs.declared.judge.Judged.the-variants.{Accepted}
+use Rattle.verdicts.specs.Verdict.{isAccepted}
+use Rattle.refusal.specs.Refusal.{judgeSheet}
+use Rattle.verdicts.proofs.VerdictLaws.{is-accepted}
+use Rattle.verdicts.specs.declared.verdict.Judged.the-variants.{Accepted}
 use Rattle.blocks.specs.Blocks.{validateDocument}
 use Rattle.checker.specs.Check.{outcome}
 use Rattle.answers.specs.declared.answer.Checked.{Checked}
 use Rattle.answers.specs.declared.answer.Checked.the-variants.{Listed, Refused, ShortReport}
 use Rattle.setting.specs.Setting.{settingOf}
-use Rattle.setting.specs.declared.run.Setting.{Setting}
+use Rattle.answers.specs.declared.setting.Setting.{Setting}
 use Rattle.demand.specs.Demand.{Agrees, Demand}
 use Rattle.demand.proofs.Demand.{demand-accepted}
 use Rattle.setter.specs.Both.{Done}

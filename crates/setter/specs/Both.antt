@@ -7,7 +7,7 @@ use Rattle.checker.specs.Check.{outcome}
 use Rattle.answers.specs.declared.answer.Checked.{Checked}
 use Rattle.answers.specs.declared.answer.Checked.the-variants.{Listed}
 use Rattle.setting.specs.Setting.{settingOf}
-use Rattle.setting.specs.declared.run.Setting.{Setting}
+use Rattle.answers.specs.declared.setting.Setting.{Setting}
 use Rattle.demand.specs.Demand.{Agrees}
 
 -- a sheet, its text, the report and the marks before; the check's answer and the report after it; the machine's answer and the marks after it

@@ -1,8 +1,8 @@
 // The check and the setting machine, one after the other, on the same sheet and text.
 ghost use Rattle.setter.specs.Both.{Done};
 use answers::answer::Checked;
+use answers::setting::Setting;
 use checker::check::check;
-use setting::run::Setting;
 use setting::run::set;
 
 // What each of the two answers.

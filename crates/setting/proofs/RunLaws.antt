@@ -16,10 +16,11 @@ use Rattle.sheet.specs.Sheet.{recordWords, recordsOf, recordAt}
 use Rattle.sheet.specs.Forest.{recordsFrom}
 use Rattle.sheet.specs.declared.records.Rec.{Rec}
 use Rattle.form.specs.Fields.{badField}
-use Rattle.refusal.specs.Refusal.{judgeSheet, levelBefore}
-use Rattle.refusal.specs.declared.judge.Judged.the-variants.{Accepted}
-use Rattle.standing.proofs.PlaceLaws.{or-left, or-right}
-use Rattle.refusal.proofs.OpenLaws.{Deep, deep}
+use Rattle.refusal.specs.Refusal.{judgeSheet}
+use Rattle.recordtests.specs.Tests.{levelBefore}
+use Rattle.verdicts.specs.declared.verdict.Judged.the-variants.{Accepted}
+use Rattle.strings.proofs.Tests.{or-left, or-right}
+use Rattle.recordtests.proofs.PassLaws.{Deep, deep}
 use Rattle.refusal.proofs.FormedLaws.{each-passed, accepted}
 use Rattle.machine.specs.Machine.{Frame, fresh, withKid, theSheet, Step, opens, closes, closings, stepsFrom, stepsOf, lastMark, itemMark, seen, lowest, openingTests, closingTests, stopOf, Outcome, ended, stopped, outcomeOf, runOf, outcome, run, markOf, marksOf}
 use Rattle.machine.proofs.StepLaws.{Low, open-one, close-one, goes-on, stops-here}
@@ -28,8 +29,8 @@ use Rattle.frames.specs.declared.kept.Kept.{Kept}
 use Rattle.frames.proofs.KeptLaws.{seen-kept, opened-kept, joined-kept, small-number}
 use Rattle.setting.specs.Setting.{answerOf, afterRun}
 use Rattle.setting.specs.Running.{nextLevel}
-use Rattle.setting.specs.declared.run.Setting.{Setting}
-use Rattle.setting.specs.declared.run.Setting.the-variants.{Ended, Stopped}
+use Rattle.answers.specs.declared.setting.Setting.{Setting}
+use Rattle.answers.specs.declared.setting.Setting.the-variants.{Ended, Stopped}
 
 -- ---- the levels of an accepted sheet
 module _ (w bytes : List ℕ) (ok : judgeSheet w bytes ≡ Accepted) where

@@ -6,13 +6,14 @@ use Prim.Native.Nat.{ℕ, _<_, _≤_}
 use borrow.Author.Tests.{lt-ltb, le-ltb}
 use lib.ListN.{length}
 use Rattle.sheet.specs.Sheet.{recordsOf}
-use Rattle.refusal.specs.Refusal.{numberOf, isAccepted, judgeSheet}
-use Rattle.refusal.specs.declared.judge.Judged.{Judged}
-use Rattle.refusal.specs.declared.judge.Judged.the-variants.{Accepted}
-use Rattle.refusal.proofs.AcceptLaws.{none-refused, some-refused}
+use Rattle.verdicts.specs.Verdict.{numberOf, isAccepted}
+use Rattle.refusal.specs.Refusal.{judgeSheet}
+use Rattle.verdicts.specs.declared.verdict.Judged.{Judged}
+use Rattle.verdicts.specs.declared.verdict.Judged.the-variants.{Accepted}
+use Rattle.verdicts.proofs.VerdictLaws.{none-refused, some-refused}
 use Rattle.setting.specs.Setting.{afterRun, settingOf}
-use Rattle.setting.specs.declared.run.Setting.{Setting}
-use Rattle.setting.specs.declared.run.Setting.the-variants.{Refused, ShortMarks}
+use Rattle.answers.specs.declared.setting.Setting.{Setting}
+use Rattle.answers.specs.declared.setting.Setting.the-variants.{Refused, ShortMarks}
 
 module _ (w bytes : List ℕ) {j : Judged} {k : ℕ} (e : j ≡ judgeSheet w bytes) (g : k ≡ numberOf j) where
   pub set-refused : (x : List ℕ) → (k ≡ 0 → ⊥) → (Refused j, x) ≡ settingOf w bytes x

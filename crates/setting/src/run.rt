@@ -4,36 +4,19 @@ ghost use Prim.Native.Nat.{_*_, _≤_};
 ghost use lib.ListN.{length};
 ghost use Rattle.sheet.specs.Sheet.{recordWords, recordsOf};
 ghost use Rattle.refusal.specs.Refusal.{judgeSheet};
-ghost use Rattle.refusal.specs.declared.judge.Judged.the-variants.{Accepted};
-ghost use Rattle.setting.specs.Setting.{stopNumber, afterRun, settingOf};
+ghost use Rattle.verdicts.specs.declared.verdict.Judged.the-variants.{Accepted};
+ghost use Rattle.setting.specs.Setting.{afterRun, settingOf};
 ghost use Rattle.setting.specs.Running.{nextLevel};
+use answers::setting::Setting;
+use closings::tests::closing_stop;
+use closings::tests::mark_of;
 use frames::kept;
 use refusal::judge;
-use refusal::judge::Judged;
 use sheet::records::RECORD_WORDS;
 use sheet::records::level_at;
 use sheet::records::record_at;
-use stops::tests;
-
-// The answer: how many records were opened and closed, or the stop and its record, or why nothing was set.
-pub enum Setting {
-    Ended(u32),
-    Stopped(u32, u32),
-    Refused(Judged),
-    ShortMarks,
-}
-
-// The stop; 0 at the end, and where nothing was set.
-pub fn stop_number(s: Setting) -> u32
-    ensures { λ r. ⌜ r ≡ stopNumber s ⌝ }
-{
-    match s {
-        Setting::Ended(_) => 0,
-        Setting::Stopped(stop, _) => stop,
-        Setting::Refused(_) => 0,
-        Setting::ShortMarks => 0,
-    }
-}
+use stops::tests::opening_stop;
+use verdicts::verdict;
 
 // The level from which open records close next: that of record `i`, and after the last every level.
 fn next_level(sheet: &[u32], n: usize, i: usize) -> u32
@@ -60,7 +43,7 @@ fn run_records(sheet: &[u32], text: &[u8], marks: &mut [u32], n: usize) -> Setti
         if level <= depth {
             let r = record_at(sheet, k.at as usize);
             let around = open[depth - 1];
-            let stop = tests::closing_stop(r, k, around);
+            let stop = closing_stop(r, k, around);
             if stop != 0 {
                 return Setting::Stopped(stop, k.at);
             }
@@ -69,11 +52,11 @@ fn run_records(sheet: &[u32], text: &[u8], marks: &mut [u32], n: usize) -> Setti
             continue;
         }
         let r = record_at(sheet, i);
-        let stop = tests::opening_stop(text, r, k);
+        let stop = opening_stop(text, r, k);
         if stop != 0 {
             return Setting::Stopped(stop, i as u32);
         }
-        marks[i] = tests::mark_of(r, k);
+        marks[i] = mark_of(r, k);
         depth = depth + 1;
         open[depth] = kept::opened(i as u32, r, k);
         i = i + 1;
@@ -86,7 +69,7 @@ pub fn set(sheet: &[u32], text: &[u8], marks: &mut [u32]) -> Setting
     ensures { λ r. ⌜ (r, now (marks .exit)) ≡ settingOf (now (sheet .entry)) (now (text .entry)) (now (marks .entry)) ⌝ }
 {
     let judged = judge::accept(sheet, text);
-    if judge::number_of(judged) != 0 {
+    if verdict::number_of(judged) != 0 {
         return Setting::Refused(judged);
     }
     let n = sheet.len() / RECORD_WORDS;

@@ -1,3 +1,3 @@
-pub mod GroupLaws
 pub mod PlaceLaws
 pub mod PlacedLaws
+pub mod OpenLaws

@@ -9,9 +9,10 @@ use lib.Dec.{eqb, ltb, leb}
 use lib.ListN.{length, getD, List·getD-eq-default}
 use borrow.Author.Needs.{needs}
 use borrow.Author.Tests.{leb-true, leb-false, eq-eqb, ne-eqb}
-use Rattle.unicode.proofs.Decoding.{and-left, and-right}
+use Rattle.strings.proofs.Tests.{and-left, and-right, or-left, or-right}
 use Rattle.sheet.specs.Kinds.{htmlTag}
-use Rattle.standing.specs.Places.{holdsTagsAndBlocks, holdsTagsAndInlines, places, placeOf, joined, misplaced}
+use Rattle.groups.specs.Groups.{holdsTagsAndBlocks, holdsTagsAndInlines}
+use Rattle.standing.specs.Places.{places, placeOf, joined, misplaced}
 use Rattle.standing.specs.declared.places.Open.{Open}
 
 pub place-below : (group column : ℕ) → 10 ≤ group → 0 ≡ getD (getD places group []) column 0
@@ -20,14 +21,6 @@ place-below group column h = rw (List·getD-eq-default places [] {n = group} h)
 
 pub place-inside : (table : List (List ℕ)) (group column : ℕ) → table ≡ places → getD (getD table group []) column 0 ≡ getD (getD places group []) column 0
 place-inside table group column e = rw e
-
-pub or-left : (t u : Bool) → (t || u) ≡ false → t ≡ false
-or-left true u e = e
-or-left false u e = refl
-
-pub or-right : (t u : Bool) → (t || u) ≡ false → u ≡ false
-or-right true u e = absurd (true≢false e)
-or-right false u e = e
 
 -- no row is longer than seven
 short : List (List ℕ) → Bool

@@ -5,11 +5,12 @@ use Prim.Native.Nat.{ℕ, _<_, _≤_}
 use native.Mathlib.Omega.{arith}
 use borrow.Author.Tests.{ltb-false, leb-true, leb-false, lt-leb}
 use lib.Dec.{eqb, ltb, leb}
-use Rattle.unicode.proofs.Decoding.{allBelow, each}
+use Rattle.strings.proofs.Tests.{allBelow, each}
 use Rattle.sheet.specs.Kinds.{isBlock, isInline, isKind, item, row, cell, htmlTag, attribute}
-use Rattle.standing.specs.Places.{holdsBlocks, holdsItems, holdsRows, holdsCells, holdsInlines, holdsLabel, holdsLabelAndBlocks, holdsTagsAndBlocks, holdsTagsAndInlines, holdsNothing, childGroup, places, placeOf, opened, joined, misplaced}
+use Rattle.groups.specs.Groups.{holdsBlocks, holdsItems, holdsRows, holdsCells, holdsInlines, holdsLabel, holdsLabelAndBlocks, holdsTagsAndBlocks, holdsTagsAndInlines, holdsNothing, childGroup}
+use Rattle.standing.specs.Places.{places, placeOf, opened, joined, misplaced}
 use Rattle.standing.specs.declared.places.Open.{Open}
-use Rattle.standing.proofs.PlaceLaws.{or-left, or-right}
+use Rattle.strings.proofs.Tests.{or-left, or-right}
 
 -- ---- a record that is not misplaced has a place, at or after that of the child before it
 module _ (o : Open) (k : ℕ) (h : misplaced o k ≡ false) where

@@ -4,14 +4,12 @@ ghost use mathlib.Core.Bool.{true, false};
 ghost use mathlib.Core.List.{[]};
 ghost use lib.ListN.{getD};
 ghost use Rattle.sheet.specs.Kinds.{isKind};
-ghost use Rattle.standing.specs.Places.{parentGroup, childGroup, places, placeOf, opened, joined, misplaced};
-ghost use Rattle.standing.specs.Groups.{kindGroups};
+ghost use Rattle.groups.specs.KindGroups.{kindGroups};
+ghost use Rattle.standing.specs.Places.{places, placeOf, opened, joined, misplaced};
+use groups::kind::HOLDS_TAGS_AND_BLOCKS;
+use groups::kind::HOLDS_TAGS_AND_INLINES;
+use groups::kind::child_group;
 use sheet::kinds;
-use sheet::kinds::pick;
-
-const HOLDS_TAGS_AND_BLOCKS: u32 = 7;
-
-const HOLDS_TAGS_AND_INLINES: u32 = 8;
 
 // The allowed places: a row for each group of parents, a column for each group of children
 // (block, item, row, cell, HTML tag, attribute, inline). 0: not allowed.
@@ -33,89 +31,6 @@ pub struct Open {
     pub group: u32,
     pub stage: u32,
     pub tags: u32,
-}
-
-// The groups of each kind, from 0 on: as a parent whose A is 0, and as a child.
-const GROUPS: [[u32; 2]; 54] = [
-    [9, 6],
-    [4, 0],
-    [4, 0],
-    [9, 0],
-    [0, 0],
-    [0, 0],
-    [1, 0],
-    [9, 0],
-    [9, 0],
-    [7, 0],
-    [9, 0],
-    [0, 0],
-    [2, 0],
-    [9, 0],
-    [9, 0],
-    [5, 0],
-    [6, 0],
-    [9, 0],
-    [9, 6],
-    [9, 6],
-    [0, 1],
-    [3, 2],
-    [4, 3],
-    [9, 4],
-    [9, 5],
-    [9, 6],
-    [9, 6],
-    [9, 6],
-    [9, 6],
-    [9, 6],
-    [9, 6],
-    [9, 6],
-    [9, 6],
-    [9, 6],
-    [4, 6],
-    [4, 6],
-    [4, 6],
-    [4, 6],
-    [9, 6],
-    [9, 6],
-    [4, 6],
-    [9, 6],
-    [4, 6],
-    [4, 6],
-    [4, 6],
-    [9, 6],
-    [9, 6],
-    [9, 6],
-    [9, 6],
-    [9, 6],
-    [4, 6],
-    [9, 6],
-    [5, 6],
-    [9, 6],
-];
-
-// The groups, made once: what tests a record is lent them.
-pub fn groups() -> [[u32; 2]; 54]
-    ensures { λ r. ⌜ r ≡ kindGroups ⌝ }
-{
-    GROUPS
-}
-
-// What a record of the kind may hold; an HTML container, inlines where its A is not 0.
-pub fn parent_group(groups: &[[u32; 2]; 54], kind: u32, a: u32) -> u32
-    requires { ⌜ (now groups ≡ kindGroups) × (isKind kind ≡ true) ⌝ }
-    ensures { λ r. ⌜ r ≡ parentGroup kind a ⌝ }
-{
-    let k = kind as usize;
-    let inlines = (kind == kinds::HTML_CONTAINER) & (a != 0);
-    pick(inlines, HOLDS_TAGS_AND_INLINES, groups[k][0])
-}
-
-fn child_group(groups: &[[u32; 2]; 54], kind: u32) -> u32
-    requires { ⌜ (now groups ≡ kindGroups) × (isKind kind ≡ true) ⌝ }
-    ensures { λ r. ⌜ r ≡ childGroup kind ⌝ }
-{
-    let k = kind as usize;
-    groups[k][1]
 }
 
 // The table, made once: what tests a record is lent it.

@@ -1,2 +1,2 @@
-// The machine's stops and marks, from what is kept of the records that are open.
+// The machine's stops as a record opens, from what is kept of the records that are open.
 pub mod tests;

@@ -1,23 +1,21 @@
-// The stops of an opening and of a closing, and the mark of a record.
+// The stop of an opening.
 ghost use mathlib.Core.Path.{_≡_};
 ghost use mathlib.Core.Bool.{_&&_};
 ghost use mathlib.Core.List.{[], _∷_};
-ghost use Prim.Native.Nat.{_≤_};
 ghost use Rattle.sheet.specs.Kinds.{among, leafDirective, containerDirective, cell, text, code};
 ghost use Rattle.multiline.specs.Lines.{holdsLineEnding};
-ghost use Rattle.form.specs.Fields.{textOf};
-ghost use Rattle.machine.specs.Machine.{lowest, openingTests, closingTests, markOf};
-ghost use Rattle.frames.specs.Kept.{seenBy, mostKids, mostNumber};
+ghost use Rattle.texts.specs.Texts.{textOf};
+ghost use Rattle.machine.specs.Machine.{lowest, openingTests};
+ghost use Rattle.frames.specs.Kept.{seenBy};
 use classes::class;
-use form::fields::text_of;
 use frames::kept::Kept;
-use frames::kept::item_mark;
+use markers::marker::written_marker;
 use multiline::lines::holds_line_ending;
-use neighbours::taken::written_marker;
 use sheet::kinds;
 use sheet::kinds::pick;
 use sheet::records::Rec;
 use strings::bytes::between;
+use texts::text::text_of;
 
 // The largest number of an ordered item.
 const MOST_NUMBER: u32 = 999999999;
@@ -61,27 +59,4 @@ pub fn opening_stop(bytes: &[u8], r: Rec, k: Kept) -> u32
     let stop = pick(large, 7, pick(bullet, 8, stop));
     let stop = pick(link, 5, pick(heading, 6, stop));
     pick(cell, 1, pick(line, 4, stop))
-}
-
-// The stop of record r as it closes under `around`, where `k` is kept of it; 0 where it has none.
-pub fn closing_stop(r: Rec, k: Kept, around: Kept) -> u32
-    ensures { λ q. ⌜ q ≡ lowest (closingTests r (k .kids) (k .empty) (around .columns)) ⌝ }
-{
-    let row = (r.kind == kinds::ROW) & (k.kids < around.columns);
-    let table = (r.kind == kinds::TABLE) & ((k.kids == 0) | (r.a == 0));
-    let list = (r.kind == kinds::LIST) & (k.kids == 0);
-    let prose = (r.kind == kinds::PARAGRAPH) | class::is_emphasis_container(r.kind);
-    let stop = pick(list, 9, pick(prose & k.empty, 10, 0));
-    pick(row, 2, pick(table, 3, stop))
-}
-
-// The mark of record r as it opens under `k`.
-pub fn mark_of(r: Rec, k: Kept) -> u32
-    requires { ⌜ (k .kids ≤ mostKids) × (k .number ≤ mostNumber) ⌝ }
-    ensures { λ q. ⌜ q ≡ markOf r (seenBy r k) ⌝ }
-{
-    let item = (r.kind == kinds::ITEM) & k.ordered;
-    let mark = pick(item, item_mark(r, k.number), 0);
-    let mark = pick(r.kind == kinds::CELL, k.kids + 1, mark);
-    pick(r.kind == kinds::HEADING, r.a, mark)
 }

@@ -1,3 +1,4 @@
+pub mod Tests
 pub mod Scan
 pub mod Pairs
 pub mod Parts

@@ -13,30 +13,9 @@ use Rattle.unicode.specs.Utf8.{Range, _to_, within, trail, nothing, tabl
 use Rattle.unicode.specs.Scans.{breaks, owedAfter}
 use Rattle.unicode.specs.Owed.{columns}
 use Rattle.strings.proofs.Scan.{At, scan}
+use Rattle.strings.proofs.Tests.{allBelow, and-left, and-right, each}
 use Rattle.chunks.specs.Chunk.{isAscii, Past}
 use Rattle.chunks.proofs.Chunks.{leap-to}
-
--- ---- a rule of all bytes, by one computed test
-unfoldable pub allBelow : (ℕ → Bool) → ℕ → Bool
-allBelow test zero = true
-allBelow test (suc n) = let later = allBelow test n in test n && later
-
-pub and-left : (t u : Bool) → (t && u) ≡ true → t ≡ true
-and-left true u e = refl
-and-left false u e = e
-
-pub and-right : (t u : Bool) → (t && u) ≡ true → u ≡ true
-and-right true u e = e
-and-right false u e = absurd (false≢true e)
-
-pub each : (test : ℕ → Bool) (n : ℕ) → allBelow test n ≡ true → (b : ℕ) → b < n → test b ≡ true
-unfolding allBelow
-each test zero e b h = absurd (omega arith)
-each test (suc n) e b h = go (eqb b n) refl (each test n (and-right (test n) (allBelow test n) e) b)
-  where
-    go : (t : Bool) → eqb b n ≡ t → (b < n → test b ≡ true) → test b ≡ true
-    go true p rest = rw (eqb-true b n p) (and-left (test n) (allBelow test n) e)
-    go false p rest = rest (omega (arith, eqb-false b n p))
 
 -- ---- what follows a first byte
 same-ranges : List Range → List Range → Bool

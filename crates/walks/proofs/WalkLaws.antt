@@ -10,7 +10,7 @@ use borrow.Author.Tests.{ltb-true, ltb-false}
 use lib.Dec.{ltb}
 use lib.ListN.{length}
 use Rattle.sheet.specs.Sheet.{recordAt, recordsOf}
-use Rattle.refusal.specs.Formed.{Sound}
+use Rattle.recordtests.specs.Formed.{Sound}
 use Rattle.sheet.specs.Forest.{Forest, none, tree, deeper, past, forestAt, under, size}
 use Rattle.report.specs.Report.{Entry, Lists, _⊕_}
 use Rattle.sheet.specs.declared.records.Rec.{Rec}

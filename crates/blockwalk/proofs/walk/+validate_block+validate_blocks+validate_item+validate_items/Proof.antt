@@ -32,7 +32,7 @@ use Rattle.items.proofs.item.validate_item_blank_lines.Reads as validate-item-b
 use Rattle.numbers.proofs.number.validate_item_number.Reads as validate-item-number-reads
 use Rattle.items.proofs.item.validate_task_item.Reads as validate-task-item-reads
 use Rattle.neighbours.proofs.taken.validate_taken_block.Reads as validate-taken-block-reads
-use Rattle.oneblock.proofs.block.holds_blocks.Reads as holds-blocks-reads
+use Rattle.blocks.proofs.holds.holds_blocks.Reads as holds-blocks-reads
 use Rattle.oneblock.proofs.block.validate_own.Reads as validate-own-reads
 use Rattle.sheet.proofs.kinds.is_block.Reads as is-block-reads
 use Rattle.sheet.proofs.records.record_at.Reads as record-at-reads

@@ -1,6 +1,6 @@
 -- `lister::program::list` meets its contract.
 use native.Mathlib.Omega.{arith}
-use Rattle.lister.proofs.ListLaws.{film-printed, ready-few, ready-room, ready-long, ready-records, ready-printed}
+use Rattle.listings.proofs.ListLaws.{film-printed, ready-few, ready-room, ready-long, ready-records, ready-printed}
 use borrow.Author.Needs.{needs}
 use Rattle.lister.proofs.program.list.Statement.{statement}
 use Rattle.lister.proofs.program.list.Tie as tie

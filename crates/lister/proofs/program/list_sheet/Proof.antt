@@ -1,5 +1,5 @@
 -- `lister::program::list_sheet` meets its contract.
-use Rattle.lister.proofs.ListLaws.{value-fits, refusal-printed, list-few, list-printed}
+use Rattle.listings.proofs.ListLaws.{value-fits, refusal-printed, list-few, list-printed}
 use borrow.Author.Needs.{needs}
 use Rattle.lister.proofs.program.list_sheet.Statement.{statement}
 use Rattle.lister.proofs.program.list_sheet.Tie as tie

@@ -2,7 +2,7 @@
 use Prim.Native.Nat.{_-_}
 use Rattle.refusal.proofs.OpenLaws.{Judging, judging-passed, judging-turn, records-judged}
 use Rattle.standing.specs.Places.{joined}
-use Rattle.refusal.specs.Refusal.{judge}
+use Rattle.recordtests.specs.Tests.{judge}
 use borrow.Author.Needs.{needs}
 use borrow.Author.Tests.{not-false}
 use Rattle.refusal.proofs.judge.judge_records.Statement.{statement}

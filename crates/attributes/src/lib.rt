@@ -1,0 +1,2 @@
+// The attributes of directives.
+pub mod names;

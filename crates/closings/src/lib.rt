@@ -1,0 +1,2 @@
+// The stops of closings, and the marks.
+pub mod tests;

@@ -1,0 +1,2 @@
+// The tags of HTML containers.
+pub mod tags;

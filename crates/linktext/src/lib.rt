@@ -1,0 +1,2 @@
+// The text of links.
+pub mod links;

@@ -1,0 +1,2 @@
+// The markers of lists.
+pub mod marker;

@@ -1,0 +1,2 @@
+// The tests of one record.
+pub mod tests;

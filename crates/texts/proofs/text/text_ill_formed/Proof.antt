@@ -1,0 +1,19 @@
+-- `texts::text::text_ill_formed` meets its contract.
+use Rattle.texts.specs.Texts.{textIllFormed}
+use Rattle.texts.proofs.TextLaws.{no-bytes}
+use borrow.Author.Needs.{needs}
+use Rattle.texts.proofs.text.text_ill_formed.Statement.{statement}
+use Rattle.texts.proofs.text.text_ill_formed.Tie as tie
+
+returns-2 : tie.Need-returns-2
+unfolding textIllFormed
+returns-2 c = cc
+
+pub text-ill-formed-spec : {M : Type 1} → statement M
+text-ill-formed-spec =
+    tie.close
+    (tie.spec
+    (λ c. search (no-bytes, needs))
+    (λ c κs. search needs)
+    (λ c κs. search needs)
+    returns-2)

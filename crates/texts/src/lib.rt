@@ -1,0 +1,2 @@
+// The texts that records name.
+pub mod text;

@@ -1,0 +1,12 @@
+-- `verdicts::verdict::is_accepted` meets its contract.
+use Rattle.verdicts.proofs.VerdictLaws.{accepted-number}
+use borrow.Author.Needs.{needs}
+use Rattle.verdicts.proofs.verdict.is_accepted.Statement.{statement}
+use Rattle.verdicts.proofs.verdict.is_accepted.Tie as tie
+
+pub is-accepted-spec : {M : Type 1} → statement M
+is-accepted-spec =
+    tie.close
+    (tie.spec
+    (λ c κs. search needs)
+    (λ c. search (accepted-number, needs)))

@@ -1,0 +1,2 @@
+// The answer for a sheet.
+pub mod verdict;
