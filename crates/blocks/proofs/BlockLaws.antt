@@ -9,7 +9,7 @@ use borrow.Author.Tests.{not-true, not-false, eq-eqb, ne-eqb}
 use lib.Dec.{eqb}
 use lib.ListN.{length, take, set, length-set}
 use Rattle.strings.specs.Lists.{if_then_else_}
-use Rattle.sheet.specs.Kinds.{isBlock, list}
+use Rattle.recordkinds.specs.Kinds.{isBlock, list}
 use Rattle.sheet.specs.Sheet.{recordAt}
 use Rattle.sheet.specs.Forest.{Forest, none, tree, under, count, size}
 use Rattle.sheet.specs.declared.records.Rec.{Rec}

@@ -1,2 +1,3 @@
 pub mod BlockLaws
 pub mod DocumentLaws
+pub mod DepthLaws

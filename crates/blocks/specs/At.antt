@@ -3,7 +3,7 @@ use Prim.Native.Nat.{ℕ, _+_}
 use mathlib.Core.List.{List, []}
 use mathlib.Core.Path.{_≡_}
 use Rattle.strings.specs.Lists.{if_then_else_}
-use Rattle.sheet.specs.Kinds.{isBlock}
+use Rattle.recordkinds.specs.Kinds.{isBlock}
 use Rattle.sheet.specs.Sheet.{recordAt}
 use Rattle.sheet.specs.Forest.{Forest}
 use Rattle.report.specs.Report.{Entry, _⊕_}

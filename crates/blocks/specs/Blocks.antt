@@ -5,7 +5,7 @@ use mathlib.Core.Bool.{Bool}
 use mathlib.Core.List.{List, [], _∷_, _++_}
 use lib.Dec.{eqb}
 use Rattle.strings.specs.Lists.{if_then_else_}
-use Rattle.sheet.specs.Kinds.{isBlock, list}
+use Rattle.recordkinds.specs.Kinds.{isBlock, list}
 use Rattle.sheet.specs.Forest.{Forest, none, tree, count, forestOf}
 use Rattle.report.specs.Report.{Entry, _⊕_}
 use Rattle.sheet.specs.declared.records.Rec.{Rec}

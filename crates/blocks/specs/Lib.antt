@@ -1,3 +1,4 @@
 pub mod Holds
 pub mod Blocks
 pub mod At
+pub mod Depth

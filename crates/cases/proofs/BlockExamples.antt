@@ -6,14 +6,14 @@ use Rattle.fences.specs.Fence.{holdsFenceLine, isFence}
 use Rattle.multiline.specs.Lines.{hasBlankEdgeLine, holdsLineEnding, isBlank, isCrOfCrlf, lines, longer, startsWith}
 use Rattle.strings.specs.Lists.{all, any, none, firstOr, lastOr}
 use Rattle.names.specs.Names.{isAttributeName, isBlankIdentifier, isDirectiveName, isRun, runs}
-use Rattle.strings.specs.Part.{partOf}
+use Rattle.parts.specs.Part.{partOf}
 use Rattle.leaves.specs.Pipe.{hasOddEscapedPipe, oddPipeAfter}
-use Rattle.strings.specs.Same.{sameBytes}
+use Rattle.parts.specs.Same.{sameBytes}
 use Rattle.leaves.specs.Title.{isAlertTitle}
 use Rattle.multiline.specs.Trim.{trim, trimCons, trimEnd, trimStart}
 use Rattle.texts.specs.Texts.{textOf}
 use Rattle.sheet.specs.Forest.{count, deeper, forestAt, forestOf, grow, past}
-use Rattle.sheet.specs.Kinds.{paragraph, heading, blockQuote, alert, list, codeBlock, htmlContainer, definition, footnoteDefinition, table, frontmatter, leafDirective, containerDirective, blankLine, item, row, cell, htmlTag, text, code, softBreak}
+use Rattle.recordkinds.specs.Kinds.{paragraph, heading, blockQuote, alert, list, codeBlock, htmlContainer, definition, footnoteDefinition, table, frontmatter, leafDirective, containerDirective, blankLine, item, row, cell, htmlTag, text, code, softBreak}
 use Rattle.report.specs.Report.{Entry, listIf, _⊕_}
 use Rattle.sheet.specs.Sheet.{recordAt}
 use Rattle.checks.specs.Single.{validateDestination, validateDirectiveName, validateSiblings}
@@ -22,7 +22,8 @@ use Rattle.facts.specs.Values.{isBadAttribute, isUnwritable}
 use Rattle.depths.specs.Every.{eachRecord, validateCellValues, validateOneLine}
 use Rattle.attributes.specs.Attributes.{validateDirectiveAttributes}
 use Rattle.inlines.specs.Inlines.{allEmpty, finalBreak, finalBreakAfter, noInline, validateInline, validateInlineValues, validateInlineNodes, validateInlineNodesAfter, validateInlines, validateNode}
-use Rattle.heads.specs.Heads.{frontmatterKind, validateAlert, validateCodeBlock, validateDefinition, validateFrontmatter, validateHeading}
+use Rattle.frontmatter.specs.Frontmatter.{frontmatterKind, validateFrontmatter}
+use Rattle.heads.specs.Heads.{validateAlert, validateCodeBlock, validateDefinition, validateHeading}
 use Rattle.neighbours.specs.Taken.{takesIndentedCode, validateTakenBlock, beforeNext}
 use Rattle.markers.specs.Marker.{writtenMarker}
 use Rattle.containers.specs.Tags.{validateHtmlContainer, validateTags}

@@ -8,7 +8,7 @@ use borrow.Author.Tests.{ltb-false}
 use lib.Dec.{eqb, ltb}
 use lib.ListN.{length}
 use Rattle.strings.specs.Lists.{if_then_else_}
-use Rattle.sheet.specs.Kinds.{isKind}
+use Rattle.recordkinds.specs.Kinds.{isKind}
 use Rattle.sheet.specs.Sheet.{recordWords, recordsOf}
 use Rattle.standing.specs.Places.{misplaced}
 use Rattle.form.specs.Fields.{badField}

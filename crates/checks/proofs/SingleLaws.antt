@@ -5,9 +5,9 @@ use mathlib.Core.List.{List}
 use Prim.Native.Nat.{ℕ}
 use lib.Dec.{eqb}
 use Rattle.names.specs.Names.{isDirectiveName}
-use Rattle.strings.specs.Punctuation.{isAsciiPunctuation}
+use Rattle.parts.specs.Punctuation.{isAsciiPunctuation}
 use Rattle.texts.specs.Texts.{textOf}
-use Rattle.sheet.specs.Kinds.{delete}
+use Rattle.recordkinds.specs.Kinds.{delete}
 use Rattle.report.specs.Report.{Lists, listIf}
 use Rattle.sheet.specs.declared.records.Span.{Span}
 use Rattle.sheet.specs.declared.records.Text.{Text}
@@ -15,7 +15,7 @@ use Rattle.report.specs.declared.entries.Tally.{Tally}
 use Rattle.report.proofs.ReportLaws.{lists-then}
 use Rattle.checks.specs.Single.{validateDestination, validateIdentifier, validateEscape, validateDirectiveName, validateSiblings}
 use Rattle.checks.specs.Rules
-use Rattle.facts.specs.Values.{isEmpty}
+use Rattle.emptiness.specs.Empty.{isEmpty}
 use Rattle.classes.specs.Classes.{isBreak, isPlainBreak}
 
 module _ (path : List ℕ) (span : Span) {s t : Tally} {x y : List ℕ} {p : Bool} where

@@ -4,14 +4,14 @@ use mathlib.Core.Bool.{not, _&&_}
 use mathlib.Core.List.{List}
 use lib.Dec.{eqb}
 use Rattle.names.specs.Names.{isDirectiveName}
-use Rattle.strings.specs.Punctuation.{isAsciiPunctuation}
-use Rattle.sheet.specs.Kinds.{delete}
+use Rattle.parts.specs.Punctuation.{isAsciiPunctuation}
+use Rattle.recordkinds.specs.Kinds.{delete}
 use Rattle.texts.specs.Texts.{textOf}
 use Rattle.report.specs.Report.{Entry, listIf, _⊕_}
 use Rattle.sheet.specs.declared.records.Span.{Span}
 use Rattle.sheet.specs.declared.records.Text.{Text}
 use Rattle.checks.specs.Rules
-use Rattle.facts.specs.Values.{isEmpty}
+use Rattle.emptiness.specs.Empty.{isEmpty}
 use Rattle.classes.specs.Classes.{isBreak, isPlainBreak}
 
 -- `validate_destination`: 25. A is 0 for a bare destination.

@@ -5,14 +5,14 @@ ghost use Rattle.report.specs.Report.{Lists};
 ghost use Rattle.checks.specs.Single.{validateDestination, validateIdentifier, validateEscape, validateDirectiveName, validateSiblings};
 use crate::rules;
 use classes::class;
-use facts::values;
+use emptiness::empty;
 use names::name::is_directive_name;
+use parts::punctuation::is_ascii_punctuation;
+use recordkinds::kinds;
 use report::entries::Tally;
 use report::entries::list_if;
-use sheet::kinds;
 use sheet::records::Span;
 use sheet::records::Text;
-use strings::punctuation::is_ascii_punctuation;
 use texts::text::text_of;
 
 // Rule 25: a bare destination (`a` is 0) is not empty.
@@ -27,7 +27,7 @@ pub fn validate_destination(
     requires { ⌜ length (now path) ≤ 64 ⌝ }
     ensures { λ r. ⌜ Lists tally r (now (report .entry)) (now (report .exit)) (validateDestination (now (path .entry)) span a destination) ⌝ }
 {
-    let fault = (a == 0) & values::is_empty(destination);
+    let fault = (a == 0) & empty::is_empty(destination);
     list_if(
         fault,
         report,
@@ -50,7 +50,7 @@ pub fn validate_identifier(
     requires { ⌜ length (now path) ≤ 64 ⌝ }
     ensures { λ r. ⌜ Lists tally r (now (report .entry)) (now (report .exit)) (validateIdentifier (now (path .entry)) rule span identifier) ⌝ }
 {
-    let fault = values::is_empty(identifier);
+    let fault = empty::is_empty(identifier);
     list_if(fault, report, rule, span, path, tally)
 }
 

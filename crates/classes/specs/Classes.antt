@@ -3,7 +3,7 @@ use Prim.Native.Nat.{ℕ}
 use mathlib.Core.Bool.{Bool, _&&_, _||_}
 use mathlib.Core.List.{[], _∷_}
 use lib.Dec.{eqb}
-use Rattle.sheet.specs.Kinds.{among, emphasis, strong, delete, mark, code, link, autolink, linkReference, imageReference, html, softBreak, lineBreak, math, footnoteReference, wikiLink}
+use Rattle.recordkinds.specs.Kinds.{among, emphasis, strong, delete, mark, code, link, autolink, linkReference, imageReference, html, softBreak, lineBreak, math, footnoteReference, wikiLink}
 
 -- `Inline::SoftBreak(_) | Inline::LineBreak(_)`
 abbrev pub isBreak : ℕ → Bool

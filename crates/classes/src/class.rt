@@ -1,7 +1,7 @@
 // What an inline is by its kind, and by the A of a break or an emphasis.
 ghost use mathlib.Core.Path.{_≡_};
 ghost use Rattle.classes.specs.Classes.{isBreak, isPlainBreak, isEmphasisContainer, isLink, namesOwnValue, namesLabel, isJoined};
-use sheet::kinds;
+use recordkinds::kinds;
 
 pub fn is_break(kind: u32) -> bool
     ensures { λ r. ⌜ r ≡ isBreak kind ⌝ }

@@ -6,8 +6,8 @@ ghost use Rattle.frames.specs.Kept.{seenBy, mostKids, mostNumber};
 use classes::class;
 use frames::kept::Kept;
 use frames::kept::item_mark;
-use sheet::kinds;
-use sheet::kinds::pick;
+use recordkinds::kinds;
+use recordkinds::kinds::pick;
 use sheet::records::Rec;
 
 // The stop of record r as it closes under `around`, where `k` is kept of it; 0 where it has none.

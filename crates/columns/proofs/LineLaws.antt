@@ -12,7 +12,7 @@ use lib.Seq.{append-snoc, getD-take, take-nil, take-take, take-all, take-length,
 use borrow.Author.Needs.{needs}
 use borrow.Author.Tests.{ne-eqb, leb-false}
 use Rattle.strings.specs.Bytes.{lf}
-use Rattle.strings.specs.Part.{partOf}
+use Rattle.parts.specs.Part.{partOf}
 use Rattle.report.specs.Report.{over}
 use Rattle.report.proofs.ReportLaws.{over-fits, over-nil, length-over, over-two}
 use Rattle.digits.specs.Field.{places, field, readField, numberOf, isNumber}

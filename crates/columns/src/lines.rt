@@ -10,8 +10,8 @@ use digits::fields::Column;
 use digits::fields::PLACES;
 use digits::fields::read_field;
 use digits::fields::write_field;
+use parts::part::part;
 use strings::bytes::LF;
-use strings::part::part;
 
 // The number of a field; 0 where it is malformed.
 fn number_of(c: Column) -> u32

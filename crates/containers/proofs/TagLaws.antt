@@ -3,7 +3,7 @@ use mathlib.Core.Path.{_≡_}
 use mathlib.Core.Bool.{Bool, not}
 use mathlib.Core.List.{List}
 use Prim.Native.Nat.{ℕ, _+_}
-use Rattle.strings.specs.Same.{sameBytes}
+use Rattle.parts.specs.Same.{sameBytes}
 use Rattle.texts.specs.Texts.{textOf}
 use Rattle.sheet.specs.Forest.{none, under, size}
 use Rattle.sheet.specs.Sheet.{recordAt}
@@ -16,7 +16,7 @@ use Rattle.report.proofs.ReportLaws.{lists-none, lists-then}
 use Rattle.walks.proofs.WalkLaws.{behindKids}
 use Rattle.walks.proofs.TreeLaws.{Stands}
 use Rattle.checks.specs.Rules
-use Rattle.facts.specs.Values.{isEmpty}
+use Rattle.emptiness.specs.Empty.{isEmpty}
 use Rattle.containers.specs.Tags.{validateTags, validateHtmlContainer}
 
 pub tags-law : (bytes path : List ℕ) (span : Span) (opening closing : Rec) {m n : List ℕ} {a b q c d : Bool} {s t u v k l : Tally} {x y z f g h : List ℕ} → a ≡ isEmpty (opening .first) → Lists s t x y (listIf a Rules.emptyOpeningName (opening .span) path) → b ≡ isEmpty (closing .first) → Lists t u y z (listIf b Rules.emptyClosingName (closing .span) path) → m ≡ textOf bytes (opening .first) → n ≡ textOf bytes (closing .first) → q ≡ sameBytes m n → Lists u v z f (listIf (not q) Rules.tagNamesDiffer span path) → c ≡ isEmpty (opening .second) → Lists v k f g (listIf c Rules.emptyOpeningSource (opening .span) path) → d ≡ isEmpty (closing .second) → Lists k l g h (listIf d Rules.emptyClosingSource (closing .span) path) → Lists s l x h (validateTags bytes path span opening closing)

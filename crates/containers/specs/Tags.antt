@@ -2,14 +2,14 @@
 use Prim.Native.Nat.{ℕ}
 use mathlib.Core.Bool.{not}
 use mathlib.Core.List.{List, []}
-use Rattle.strings.specs.Same.{sameBytes}
+use Rattle.parts.specs.Same.{sameBytes}
 use Rattle.texts.specs.Texts.{textOf}
 use Rattle.sheet.specs.Forest.{Forest, none, tree}
 use Rattle.report.specs.Report.{Entry, listIf, _⊕_}
 use Rattle.sheet.specs.declared.records.Rec.{Rec}
 use Rattle.sheet.specs.declared.records.Span.{Span}
 use Rattle.checks.specs.Rules
-use Rattle.facts.specs.Values.{isEmpty}
+use Rattle.emptiness.specs.Empty.{isEmpty}
 
 -- 5 to 9 of a container with the span `span`, from its two tags; 5, 6, 8 and 9 copy the tag's span
 unfoldable pub validateTags : List ℕ → List ℕ → Span → Rec → Rec → List Entry

@@ -1,1 +1,1 @@
-pub mod ContentLaws
+pub mod GatherLaws

@@ -6,34 +6,21 @@ ghost use Rattle.sheet.specs.Sheet.{recordWords};
 ghost use Rattle.sheet.specs.Forest.{under};
 ghost use Rattle.report.specs.Report.{Lists};
 ghost use Rattle.walks.specs.Walk.{Start};
-ghost use Rattle.contents.specs.Beside.{finalBreak};
-ghost use Rattle.contents.specs.Content.{noContent, withInline, contentOf};
+ghost use Rattle.beside.specs.Beside.{finalBreak};
+ghost use Rattle.beside.specs.Content.{noContent, withInline, contentOf};
+use beside::content::Content;
 use checks::rules;
 use classes::class;
+use emptiness::empty;
 use facts::values;
+use recordkinds::kinds;
 use report::entries::Tally;
 use report::entries::list_if;
-use sheet::kinds;
 use sheet::records;
 use sheet::records::Rec;
 use sheet::records::Span;
 use strings::bytes::choose;
 use walks::trees::skip;
-
-pub struct Content {
-    // an inline stands there
-    pub some: bool,
-    // all of them are empty texts
-    pub empty: bool,
-    // the first that is no empty text starts with white space, and the last ends with it
-    pub starts: bool,
-    pub ends: bool,
-    // there is one alone, written with the container's delimiter
-    pub joined: bool,
-    // the last is a line break, and its span
-    pub breaks: bool,
-    pub last: Span,
-}
 
 fn no_content() -> Content
     ensures { λ r. ⌜ r ≡ noContent ⌝ }
@@ -60,7 +47,7 @@ fn with_inline(bytes: &[u8], outer: u32, a: u32, c: Content, r: Rec) -> Content
     if !kinds::is_inline(r.kind) {
         return c;
     }
-    let empty = values::is_empty_text(r);
+    let empty = empty::is_empty_text(r);
     let last = r.span;
     Content {
         some: true,

@@ -9,7 +9,7 @@ use lib.Dec.{leb, ltb, eqb}
 use lib.ListN.{length}
 use borrow.Author.Tests.{leb-true, leb-false, lt-ltb, le-ltb, eq-eqb, ne-eqb}
 use Rattle.strings.specs.Lists.{if_then_else_}
-use Rattle.sheet.specs.Kinds.{isBlock, list, codeBlock, blankLine, frontmatter, leafDirective, containerDirective, htmlContainer, item}
+use Rattle.recordkinds.specs.Kinds.{isBlock, list, codeBlock, blankLine, frontmatter, leafDirective, containerDirective, htmlContainer, item}
 use Rattle.sheet.specs.Forest.{Forest, none, tree, size, count}
 use Rattle.sheet.specs.declared.records.Rec.{Rec}
 use Rattle.sheet.specs.declared.records.Span.{Span}
@@ -20,7 +20,8 @@ use Rattle.classes.specs.Classes.{isBreak}
 use Rattle.depths.specs.Every.{validateOneLine}
 use Rattle.inlines.specs.Inlines.{validateInlineNodesAfter, validateInlineNodes, validateInlines}
 use Rattle.neighbours.specs.declared.taken.Before.{Before}
-use Rattle.heads.specs.Heads.{validateHeading, validateFrontmatter}
+use Rattle.heads.specs.Heads.{validateHeading}
+use Rattle.frontmatter.specs.Frontmatter.{validateFrontmatter}
 use Rattle.markers.specs.Marker.{writtenMarker}
 use Rattle.neighbours.specs.Taken.{takesIndentedCode, validateTakenBlock, first, beforeNext}
 use Rattle.lists.specs.Lists.{validateList}

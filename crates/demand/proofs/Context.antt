@@ -5,12 +5,12 @@ use mathlib.Core.List.{List, [], _∷_, _++_, append-assoc, append-nil}
 use Prim.Native.Nat.{ℕ, _+_}
 use native.Mathlib.Omega.{arith}
 use lib.ListN.{length}
-use Rattle.sheet.specs.Kinds.{isBlock, isInline}
+use Rattle.recordkinds.specs.Kinds.{isBlock, isInline}
 use Rattle.sheet.specs.Forest.{Forest, none, tree, count}
 use Rattle.sheet.specs.declared.records.Rec.{Rec}
 use Rattle.groups.specs.Groups.{holdsInlines}
-use Rattle.facts.specs.Values.{isEmptyText}
-use Rattle.contents.specs.Beside.{allEmpty}
+use Rattle.emptiness.specs.Empty.{isEmptyText}
+use Rattle.beside.specs.Beside.{allEmpty}
 use Rattle.machine.specs.Machine.{Frame, inPath, pathOf, blockPath, siblings, position, nearest, onlyEmpty}
 use Rattle.demand.specs.Demand.{Begins}
 use Rattle.demand.proofs.Flat.{pile, filled}

@@ -7,7 +7,7 @@ use Prim.Native.Nat.{ℕ}
 use native.Mathlib.Omega.{arith}
 use lib.Dec.{eqb}
 use borrow.Author.Tests.{eqb-true, eqb-false}
-use Rattle.sheet.specs.Kinds.{among}
+use Rattle.recordkinds.specs.Kinds.{among}
 use Rattle.sheet.specs.Forest.{forestOf}
 use Rattle.report.specs.Report.{Entry}
 use Rattle.recordtests.specs.Formed.{Sound}

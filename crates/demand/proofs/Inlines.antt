@@ -8,7 +8,7 @@ use native.Mathlib.Omega.{arith}
 use lib.Dec.{eqb}
 use Rattle.strings.specs.Lists.{if_then_else_}
 use Rattle.multiline.specs.Lines.{holdsLineEnding}
-use Rattle.sheet.specs.Kinds.{among, isInline, cell, leafDirective, containerDirective}
+use Rattle.recordkinds.specs.Kinds.{among, isInline, cell, leafDirective, containerDirective}
 use Rattle.sheet.specs.Forest.{Forest, none, tree, size}
 use Rattle.sheet.specs.declared.records.Rec.{Rec}
 use Rattle.texts.specs.Texts.{textOf}
@@ -19,7 +19,7 @@ use Rattle.checks.specs.Single.{validateSiblings}
 use Rattle.literals.specs.Literals.{validateText, validateCodeInline}
 use Rattle.depths.specs.Every.{eachRecord, validateOneLine}
 use Rattle.linktext.specs.LinkText.{validateLinkText}
-use Rattle.contents.specs.Beside.{allEmpty}
+use Rattle.beside.specs.Beside.{allEmpty}
 use Rattle.inlinevalues.specs.InlineValues.{validateInlineValues}
 use Rattle.oneinline.specs.Inline.{validateEmphasisContainer, validateInline}
 use Rattle.inlines.specs.Inlines.{validateNode, validateInlineNodesAfter}

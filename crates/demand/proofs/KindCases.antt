@@ -9,7 +9,7 @@ use lib.Dec.{leb, eqb}
 use borrow.Author.Tests.{eqb-true, leb-true, leb-false, lt-leb}
 use Rattle.strings.specs.Lists.{if_then_else_}
 use Rattle.strings.proofs.Tests.{allBelow, each, and-right}
-use Rattle.sheet.specs.Kinds.{isBlock, isInline, isKind, htmlTag, attribute, blankLine, list}
+use Rattle.recordkinds.specs.Kinds.{isBlock, isInline, isKind, htmlTag, attribute, blankLine, list}
 use Rattle.machine.specs.Machine.{inPath}
 use Rattle.classes.specs.Classes.{isBreak, isLink}
 

@@ -5,7 +5,7 @@ use mathlib.Core.List.{List, [], _∷_, _++_}
 use Prim.Native.Nat.{ℕ, suc}
 use lib.Dec.{eqb}
 use Rattle.strings.specs.Lists.{if_then_else_}
-use Rattle.sheet.specs.Kinds.{isInline, lineBreak, blankLine}
+use Rattle.recordkinds.specs.Kinds.{isInline, lineBreak, blankLine}
 use Rattle.sheet.specs.Forest.{Forest, none, tree, count}
 use Rattle.sheet.specs.declared.records.Rec.{Rec}
 use Rattle.sheet.specs.declared.records.Span.{Span}
@@ -15,7 +15,7 @@ use Rattle.checks.specs.Single.{validateDestination, validateIdentifier, valida
 use Rattle.literals.specs.Literals.{validateMathInline}
 use Rattle.attributes.specs.Attributes.{validateDirectiveAttributes}
 use Rattle.depths.specs.Every.{eachRecord, validateCellValues}
-use Rattle.contents.specs.Beside.{finalBreakAfter, finalBreak}
+use Rattle.beside.specs.Beside.{finalBreakAfter, finalBreak}
 use Rattle.oneinline.specs.Inline.{validateTextDirective}
 use Rattle.heads.specs.Heads.{validateAlert, validateCodeBlock, validateDefinition}
 use Rattle.footnotes.specs.Footnotes.{blankLineAt, validateFootnoteDefinition}

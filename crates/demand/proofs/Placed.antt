@@ -11,7 +11,7 @@ use lib.ListN.{getD}
 use borrow.Author.Tests.{eqb-true, leb-true, le-leb, ltb-true}
 use Rattle.strings.specs.Lists.{if_then_else_}
 use Rattle.strings.proofs.Tests.{allBelow, each, and-left, and-right}
-use Rattle.sheet.specs.Kinds.{among, isKind, paragraph, heading, blockQuote, alert, list, htmlContainer, footnoteDefinition, table, leafDirective, containerDirective, item, row, cell, emphasis, strong, delete, mark, link, image, linkReference, imageReference, inlineFootnote, textDirective}
+use Rattle.recordkinds.specs.Kinds.{among, isKind, paragraph, heading, blockQuote, alert, list, htmlContainer, footnoteDefinition, table, leafDirective, containerDirective, item, row, cell, emphasis, strong, delete, mark, link, image, linkReference, imageReference, inlineFootnote, textDirective}
 use Rattle.sheet.specs.Forest.{Forest, none, tree}
 use Rattle.sheet.specs.declared.records.Rec.{Rec}
 use Rattle.groups.specs.Groups.{holdsBlocks, holdsItems, holdsRows, holdsCells, holdsInlines, holdsLabel, holdsLabelAndBlocks, holdsTagsAndBlocks, holdsTagsAndInlines, holdsNothing, otherGroup, parentGroup, childGroup}

@@ -7,7 +7,7 @@ use native.Mathlib.Omega.{arith}
 use lib.Dec.{leb, ltb, eqb}
 use lib.ListN.{length}
 use borrow.Author.Tests.{eqb-true, eqb-false, leb-true, leb-false, ltb-true, ltb-false, eq-eqb, ne-eqb}
-use Rattle.sheet.specs.Kinds.{table, row, cell}
+use Rattle.recordkinds.specs.Kinds.{table, row, cell}
 use Rattle.sheet.specs.Forest.{Forest, none, tree, size, count}
 use Rattle.sheet.specs.declared.records.Rec.{Rec}
 use Rattle.sheet.specs.declared.records.Span.{Span}

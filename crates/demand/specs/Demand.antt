@@ -6,7 +6,7 @@ use mathlib.Core.Bool.{Bool, true, false, _&&_, _||_}
 use mathlib.Core.List.{List, [], _∷_, _++_}
 use lib.Dec.{eqb, ltb}
 use Rattle.strings.specs.Lists.{if_then_else_}
-use Rattle.sheet.specs.Kinds.{among}
+use Rattle.recordkinds.specs.Kinds.{among}
 use Rattle.sheet.specs.Sheet.{recordsOf}
 use Rattle.report.specs.Report.{Entry}
 use Rattle.blocks.specs.Blocks.{validateDocument}

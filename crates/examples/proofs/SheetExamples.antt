@@ -3,9 +3,9 @@ use mathlib.Core.Path.{_≡_, refl}
 use mathlib.Core.List.{List, [], _∷_, _++_}
 use Prim.Native.Nat.{ℕ, zero, suc, _+_, _*_}
 use lib.ListN.{length, take}
-use Rattle.strings.specs.Part.{partOf}
+use Rattle.parts.specs.Part.{partOf}
 use Rattle.unicode.specs.Utf8.{isUtf8, wellFormed, follow}
-use Rattle.sheet.specs.Kinds.{paragraph, heading, thematicBreak, blockQuote, alert, list, codeBlock, htmlBlock, htmlContainer, definition, footnoteDefinition, table, mathBlock, frontmatter, leafDirective, containerDirective, blankLine, item, row, cell, htmlTag, attribute, text, escape, characterReference, emphasis, strong, delete, mark, shortcode, code, link, autolink, image, linkReference, imageReference, html, softBreak, lineBreak, math, footnoteReference, inlineFootnote, wikiLink, textDirective, tag}
+use Rattle.recordkinds.specs.Kinds.{paragraph, heading, thematicBreak, blockQuote, alert, list, codeBlock, htmlBlock, htmlContainer, definition, footnoteDefinition, table, mathBlock, frontmatter, leafDirective, containerDirective, blankLine, item, row, cell, htmlTag, attribute, text, escape, characterReference, emphasis, strong, delete, mark, shortcode, code, link, autolink, image, linkReference, imageReference, html, softBreak, lineBreak, math, footnoteReference, inlineFootnote, wikiLink, textDirective, tag}
 use Rattle.sheet.specs.Sheet.{recordAt}
 use Rattle.sheet.specs.Siblings.{gather}
 use Rattle.sheet.specs.Forest.{deeper, past, grow, forestAt, countKind}

@@ -10,15 +10,16 @@ use lib.Dec.{eqb}
 use lib.ListN.{length}
 use Rattle.strings.specs.Lists.{firstOr, lastOr}
 use Rattle.names.specs.Names.{isAttributeName}
-use Rattle.strings.specs.Part.{partOf}
+use Rattle.parts.specs.Part.{partOf}
 use Rattle.leaves.specs.Pipe.{hasOddEscapedPipe, oddPipeAfter}
 use Rattle.scalars.specs.Scalars.{scalars, decode}
 use Rattle.scalars.specs.White.{isWhite, startsWithWhite, endsWithWhite}
 use Rattle.texts.specs.Texts.{textOf}
-use Rattle.sheet.specs.Kinds.{attribute, text, wikiLink}
+use Rattle.recordkinds.specs.Kinds.{attribute, text, wikiLink}
 use Rattle.sheet.specs.declared.records.Rec.{Rec}
 use Rattle.sheet.specs.declared.records.Text.{Text}
-use Rattle.facts.specs.Values.{onlyIf, startsWhite, endsWhite, isUnwritable, isBadAttribute}
+use Rattle.emptiness.specs.Empty.{onlyIf}
+use Rattle.facts.specs.Values.{startsWhite, endsWhite, isUnwritable, isBadAttribute}
 use Rattle.classes.specs.Classes.{isPlainBreak, isBreak, namesOwnValue, namesLabel}
 
 -- the text 0, 0 has no bytes

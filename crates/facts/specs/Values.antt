@@ -7,19 +7,11 @@ use Rattle.strings.specs.Lists.{if_then_else_}
 use Rattle.names.specs.Names.{isAttributeName}
 use Rattle.leaves.specs.Pipe.{hasOddEscapedPipe}
 use Rattle.scalars.specs.White.{startsWithWhite, endsWithWhite}
-use Rattle.sheet.specs.Kinds.{attribute, text, wikiLink}
+use Rattle.recordkinds.specs.Kinds.{attribute, text, wikiLink}
 use Rattle.classes.specs.Classes.{isBreak, isPlainBreak, namesOwnValue, namesLabel}
 use Rattle.texts.specs.Texts.{textOf}
 use Rattle.sheet.specs.declared.records.Rec.{Rec}
 use Rattle.sheet.specs.declared.records.Text.{Text}
-
--- `is_empty()` of a Rust string: no byte
-abbrev pub isEmpty : Text → Bool
-isEmpty t = eqb (t .len) 0
-
--- `is_empty_text`
-abbrev pub isEmptyText : Rec → Bool
-isEmptyText r = eqb (r .kind) text && isEmpty (r .first)
 
 -- the match of `starts_with_whitespace` on the first inline that is no empty text
 unfoldable pub startsWhite : List ℕ → Rec → Bool
@@ -38,7 +30,3 @@ isUnwritable bytes r =
 -- the test of `validate_directive_attributes`: an attribute whose name is none
 unfoldable pub isBadAttribute : List ℕ → Rec → Bool
 isBadAttribute bytes r = eqb (r .kind) attribute && not (isAttributeName (textOf bytes (r .first)))
-
--- what the code reads in place of a text that does not count; no promise to a caller cites it
-abbrev pub onlyIf : Bool → Text → Text
-onlyIf counts t = if counts then t else record { start = 0; len = 0 }

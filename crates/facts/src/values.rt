@@ -1,47 +1,17 @@
 // What the walks ask of one record: its own values.
 ghost use mathlib.Core.Path.{_≡_};
-ghost use Rattle.facts.specs.Values.{
-  isEmpty,
-  isEmptyText,
-  startsWhite,
-  endsWhite,
-  isUnwritable,
-  isBadAttribute,
-  onlyIf,
-};
+ghost use Rattle.facts.specs.Values.{startsWhite, endsWhite, isUnwritable, isBadAttribute};
 use classes::class::is_break;
 use classes::class::is_plain_break;
 use classes::class::names_label;
 use classes::class::names_own_value;
+use emptiness::empty::only_if;
 use leaves::pipe::has_odd_escaped_pipe;
 use names::name::is_attribute_name;
+use recordkinds::kinds;
 use scalars::white;
-use sheet::kinds;
 use sheet::records::Rec;
-use sheet::records::Text;
 use texts::text::text_of;
-
-pub fn is_empty(t: Text) -> bool
-    ensures { λ r. ⌜ r ≡ isEmpty t ⌝ }
-{
-    t.len == 0
-}
-
-pub fn is_empty_text(r: Rec) -> bool
-    ensures { λ q. ⌜ q ≡ isEmptyText r ⌝ }
-{
-    (r.kind == kinds::TEXT) & is_empty(r.first)
-}
-
-// The text where it counts, else one of no bytes, which is quickly read.
-fn only_if(counts: bool, t: Text) -> Text
-    ensures { λ r. ⌜ r ≡ onlyIf counts t ⌝ }
-{
-    if counts {
-        return t;
-    }
-    Text { start: 0, len: 0 }
-}
 
 // Whether an inline starts with white space.
 pub fn starts_white(bytes: &[u8], r: Rec) -> bool

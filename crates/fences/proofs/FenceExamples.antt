@@ -3,7 +3,7 @@ use mathlib.Core.Path.{_≡_, refl}
 use mathlib.Core.Bool.{true, false}
 use mathlib.Core.List.{[], _∷_}
 use Rattle.strings.specs.Lists.{any}
-use Rattle.strings.specs.Same.{sameBytes}
+use Rattle.parts.specs.Same.{sameBytes}
 use Rattle.multiline.specs.Lines.{lines, longer, isCrOfCrlf, startsWith}
 use Rattle.multiline.specs.Trim.{trimEnd, trimCons}
 use Rattle.fences.specs.Fence.{isFence, holdsFenceLine}

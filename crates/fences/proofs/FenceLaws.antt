@@ -11,7 +11,7 @@ use Rattle.strings.specs.Bytes.{isBlankByte, isLineEndingByte}
 use Rattle.strings.specs.Lists.{if_then_else_, any}
 use Rattle.multiline.specs.Lines.{longer, isCrOfCrlf, lines}
 use Rattle.fences.specs.Fence.{fenceByte, isFence, holdsFenceLine}
-use Rattle.strings.specs.Same.{sameBytes}
+use Rattle.parts.specs.Same.{sameBytes}
 use Rattle.fences.specs.Scans.{fenceLeft, fenceFrom}
 use Rattle.multiline.specs.Trim.{trimCons, trimEnd}
 use Rattle.fences.specs.declared.fence.FrontmatterKind.{FrontmatterKind}

@@ -5,7 +5,7 @@ use mathlib.Core.List.{List, [], _∷_}
 use Rattle.strings.specs.Bytes.{hyphen, plus}
 use Rattle.strings.specs.Lists.{any}
 use Rattle.multiline.specs.Lines.{lines}
-use Rattle.strings.specs.Same.{sameBytes}
+use Rattle.parts.specs.Same.{sameBytes}
 use Rattle.multiline.specs.Trim.{trimEnd}
 use Rattle.fences.specs.declared.fence.FrontmatterKind.{FrontmatterKind}
 use Rattle.fences.specs.declared.fence.FrontmatterKind.the-variants.{Yaml, Toml}

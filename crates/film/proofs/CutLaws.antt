@@ -11,7 +11,8 @@ use Rattle.sheet.specs.Sheet.{recordWords}
 use Rattle.strings.proofs.Tests.{or-left, or-right}
 use Rattle.columns.specs.Line.{lineBytes, isLine, numbers}
 use Rattle.columns.proofs.LineLaws.{drop-take, numbers-take, line-take}
-use Rattle.film.specs.Film.{countFields, recordCount, byteCount, areRecords, behindCounts, textBehind, mostRecords, mostBytes, mostInput, isBig, filmNumber, filmOf}
+use Rattle.film.specs.Film.{countFields, recordCount, byteCount, areRecords, behindCounts, textBehind, mostRecords, mostBytes, mostInput, isBig, filmOf}
+use Rattle.filmanswers.specs.FilmAnswer.{filmNumber}
 
 records-take : (n m : ℕ) (s : List ℕ) → n * lineBytes recordWords ≤ m → areRecords n (take m s) ≡ areRecords n s
 unfolding areRecords

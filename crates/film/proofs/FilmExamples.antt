@@ -5,7 +5,7 @@ use Prim.Native.Nat.{ℕ}
 use Rattle.digits.specs.Field.{front, field, pastSpaces, readDigits, readNumber, readField}
 use Rattle.columns.specs.Line.{fields, line, areFields, isLine, numbers}
 use Rattle.film.specs.Film.{mostInput, areRecords, sheetOf, filmSheet, textBehind, filmOf}
-use Rattle.film.specs.declared.films.Film.the-variants.{BadColumn, BigFilm, Ready}
+use Rattle.filmanswers.specs.declared.answer.Film.the-variants.{BadColumn, BigFilm, Ready}
 
 -- document 01's heading of depth 0: "`2 1` and ten zeros"
 abbrev heading : List ℕ

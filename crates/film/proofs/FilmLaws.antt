@@ -10,8 +10,9 @@ use borrow.Author.Tests.{eq-eqb, ne-eqb, lt-ltb, le-ltb, ltb-false, not-true, no
 use Rattle.sheet.specs.Sheet.{recordWords}
 use Rattle.columns.specs.Line.{lineBytes, isLine, numbers}
 use Rattle.columns.proofs.LineLaws.{numbers-long}
-use Rattle.film.specs.Film.{countFields, recordCount, byteCount, areRecords, sheetOf, behindCounts, filmSheet, textBehind, mostRecords, mostBytes, filmText, filmNumber, filmOf, filledSheet, Reads}
-use Rattle.film.specs.declared.films.Film.the-variants.{BadColumn, BigFilm, Ready}
+use Rattle.film.specs.Film.{countFields, recordCount, byteCount, areRecords, sheetOf, behindCounts, filmSheet, textBehind, mostRecords, mostBytes, filmText, filmOf, filledSheet, Reads}
+use Rattle.filmanswers.specs.FilmAnswer.{filmNumber}
+use Rattle.filmanswers.specs.declared.answer.Film.the-variants.{BadColumn, BigFilm, Ready}
 
 -- ---- `read_film`
 module _ (s old : List ℕ) {good : Bool} {counts : List ℕ} (first : (good ≡ isLine countFields s) × (counts ≡ numbers countFields s)) where

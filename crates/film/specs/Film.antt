@@ -11,8 +11,8 @@ use Rattle.sheet.specs.Sheet.{recordWords}
 use Rattle.columns.specs.Line.{lineBytes, isLine, numbers}
 unfoldable pub use Rattle.recordlines.specs.Records.{areRecords, sheetOf}
 pub use Rattle.recordlines.specs.Records.{mostRecords}
-use Rattle.film.specs.declared.films.Film.{Film}
-use Rattle.film.specs.declared.films.Film.the-variants.{BadColumn, BigFilm, Ready}
+use Rattle.filmanswers.specs.declared.answer.Film.{Film}
+use Rattle.filmanswers.specs.declared.answer.Film.the-variants.{BadColumn, BigFilm, Ready}
 
 -- ---- the first line: "counts of records and text bytes"
 
@@ -66,18 +66,6 @@ filmOf s =
     else if not (eqb (length (filmText s)) (byteCount s))
     then BadColumn
     else Ready (recordCount s)
-
--- document 01's number of the answer: 13 "bad column", 14 "big film", 0 where the film is ready
-abbrev pub filmNumber : Film → ℕ
-filmNumber BadColumn = 13
-filmNumber BigFilm = 14
-filmNumber (Ready n) = 0
-
--- how many records a film that is ready has
-abbrev pub filmRecords : Film → ℕ
-filmRecords BadColumn = 0
-filmRecords BigFilm = 0
-filmRecords (Ready n) = n
 
 -- ---- the words that the sheet is read into: those of the records where the counts are good, and behind them the old ones
 unfoldable pub filledSheet : List ℕ → List ℕ → List ℕ

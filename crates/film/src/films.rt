@@ -1,9 +1,10 @@
 // A film: its sheet and its text, or why it is refused.
 ghost use mathlib.Core.Path.{_≡_};
 ghost use Prim.Native.Nat.{_≤_};
-ghost use Rattle.film.specs.Film.{mostRecords, textBehind, filmNumber, filmRecords, Reads};
+ghost use Rattle.film.specs.Film.{mostRecords, textBehind, Reads};
 use columns::lines::read_line;
 use digits::fields::PLACES;
+use filmanswers::answer::Film;
 use recordlines::records::RECORD_BYTES;
 use recordlines::records::behind;
 use recordlines::records::read_records;
@@ -18,35 +19,6 @@ const MOST_BYTES: usize = 16384;
 
 // The words of the largest sheet.
 pub const SHEET_WORDS: usize = 6144;
-
-// A film is refused, or how many records it has.
-pub enum Film {
-    BadColumn,
-    BigFilm,
-    Ready(usize),
-}
-
-// Document 01's number of a refused film; 0 where it is ready.
-pub fn film_number(f: Film) -> u32
-    ensures { λ r. ⌜ r ≡ filmNumber f ⌝ }
-{
-    match f {
-        Film::BadColumn => 13,
-        Film::BigFilm => 14,
-        Film::Ready(_) => 0,
-    }
-}
-
-// How many records a film that is ready has.
-pub fn film_records(f: Film) -> usize
-    ensures { λ r. ⌜ r ≡ filmRecords f ⌝ }
-{
-    match f {
-        Film::BadColumn => 0,
-        Film::BigFilm => 0,
-        Film::Ready(n) => n,
-    }
-}
 
 // The text of a film of `n` records: all that stands behind them.
 pub fn text_behind(s: &[u8], n: usize) -> &[u8]

@@ -7,7 +7,7 @@ use native.Mathlib.Omega.{arith}
 use native.Mathlib.Numerals.{add-one}
 use lib.Dec.{eqb}
 use lib.ListN.{take, set}
-use Rattle.sheet.specs.Kinds.{blankLine}
+use Rattle.recordkinds.specs.Kinds.{blankLine}
 use Rattle.sheet.specs.Sheet.{recordAt}
 use Rattle.sheet.specs.Forest.{Forest, none, under, size, count}
 use Rattle.report.specs.Report.{Entry, Lists, listIf, _⊕_}
@@ -20,7 +20,7 @@ use Rattle.report.proofs.ReportLaws.{none-join, lists-none, lists-then}
 use Rattle.walks.proofs.WalkLaws.{behindKids, skip-tree}
 use Rattle.walks.proofs.PathLaws.{Paced, paced-own, paced-turn}
 use Rattle.checks.specs.Rules
-use Rattle.facts.specs.Values.{isEmpty}
+use Rattle.emptiness.specs.Empty.{isEmpty}
 use Rattle.footnotes.specs.Footnotes.{blankLineAt, validateFootnoteDefinition}
 
 pub blank-none : (path : List ℕ) (k : ℕ) → blankLineAt path k none ≡ []

@@ -6,7 +6,7 @@ use native.Mathlib.Omega.{arith}
 use lib.Dec.{eqb, ltb}
 use borrow.Author.Tests.{eqb-true, le-ltb}
 use Rattle.strings.specs.Bytes.{between}
-use Rattle.sheet.specs.Kinds.{escape}
+use Rattle.recordkinds.specs.Kinds.{escape}
 use Rattle.sheet.specs.declared.records.Rec.{Rec}
 use Rattle.sheet.specs.declared.records.Text.{Text}
 use Rattle.strings.proofs.Tests.{and-left, and-right}

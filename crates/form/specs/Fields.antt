@@ -5,7 +5,7 @@ use mathlib.Core.List.{[], _∷_}
 use lib.Dec.{eqb, ltb}
 use Rattle.strings.specs.Bytes.{between}
 use Rattle.strings.specs.Lists.{if_then_else_}
-use Rattle.sheet.specs.Kinds.{among, heading, alert, list, codeBlock, htmlContainer, definition, footnoteDefinition, table, frontmatter, leafDirective, containerDirective, item, htmlTag, attribute, text, escape, emphasis, strong, code, link, autolink, image, linkReference, imageReference, html, lineBreak, math, footnoteReference, wikiLink, textDirective, tag}
+use Rattle.recordkinds.specs.Kinds.{among, heading, alert, list, codeBlock, htmlContainer, definition, footnoteDefinition, table, frontmatter, leafDirective, containerDirective, item, htmlTag, attribute, text, escape, emphasis, strong, code, link, autolink, image, linkReference, imageReference, html, lineBreak, math, footnoteReference, wikiLink, textDirective, tag}
 use Rattle.sheet.specs.declared.records.Rec.{Rec}
 use Rattle.sheet.specs.declared.records.Span.{Span}
 use Rattle.sheet.specs.declared.records.Text.{Text}

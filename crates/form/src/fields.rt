@@ -3,7 +3,7 @@ ghost use mathlib.Core.Path.{_≡_};
 ghost use mathlib.Core.Bool.{_&&_};
 ghost use mathlib.Core.List.{[], _∷_};
 ghost use lib.Dec.{eqb};
-ghost use Rattle.sheet.specs.Kinds.{
+ghost use Rattle.recordkinds.specs.Kinds.{
   among,
   codeBlock,
   definition,
@@ -28,8 +28,8 @@ ghost use Rattle.sheet.specs.Kinds.{
   tag,
 };
 ghost use Rattle.form.specs.Fields.{mostA, mostB, mostC, hasFirst, hasSecond, badText, badSpan, isSurrogate, badNumber, badField};
-use sheet::kinds;
-use sheet::kinds::pick;
+use recordkinds::kinds;
+use recordkinds::kinds::pick;
 use sheet::records::Rec;
 use sheet::records::Span;
 use sheet::records::Text;

@@ -9,7 +9,7 @@ use lib.Dec.{eqb, ltb}
 use lib.ListN.{length}
 use borrow.Author.Tests.{eq-eqb, ltb-true, ltb-false}
 use Rattle.strings.specs.Lists.{if_then_else_}
-use Rattle.sheet.specs.Kinds.{list, blankLine, item}
+use Rattle.recordkinds.specs.Kinds.{list, blankLine, item}
 use Rattle.sheet.specs.declared.records.Rec.{Rec}
 use Rattle.form.specs.Fields.{mostA, mostB, mostC, isSurrogate, badNumber, badField}
 use Rattle.strings.proofs.Tests.{and-left, and-right}

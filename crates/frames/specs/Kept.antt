@@ -5,10 +5,10 @@ use mathlib.Core.List.{List, [], _∷_}
 use lib.Dec.{eqb}
 use lib.ListN.{length}
 use Rattle.strings.specs.Lists.{if_then_else_}
-use Rattle.sheet.specs.Kinds.{among, isInline, list, table, blankLine, link, linkReference}
+use Rattle.recordkinds.specs.Kinds.{among, isInline, list, table, blankLine, link, linkReference}
 use Rattle.sheet.specs.declared.records.Rec.{Rec}
 use Rattle.classes.specs.Classes.{isBreak}
-use Rattle.facts.specs.Values.{isEmptyText}
+use Rattle.emptiness.specs.Empty.{isEmptyText}
 use Rattle.markers.specs.Marker.{writtenMarker}
 use Rattle.machine.specs.Machine.{Frame, Seen, columns, nearest, inLink, behindBreak, onlyEmpty, itemMark, lastMark}
 use Rattle.frames.specs.declared.kept.Kept.{Kept}

@@ -6,9 +6,9 @@ ghost use Rattle.frames.specs.Kept.{keptOf, openedIn, joinedBy, nextMark
 ghost use Rattle.machine.specs.Machine.{itemMark};
 ghost use mathlib.Core.List.{[]};
 use classes::class;
-use facts::values;
+use emptiness::empty;
 use markers::marker::written_marker;
-use sheet::kinds;
+use recordkinds::kinds;
 use sheet::records::Rec;
 
 // What the stops and marks ask of an open record: of itself and what is open around it, and of its children that have closed.
@@ -101,7 +101,7 @@ pub fn joined(k: Kept, r: Rec) -> Kept
         kids: k.kids + 1,
         broke: class::is_break(r.kind),
         marker: next_marker(r, k.marker),
-        empty: values::is_empty_text(r) & k.empty,
+        empty: empty::is_empty_text(r) & k.empty,
         number: item_mark(r, k.number),
     }
 }

@@ -11,7 +11,7 @@ use borrow.Author.Tests.{eqb-true, ltb-true, ltb-false, lt-leb}
 use Rattle.strings.specs.Bytes.{between}
 use Rattle.strings.specs.Lists.{if_then_else_}
 use Rattle.strings.proofs.Tests.{allBelow, each, and-left, and-right}
-use Rattle.sheet.specs.Kinds.{isKind, htmlContainer}
+use Rattle.recordkinds.specs.Kinds.{isKind, htmlContainer}
 use Rattle.groups.specs.KindGroups.{kindGroups}
 use Rattle.groups.specs.Groups.{otherGroup, parentGroup, childGroup, holdsTagsAndInlines}
 

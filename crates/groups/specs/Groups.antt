@@ -3,7 +3,7 @@ use Prim.Native.Nat.{ℕ}
 use mathlib.Core.List.{[], _∷_}
 use lib.Dec.{eqb}
 use Rattle.strings.specs.Lists.{if_then_else_}
-use Rattle.sheet.specs.Kinds.{among, isBlock, paragraph, heading, blockQuote, alert, list, htmlContainer, footnoteDefinition, table, leafDirective, containerDirective, item, row, cell, htmlTag, attribute, emphasis, strong, delete, mark, link, image, linkReference, imageReference, inlineFootnote, textDirective}
+use Rattle.recordkinds.specs.Kinds.{among, isBlock, paragraph, heading, blockQuote, alert, list, htmlContainer, footnoteDefinition, table, leafDirective, containerDirective, item, row, cell, htmlTag, attribute, emphasis, strong, delete, mark, link, image, linkReference, imageReference, inlineFootnote, textDirective}
 
 -- ---- groups of parents: what a record may hold
 abbrev pub holdsBlocks : ℕ

@@ -1,11 +1,11 @@
 // The groups of kinds: as parents, and as children.
 ghost use mathlib.Core.Path.{_≡_};
 ghost use mathlib.Core.Bool.{true};
-ghost use Rattle.sheet.specs.Kinds.{isKind};
+ghost use Rattle.recordkinds.specs.Kinds.{isKind};
 ghost use Rattle.groups.specs.Groups.{parentGroup, childGroup};
 ghost use Rattle.groups.specs.KindGroups.{kindGroups};
-use sheet::kinds;
-use sheet::kinds::pick;
+use recordkinds::kinds;
+use recordkinds::kinds::pick;
 
 pub const HOLDS_TAGS_AND_BLOCKS: u32 = 7;
 

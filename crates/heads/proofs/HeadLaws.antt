@@ -4,11 +4,9 @@ use mathlib.Core.Bool.{Bool, not, _&&_, _||_}
 use mathlib.Core.List.{List}
 use Prim.Native.Nat.{ℕ}
 use lib.Dec.{eqb, ltb}
-use Rattle.fences.specs.Fence.{holdsFenceLine}
 use Rattle.multiline.specs.Lines.{hasBlankEdgeLine}
 use Rattle.names.specs.Names.{isBlankIdentifier}
 use Rattle.leaves.specs.Title.{isAlertTitle}
-use Rattle.fences.specs.declared.fence.FrontmatterKind.{FrontmatterKind}
 use Rattle.texts.specs.Texts.{textOf}
 use Rattle.report.specs.Report.{Lists, listIf}
 use Rattle.sheet.specs.declared.records.Span.{Span}
@@ -17,8 +15,8 @@ use Rattle.report.specs.declared.entries.Tally.{Tally}
 use Rattle.report.proofs.ReportLaws.{lists-then}
 use Rattle.checks.specs.Rules
 use Rattle.checks.specs.Single.{validateDestination}
-use Rattle.facts.specs.Values.{isEmpty}
-use Rattle.heads.specs.Heads.{frontmatterKind, validateAlert, validateCodeBlock, validateDefinition, validateFrontmatter, validateHeading}
+use Rattle.emptiness.specs.Empty.{isEmpty}
+use Rattle.heads.specs.Heads.{validateAlert, validateCodeBlock, validateDefinition, validateHeading}
 
 module _ (path : List ℕ) (span : Span) {s t : Tally} {x y : List ℕ} where
   pub heading-law : (depth : ℕ) → Lists s t x y (listIf (eqb depth 0 || ltb 6 depth) Rules.headingDepth span path) → Lists s t x y (validateHeading path span depth)
@@ -33,10 +31,6 @@ module _ (path : List ℕ) (span : Span) {s t : Tally} {x y : List ℕ} where
     pub code-block-law : (bytes : List ℕ) (a b : ℕ) (value info : Text) {n : List ℕ} {p q : Bool} → n ≡ textOf bytes value → p ≡ isEmpty info → q ≡ hasBlankEdgeLine n → Lists s t x y (listIf (eqb b 1 && p) Rules.emptyInfo span path) → Lists t u y z (listIf (eqb a 1 && q) Rules.blankEdgeInCode span path) → Lists s u x z (validateCodeBlock bytes path span a b value info)
     unfolding validateCodeBlock
     code-block-law bytes a b value info f e g l m = lists-then (rw e at l) (rw (g, f) at m)
-
-    pub frontmatter-law : (bytes : List ℕ) (level a : ℕ) (value : Text) {n : List ℕ} {k : FrontmatterKind} {q : Bool} → n ≡ textOf bytes value → k ≡ frontmatterKind a → q ≡ holdsFenceLine k n → Lists s t x y (listIf (ltb 1 level) Rules.frontmatterInside span path) → Lists t u y z (listIf q Rules.fenceInFrontmatter span path) → Lists s u x z (validateFrontmatter bytes path span level a value)
-    unfolding validateFrontmatter
-    frontmatter-law bytes level a value f e g l m = lists-then l (rw (g, f, e) at m)
 
     pub definition-law : (bytes : List ℕ) (a : ℕ) (identifier destination : Text) {n : List ℕ} {p : Bool} → n ≡ textOf bytes identifier → p ≡ isBlankIdentifier n → Lists s t x y (listIf p Rules.blankDefinition span path) → Lists t u y z (validateDestination path span a destination) → Lists s u x z (validateDefinition bytes path span a identifier destination)
     unfolding validateDefinition

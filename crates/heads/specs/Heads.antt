@@ -3,20 +3,16 @@ use Prim.Native.Nat.{ℕ}
 use mathlib.Core.Bool.{not, _&&_, _||_}
 use mathlib.Core.List.{List}
 use lib.Dec.{eqb, ltb}
-use Rattle.strings.specs.Lists.{if_then_else_}
-use Rattle.fences.specs.Fence.{holdsFenceLine}
 use Rattle.multiline.specs.Lines.{hasBlankEdgeLine}
 use Rattle.names.specs.Names.{isBlankIdentifier}
 use Rattle.leaves.specs.Title.{isAlertTitle}
-use Rattle.fences.specs.declared.fence.FrontmatterKind.{FrontmatterKind}
-use Rattle.fences.specs.declared.fence.FrontmatterKind.the-variants.{Yaml, Toml}
 use Rattle.texts.specs.Texts.{textOf}
 use Rattle.report.specs.Report.{Entry, listIf, _⊕_}
 use Rattle.sheet.specs.declared.records.Span.{Span}
 use Rattle.sheet.specs.declared.records.Text.{Text}
 use Rattle.checks.specs.Rules
 use Rattle.checks.specs.Single.{validateDestination}
-use Rattle.facts.specs.Values.{isEmpty}
+use Rattle.emptiness.specs.Empty.{isEmpty}
 
 -- `validate_heading`: 10
 unfoldable pub validateHeading : List ℕ → Span → ℕ → List Entry
@@ -30,15 +26,6 @@ validateAlert bytes path span a title = listIf (eqb a 1 && not (isAlertTitle (te
 unfoldable pub validateCodeBlock : List ℕ → List ℕ → Span → ℕ → ℕ → Text → Text → List Entry
 validateCodeBlock bytes path span a b value info =
     listIf (eqb b 1 && isEmpty info) Rules.emptyInfo span path ⊕ listIf (eqb a 1 && hasBlankEdgeLine (textOf bytes value)) Rules.blankEdgeInCode span path
-
--- document 01: "frontmatter 0 YAML, 1 TOML"
-unfoldable pub frontmatterKind : ℕ → FrontmatterKind
-frontmatterKind a = if eqb a 1 then Toml else Yaml
-
--- `validate_frontmatter`: 28, 29. validate.rs asks for a depth above 0, the containers around it; on an accepted sheet that is a level above 1, since what holds a block is a container. No proof says so yet.
-unfoldable pub validateFrontmatter : List ℕ → List ℕ → Span → ℕ → ℕ → Text → List Entry
-validateFrontmatter bytes path span level a value =
-    listIf (ltb 1 level) Rules.frontmatterInside span path ⊕ listIf (holdsFenceLine (frontmatterKind a) (textOf bytes value)) Rules.fenceInFrontmatter span path
 
 -- `validate_definition`: 24, 25
 unfoldable pub validateDefinition : List ℕ → List ℕ → Span → ℕ → Text → Text → List Entry

@@ -3,21 +3,12 @@ ghost use mathlib.Core.Path.{_≡_};
 ghost use Prim.Native.Nat.{_≤_};
 ghost use lib.ListN.{length};
 ghost use Rattle.report.specs.Report.{Lists};
-ghost use Rattle.heads.specs.Heads.{
-  frontmatterKind,
-  validateAlert,
-  validateCodeBlock,
-  validateDefinition,
-  validateFrontmatter,
-  validateHeading,
-};
+ghost use Rattle.heads.specs.Heads.{validateAlert, validateCodeBlock, validateDefinition, validateHeading};
 use checks::rules;
 use checks::single;
-use facts::values::is_empty;
-use fences::fence::FrontmatterKind;
-use fences::fence::holds_fence_line;
+use edges::edge::has_blank_edge_line;
+use emptiness::empty::is_empty;
 use leaves::title::is_alert_title;
-use multiline::lines::has_blank_edge_line;
 use names::name::is_blank_identifier;
 use report::entries::Tally;
 use report::entries::list_if;
@@ -76,35 +67,6 @@ pub fn validate_code_block(
     let out = list_if(empty, report, rules::EMPTY_INFO, span, path, tally);
     let blank = (a == 1) & has_blank_edge_line(text_of(bytes, value));
     list_if(blank, report, rules::BLANK_EDGE_IN_CODE, span, path, out)
-}
-
-fn frontmatter_kind(a: u32) -> FrontmatterKind
-    ensures { λ r. ⌜ r ≡ frontmatterKind a ⌝ }
-{
-    if a == 1 {
-        return FrontmatterKind::Toml;
-    }
-    FrontmatterKind::Yaml
-}
-
-// Rule 28: frontmatter stands at level 1. Rule 29: no line of it is its own fence.
-pub fn validate_frontmatter(
-    bytes: &[u8],
-    report: &mut [u32],
-    path: &[u32],
-    span: Span,
-    level: u32,
-    a: u32,
-    value: Text,
-    tally: Tally,
-) -> Tally
-    requires { ⌜ length (now path) ≤ 64 ⌝ }
-    ensures { λ r. ⌜ Lists tally r (now (report .entry)) (now (report .exit)) (validateFrontmatter (now (bytes .entry)) (now (path .entry)) span level a value) ⌝ }
-{
-    let inside = 1 < level;
-    let out = list_if(inside, report, rules::FRONTMATTER_INSIDE, span, path, tally);
-    let fenced = holds_fence_line(text_of(bytes, value), frontmatter_kind(a));
-    list_if(fenced, report, rules::FENCE_IN_FRONTMATTER, span, path, out)
 }
 
 // Rule 24, then 25.

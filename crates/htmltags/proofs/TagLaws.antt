@@ -11,7 +11,7 @@ use borrow.Author.Tests.{not-false, lt-ltb, le-ltb, ltb-true, ltb-false, eq-eqb,
 use lib.Dec.{eqb, ltb, leb}
 use lib.ListN.{getD, replicate}
 use Rattle.strings.specs.Lists.{if_then_else_}
-use Rattle.sheet.specs.Kinds.{htmlContainer, htmlTag}
+use Rattle.recordkinds.specs.Kinds.{htmlContainer, htmlTag}
 use Rattle.sheet.specs.Sheet.{recordAt}
 use Rattle.sheet.specs.Forest.{Forest, none, tree, under, size, countKind}
 use Rattle.groups.specs.Groups.{parentGroup, otherGroup, childGroup}

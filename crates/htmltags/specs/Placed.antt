@@ -1,11 +1,11 @@
--- What the code knows when it looks for tags. A reader need not believe these: the proofs equate what they say with `specs/Tags.antt`, and no promise to a caller cites them.
+-- What the code knows when it looks for tags. A reader need not believe these: `accept` gives what `judge_tags` asks for here, and its own promise does not cite it.
 use mathlib.Core.Path.{_≡_}
 use Prim.Native.Nat.{ℕ, _*_, _<_, _≤_}
 use mathlib.Core.Bool.{Bool, false, _&&_}
 use mathlib.Core.List.{List}
 use lib.Dec.{eqb, ltb}
 use lib.ListN.{length}
-use Rattle.sheet.specs.Kinds.{htmlTag}
+use Rattle.recordkinds.specs.Kinds.{htmlTag}
 use Rattle.sheet.specs.Sheet.{recordWords, recordAt}
 use Rattle.standing.specs.Places.{misplaced, openAt}
 use Rattle.verdicts.specs.Limits.{mostRecords}

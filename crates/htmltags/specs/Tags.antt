@@ -4,7 +4,7 @@ use mathlib.Core.Bool.{Bool, _&&_}
 use mathlib.Core.List.{List}
 use lib.Dec.{eqb, ltb}
 use Rattle.strings.specs.Lists.{if_then_else_}
-use Rattle.sheet.specs.Kinds.{htmlContainer, htmlTag}
+use Rattle.recordkinds.specs.Kinds.{htmlContainer, htmlTag}
 use Rattle.sheet.specs.Sheet.{recordAt}
 use Rattle.sheet.specs.Forest.{under, countKind}
 use Rattle.verdicts.specs.declared.verdict.Judged.{Judged}

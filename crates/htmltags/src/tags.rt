@@ -5,7 +5,7 @@ ghost use lib.ListN.{length};
 ghost use Rattle.sheet.specs.Sheet.{recordWords};
 ghost use Rattle.htmltags.specs.Tags.{lacksTags, tagsFrom};
 ghost use Rattle.htmltags.specs.Placed.{Containers, tagUnder};
-use sheet::kinds;
+use recordkinds::kinds;
 use sheet::records;
 use verdicts::verdict::Judged;
 

@@ -6,14 +6,14 @@ use Rattle.strings.specs.Lists.{all, any, firstOr, lastOr}
 use Rattle.multiline.specs.Lines.{holdsLineEnding, longer, startsWith}
 use Rattle.leaves.specs.Math.{holdsBacktickDollar}
 use Rattle.names.specs.Names.{isDirectiveName, isRun, runs, isAttributeName}
-use Rattle.strings.specs.Part.{partOf}
+use Rattle.parts.specs.Part.{partOf}
 use Rattle.leaves.specs.Pipe.{hasOddEscapedPipe, oddPipeAfter}
 use Rattle.scalars.specs.Scalars.{scalars, decode, emit, leadBits, trailBits}
 use Rattle.unicode.specs.Utf8.{follow, table}
 use Rattle.scalars.specs.White.{isWhite, startsWithWhite, endsWithWhite}
 use Rattle.texts.specs.Texts.{textOf}
 use Rattle.sheet.specs.Forest.{Forest, none, tree}
-use Rattle.sheet.specs.Kinds.{attribute, text, escape, emphasis, strong, delete, mark, code, link, autolink, image, linkReference, imageReference, softBreak, lineBreak, math, footnoteReference, inlineFootnote, wikiLink, textDirective}
+use Rattle.recordkinds.specs.Kinds.{attribute, text, escape, emphasis, strong, delete, mark, code, link, autolink, image, linkReference, imageReference, softBreak, lineBreak, math, footnoteReference, inlineFootnote, wikiLink, textDirective}
 use Rattle.report.specs.Report.{Entry, listIf, _⊕_}
 use Rattle.sheet.specs.declared.records.Rec.{Rec}
 use Rattle.sheet.specs.declared.records.Text.{Text}

@@ -3,12 +3,12 @@
 use Prim.Native.Nat.{ℕ}
 use mathlib.Core.List.{List, []}
 use Rattle.strings.specs.Lists.{if_then_else_}
-use Rattle.sheet.specs.Kinds.{isInline}
+use Rattle.recordkinds.specs.Kinds.{isInline}
 use Rattle.sheet.specs.Forest.{Forest, none, tree}
 use Rattle.report.specs.Report.{Entry, _⊕_}
 use Rattle.sheet.specs.declared.records.Rec.{Rec}
 use Rattle.checks.specs.Single.{validateSiblings}
-unfoldable pub use Rattle.contents.specs.Beside.{noInline, allEmpty, startsWithWhitespace, endsWithWhitespaceAfter, endsWithWhitespace, holdsJoined, finalBreakAfter, finalBreak}
+unfoldable pub use Rattle.beside.specs.Beside.{noInline, allEmpty, startsWithWhitespace, endsWithWhitespaceAfter, endsWithWhitespace, holdsJoined, finalBreakAfter, finalBreak}
 unfoldable pub use Rattle.inlinevalues.specs.InlineValues.{validateInlineValues}
 unfoldable pub use Rattle.oneinline.specs.Inline.{validateTextDirective, validateEmphasisContainer, validateInline}
 

@@ -3,7 +3,7 @@ use mathlib.Core.Path.{_≡_}
 use mathlib.Core.List.{List}
 use Prim.Native.Nat.{ℕ}
 use borrow.Author.Tests.{ne-eqb}
-use Rattle.sheet.specs.Kinds.{text, escape, code, image, imageReference, math, footnoteReference, wikiLink}
+use Rattle.recordkinds.specs.Kinds.{text, escape, code, image, imageReference, math, footnoteReference, wikiLink}
 use Rattle.report.specs.Report.{Lists}
 use Rattle.sheet.specs.declared.records.Rec.{Rec}
 use Rattle.report.specs.declared.entries.Tally.{Tally}

@@ -3,7 +3,7 @@ use Prim.Native.Nat.{ℕ}
 use mathlib.Core.List.{List, []}
 use lib.Dec.{eqb}
 use Rattle.strings.specs.Lists.{if_then_else_}
-use Rattle.sheet.specs.Kinds.{text, escape, code, image, imageReference, math, footnoteReference, wikiLink}
+use Rattle.recordkinds.specs.Kinds.{text, escape, code, image, imageReference, math, footnoteReference, wikiLink}
 use Rattle.report.specs.Report.{Entry}
 use Rattle.sheet.specs.declared.records.Rec.{Rec}
 use Rattle.checks.specs.Rules

@@ -6,8 +6,8 @@ ghost use Rattle.inlinevalues.specs.InlineValues.{validateInlineValues};
 use checks::rules;
 use checks::single;
 use literals::literal;
+use recordkinds::kinds;
 use report::entries::Tally;
-use sheet::kinds;
 use sheet::records::Rec;
 
 // What an inline reports that is asked for its own values alone.

@@ -8,7 +8,7 @@ use native.Mathlib.Numerals.{add-one}
 use borrow.Author.Tests.{ltb-true, ltb-false, eq-eqb, ne-eqb}
 use lib.Dec.{eqb, ltb}
 use lib.ListN.{length, take, set, length-set}
-use Rattle.sheet.specs.Kinds.{paragraph, definition, blankLine}
+use Rattle.recordkinds.specs.Kinds.{paragraph, definition, blankLine}
 use Rattle.sheet.specs.Sheet.{recordAt}
 use Rattle.sheet.specs.Forest.{none, under, size, count}
 use Rattle.report.specs.Report.{Entry, Lists, listIf, _⊕_}

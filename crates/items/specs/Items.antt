@@ -5,7 +5,7 @@ use mathlib.Core.Bool.{Bool, false, not, _&&_}
 use mathlib.Core.List.{List, [], _∷_, _++_}
 use lib.Dec.{eqb}
 use Rattle.strings.specs.Lists.{if_then_else_}
-use Rattle.sheet.specs.Kinds.{paragraph, definition, blankLine}
+use Rattle.recordkinds.specs.Kinds.{paragraph, definition, blankLine}
 use Rattle.sheet.specs.Forest.{Forest, none, tree, count}
 use Rattle.report.specs.Report.{Entry, listIf, _⊕_}
 use Rattle.sheet.specs.declared.records.Span.{Span}

@@ -14,9 +14,9 @@ ghost use Rattle.items.specs.Items.{
   validateTaskItem,
 };
 use checks::rules;
+use recordkinds::kinds;
 use report::entries::Tally;
 use report::entries::list_if;
-use sheet::kinds;
 use sheet::records::Span;
 use sheet::records::record_at;
 use walks::trees::ends;

@@ -3,8 +3,8 @@ use mathlib.Core.Path.{_≡_, refl}
 use mathlib.Core.Bool.{true, false}
 use mathlib.Core.List.{[], _∷_}
 use Rattle.strings.specs.Lists.{none}
-use Rattle.strings.specs.Same.{sameBytes}
-use Rattle.strings.specs.Punctuation.{isAsciiPunctuation}
+use Rattle.parts.specs.Same.{sameBytes}
+use Rattle.parts.specs.Punctuation.{isAsciiPunctuation}
 use Rattle.multiline.specs.Lines.{startsWith}
 use Rattle.multiline.specs.Trim.{trim, trimStart, trimEnd, trimCons}
 use Rattle.leaves.specs.Title.{isAlertTitle}

@@ -9,7 +9,7 @@ use borrow.Author.Tests.{eq-eqb}
 use lib.ListN.{length, getD}
 use Rattle.strings.specs.Bytes.{isBlankByte}
 use Rattle.strings.specs.Lists.{lastOr, none}
-use Rattle.strings.specs.Same.{sameBytes}
+use Rattle.parts.specs.Same.{sameBytes}
 use Rattle.leaves.specs.Title.{isAlertTitle}
 use Rattle.multiline.specs.Trim.{trimCons, trimEnd, trimStart, trim}
 use Rattle.strings.proofs.Scan.{scan}

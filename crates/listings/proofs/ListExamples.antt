@@ -5,7 +5,7 @@ use Prim.Native.Nat.{ℕ}
 use Rattle.sheet.specs.Sheet.{recordAt}
 use Rattle.sheet.specs.Siblings.{gather}
 use Rattle.sheet.specs.Forest.{recordsFrom, deeper, past, grow, forestAt, forestOf, count, countKind}
-use Rattle.strings.specs.Part.{partOf}
+use Rattle.parts.specs.Part.{partOf}
 use Rattle.unicode.specs.Utf8.{isUtf8, wellFormed, follow}
 use Rattle.groups.specs.Groups.{parentGroup, otherGroup, childGroup}
 use Rattle.standing.specs.Places.{places, placeOf, opened, joined, misplaced, openAt}

@@ -26,8 +26,9 @@ use Rattle.checker.specs.Check.{answerNumber, answerValue, outcome}
 use Rattle.answers.specs.declared.answer.Checked.{Checked}
 use Rattle.checker.proofs.AnswerLaws.{value-word}
 use Rattle.columns.specs.Line.{line}
-use Rattle.film.specs.Film.{recordCount, behindCounts, filmSheet, textBehind, filmText, mostRecords, mostInput, filmNumber, filmRecords, filmOf, Reads}
-use Rattle.film.specs.declared.films.Film.{Film}
+use Rattle.film.specs.Film.{recordCount, behindCounts, filmSheet, textBehind, filmText, mostRecords, mostInput, filmOf, Reads}
+use Rattle.filmanswers.specs.FilmAnswer.{filmNumber, filmRecords}
+use Rattle.filmanswers.specs.declared.answer.Film.{Film}
 use Rattle.film.proofs.FilmLaws.{Good, good, sheet-long}
 use Rattle.film.proofs.CutLaws.{cut}
 use Rattle.printing.specs.Printing.{reportWords, refusalLine, entryLines, listLines, Prints}

@@ -10,7 +10,8 @@ use Rattle.blocks.specs.Blocks.{validateDocument}
 use Rattle.machine.specs.Machine.{answerStop, answerRecord, outcome as runOutcome}
 use Rattle.checker.specs.Check.{answerNumber, answerValue, outcome}
 use Rattle.answers.specs.declared.answer.Checked.{Checked}
-use Rattle.film.specs.Film.{filmSheet, filmText, filmNumber, filmOf}
+use Rattle.film.specs.Film.{filmSheet, filmText, filmOf}
+use Rattle.filmanswers.specs.FilmAnswer.{filmNumber}
 use Rattle.printing.specs.Printing.{reportWords, refusalLine, listLines}
 
 -- the check's answer for a sheet and its text: "its report has 4,096 words"

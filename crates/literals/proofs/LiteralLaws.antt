@@ -14,7 +14,7 @@ use Rattle.report.specs.declared.entries.Tally.{Tally}
 use Rattle.report.proofs.ReportLaws.{lists-then}
 use Rattle.literals.specs.Literals.{validateText, validateCodeInline, validateMathInline}
 use Rattle.checks.specs.Rules
-use Rattle.facts.specs.Values.{isEmpty}
+use Rattle.emptiness.specs.Empty.{isEmpty}
 
 module _ (path : List ℕ) (span : Span) {s t : Tally} {x y : List ℕ} {p : Bool} where
   pub text-law : (bytes : List ℕ) (value : Text) {n : List ℕ} → n ≡ textOf bytes value → p ≡ holdsLineEnding n → Lists s t x y (listIf p Rules.lineEndingInText span path) → Lists s t x y (validateText bytes path span value)

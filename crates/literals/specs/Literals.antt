@@ -10,7 +10,7 @@ use Rattle.report.specs.Report.{Entry, listIf, _⊕_}
 use Rattle.sheet.specs.declared.records.Span.{Span}
 use Rattle.sheet.specs.declared.records.Text.{Text}
 use Rattle.checks.specs.Rules
-use Rattle.facts.specs.Values.{isEmpty}
+use Rattle.emptiness.specs.Empty.{isEmpty}
 
 -- the match's arm for a text: 31
 unfoldable pub validateText : List ℕ → List ℕ → Span → Text → List Entry

@@ -4,7 +4,7 @@ ghost use lib.ListN.{length};
 ghost use Rattle.report.specs.Report.{Lists};
 ghost use Rattle.literals.specs.Literals.{validateText, validateCodeInline, validateMathInline};
 use checks::rules;
-use facts::values;
+use emptiness::empty;
 use leaves::math::holds_backtick_dollar;
 use multiline::lines::holds_line_ending;
 use report::entries::Tally;
@@ -41,7 +41,7 @@ pub fn validate_code_inline(
     requires { ⌜ length (now path) ≤ 64 ⌝ }
     ensures { λ r. ⌜ Lists tally r (now (report .entry)) (now (report .exit)) (validateCodeInline (now (bytes .entry)) (now (path .entry)) span value) ⌝ }
 {
-    let empty = values::is_empty(value);
+    let empty = empty::is_empty(value);
     let out = list_if(empty, report, rules::EMPTY_CODE, span, path, tally);
     let ends = holds_line_ending(text_of(bytes, value));
     list_if(ends, report, rules::LINE_ENDING_IN_CODE, span, path, out)
@@ -61,7 +61,7 @@ pub fn validate_math_inline(
     requires { ⌜ length (now path) ≤ 64 ⌝ }
     ensures { λ r. ⌜ Lists tally r (now (report .entry)) (now (report .exit)) (validateMathInline (now (bytes .entry)) (now (path .entry)) span a b value) ⌝ }
 {
-    let empty = values::is_empty(value);
+    let empty = empty::is_empty(value);
     let out = list_if(empty, report, rules::EMPTY_MATH, span, path, tally);
     let bare = (a == 0) & (b == 0);
     let out = list_if(bare, report, rules::MATH_WITHOUT_FENCE, span, path, out);

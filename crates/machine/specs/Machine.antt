@@ -8,12 +8,12 @@ use lib.ListN.{length, set}
 use Rattle.strings.specs.Bytes.{between}
 use Rattle.strings.specs.Lists.{if_then_else_}
 use Rattle.multiline.specs.Lines.{holdsLineEnding}
-use Rattle.sheet.specs.Kinds.{among, isBlock, isInline, paragraph, heading, list, table, frontmatter, leafDirective, containerDirective, blankLine, item, row, cell, text, code, link, linkReference}
+use Rattle.recordkinds.specs.Kinds.{among, isBlock, isInline, paragraph, heading, list, table, frontmatter, leafDirective, containerDirective, blankLine, item, row, cell, text, code, link, linkReference}
 use Rattle.sheet.specs.Sheet.{recordsOf}
 use Rattle.sheet.specs.Forest.{recordsFrom}
 use Rattle.sheet.specs.declared.records.Rec.{Rec}
 use Rattle.texts.specs.Texts.{textOf}
-use Rattle.facts.specs.Values.{isEmptyText}
+use Rattle.emptiness.specs.Empty.{isEmptyText}
 use Rattle.classes.specs.Classes.{isBreak, isPlainBreak, isEmphasisContainer, isLink}
 use Rattle.markers.specs.Marker.{writtenMarker}
 

@@ -1,7 +1,7 @@
 // The marker that a list is written with.
 ghost use mathlib.Core.Path.{_≡_};
 ghost use Rattle.markers.specs.Marker.{writtenMarker};
-use sheet::kinds::pick;
+use recordkinds::kinds::pick;
 
 // The byte that a list's items are written with.
 pub fn written_marker(ordered: u32, delimiter: u32) -> u32

@@ -1,6 +1,6 @@
 -- Lines, a byte at a time: the first, the last as the code reads it, and the CR of a CRLF.
 use mathlib.Core.Path.{_≡_, refl, sym, ap, _∙_}
-use mathlib.Core.Bool.{Bool, true, false, _&&_, _||_, and-assoc, and-true, and-false, true≢false, false≢true}
+use mathlib.Core.Bool.{Bool, true, false, _&&_, _||_, and-assoc, and-true, and-false, false≢true}
 use mathlib.Core.List.{List, [], _∷_}
 use Prim.Native.Nat.{ℕ, zero, suc, _+_, _-_, _<_, _≤_, zero-le}
 use native.Mathlib.Nat.{le-of-suc-le-suc, not-suc-le-zero}
@@ -12,8 +12,8 @@ use Rattle.strings.specs.Bytes.{tab, lf, cr, space, isBlankByte, isLineEndingBy
 use Rattle.strings.specs.Lists.{if_then_else_, all, firstOr, lastOr}
 use Rattle.multiline.specs.Lines.{startsWith, longer, isCrOfCrlf, lines, isBlank, hasBlankEdgeLine}
 use Rattle.multiline.specs.Scans.{lastBlank, Led, Ended}
-use Rattle.strings.proofs.Scan.{At, next}
-use Rattle.strings.proofs.Scan.{scan}
+use Rattle.strings.proofs.Scan.{At, next, scan}
+use Rattle.strings.proofs.Tests.{and-right, or-left, or-right}
 
 module _ (b : ℕ) (s : List ℕ) where
   pub lines-skip : isCrOfCrlf b s ≡ true → lines (b ∷ s) ≡ lines s
@@ -27,18 +27,6 @@ module _ (b : ℕ) (s : List ℕ) where
   pub lines-hold : isCrOfCrlf b s ≡ false → isLineEndingByte b ≡ false → lines (b ∷ s) ≡ longer b (lines s)
   unfolding lines
   lines-hold e f = rw (e, f)
-
-or-left : (t u : Bool) → (t || u) ≡ false → t ≡ false
-or-left true u e = e
-or-left false u e = refl
-
-or-right : (t u : Bool) → (t || u) ≡ false → u ≡ false
-or-right true u e = absurd (true≢false e)
-or-right false u e = e
-
-and-right : (t u : Bool) → (t && u) ≡ true → u ≡ true
-and-right true u e = e
-and-right false u e = absurd (false≢true e)
 
 -- a byte that is no line ending is no CR, and neither is an LF
 no-cr : (b : ℕ) (s : List ℕ) → isLineEndingByte b ≡ false → isCrOfCrlf b s ≡ false

@@ -5,7 +5,7 @@ use mathlib.Core.List.{List}
 use Prim.Native.Nat.{ℕ, _+_}
 use borrow.Author.Tests.{not-true, not-false, eq-eqb, ne-eqb}
 use lib.Dec.{eqb}
-use Rattle.sheet.specs.Kinds.{isBlock, list, codeBlock, blankLine}
+use Rattle.recordkinds.specs.Kinds.{isBlock, list, codeBlock, blankLine}
 use Rattle.report.specs.Report.{Lists, listIf}
 use Rattle.sheet.specs.declared.records.Span.{Span}
 use Rattle.report.specs.declared.entries.Tally.{Tally}

@@ -4,7 +4,7 @@ use mathlib.Core.Bool.{Bool, _&&_, _||_}
 use mathlib.Core.List.{List}
 use lib.Dec.{eqb}
 use Rattle.strings.specs.Lists.{if_then_else_}
-use Rattle.sheet.specs.Kinds.{isBlock, list, codeBlock, footnoteDefinition, blankLine}
+use Rattle.recordkinds.specs.Kinds.{isBlock, list, codeBlock, footnoteDefinition, blankLine}
 use Rattle.report.specs.Report.{Entry, listIf, _⊕_}
 use Rattle.sheet.specs.declared.records.Span.{Span}
 use Rattle.markers.specs.Marker.{writtenMarker}

@@ -6,9 +6,9 @@ ghost use Rattle.report.specs.Report.{Lists};
 ghost use Rattle.neighbours.specs.Taken.{beforeAt, indexAt, takesIndentedCode, validateTakenBlock};
 use checks::rules;
 use markers::marker::written_marker;
+use recordkinds::kinds;
 use report::entries::Tally;
 use report::entries::list_if;
-use sheet::kinds;
 use sheet::records::Span;
 
 // What counts of the block before: kind 0 where there is none.

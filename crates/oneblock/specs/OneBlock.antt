@@ -3,13 +3,14 @@ use Prim.Native.Nat.{ℕ}
 use mathlib.Core.List.{List, []}
 use lib.Dec.{eqb}
 use Rattle.strings.specs.Lists.{if_then_else_}
-use Rattle.sheet.specs.Kinds.{paragraph, heading, alert, list, codeBlock, htmlContainer, definition, footnoteDefinition, table, frontmatter, leafDirective, containerDirective}
+use Rattle.recordkinds.specs.Kinds.{paragraph, heading, alert, list, codeBlock, htmlContainer, definition, footnoteDefinition, table, frontmatter, leafDirective, containerDirective}
 use Rattle.sheet.specs.Forest.{Forest}
 use Rattle.report.specs.Report.{Entry, _⊕_}
 use Rattle.sheet.specs.declared.records.Rec.{Rec}
 use Rattle.sheet.specs.declared.records.Span.{Span}
 use Rattle.inlines.specs.Inlines.{validateInlines}
-use Rattle.heads.specs.Heads.{validateHeading, validateAlert, validateCodeBlock, validateFrontmatter, validateDefinition}
+use Rattle.heads.specs.Heads.{validateHeading, validateAlert, validateCodeBlock, validateDefinition}
+use Rattle.frontmatter.specs.Frontmatter.{validateFrontmatter}
 use Rattle.containers.specs.Tags.{validateHtmlContainer}
 use Rattle.footnotes.specs.Footnotes.{validateFootnoteDefinition}
 use Rattle.lists.specs.Lists.{validateList}

@@ -10,13 +10,14 @@ ghost use Rattle.oneblock.specs.OneBlock.{validateLeaf, validateHtml, va
 use checks::rules;
 use containers::tags::validate_html_container;
 use footnotes::definition::validate_footnote_definition;
+use frontmatter::block::validate_frontmatter;
 use heads::own;
 use inlines::nodes::validate_inlines;
 use lists::list::validate_list;
 use prose::labels::validate_directive;
 use prose::paragraphs::validate_paragraph;
+use recordkinds::kinds;
 use report::entries::Tally;
-use sheet::kinds;
 use sheet::records::Rec;
 use tables::grid::validate_table;
 
@@ -70,7 +71,7 @@ fn validate_leaf(
             own::validate_definition(bytes, report, path, span, a, first, second, tally)
         }
         kinds::FRONTMATTER => {
-            own::validate_frontmatter(bytes, report, path, span, r.level, a, first, tally)
+            validate_frontmatter(bytes, report, path, span, r.level, a, first, tally)
         }
         kinds::LEAF_DIRECTIVE => {
             let rule = rules::BREAK_IN_LEAF_LABEL;

@@ -5,7 +5,7 @@ use mathlib.Core.List.{List}
 use Prim.Native.Nat.{ℕ}
 use borrow.Author.Needs.{needs}
 use borrow.Author.Tests.{ne-eqb}
-use Rattle.sheet.specs.Kinds.{link, linkReference, inlineFootnote, textDirective}
+use Rattle.recordkinds.specs.Kinds.{link, linkReference, inlineFootnote, textDirective}
 use Rattle.sheet.specs.Forest.{Forest, under}
 use Rattle.report.specs.Report.{Entry, Lists, listIf, _⊕_}
 use Rattle.sheet.specs.declared.records.Rec.{Rec}
@@ -13,18 +13,18 @@ use Rattle.sheet.specs.declared.records.Span.{Span}
 use Rattle.sheet.specs.declared.records.Text.{Text}
 use Rattle.report.specs.declared.entries.Tally.{Tally}
 use Rattle.report.proofs.ReportLaws.{lists-then}
-use Rattle.contents.specs.Content.{contentOf}
+use Rattle.beside.specs.Content.{contentOf}
 use Rattle.checks.specs.Single.{validateDirectiveName}
 use Rattle.attributes.specs.Attributes.{validateDirectiveAttributes}
-use Rattle.contents.specs.Beside.{noInline}
+use Rattle.beside.specs.Beside.{noInline}
 use Rattle.oneinline.specs.Inline.{validateTextDirective, validateEmphasisContainer, validateInline}
 use Rattle.inlinevalues.specs.InlineValues.{validateInlineValues}
 use Rattle.checks.specs.Rules
 use Rattle.classes.specs.Classes.{isEmphasisContainer}
 use Rattle.walks.specs.Walk.{Done}
-use Rattle.contents.specs.declared.content.Content.{Content}
+use Rattle.beside.specs.declared.content.Content.{Content}
 use Rattle.walks.specs.declared.trees.Walked.{Walked}
-use Rattle.contents.proofs.ContentLaws.{says-none, says-empty, says-starts, says-ends, says-joined, says-last}
+use Rattle.beside.proofs.ContentLaws.{says-none, says-empty, says-starts, says-ends, says-joined, says-last}
 
 -- ---- by what was gathered of the children
 module _ (bytes path : List ℕ) (outer a : ℕ) (f : Forest) {s t : Tally} {x y : List ℕ} {c : Content} (is : c ≡ contentOf bytes outer a f) where

@@ -5,7 +5,7 @@ use mathlib.Core.Bool.{not, _&&_, _||_}
 use mathlib.Core.List.{List}
 use lib.Dec.{eqb}
 use Rattle.strings.specs.Lists.{if_then_else_}
-use Rattle.sheet.specs.Kinds.{link, linkReference, inlineFootnote, textDirective}
+use Rattle.recordkinds.specs.Kinds.{link, linkReference, inlineFootnote, textDirective}
 use Rattle.sheet.specs.Forest.{Forest}
 use Rattle.report.specs.Report.{Entry, listIf, _⊕_}
 use Rattle.sheet.specs.declared.records.Rec.{Rec}
@@ -17,7 +17,7 @@ use Rattle.checks.specs.Single.{validateDestination, validateIdentifier, valida
 use Rattle.inlinevalues.specs.InlineValues.{validateInlineValues}
 use Rattle.attributes.specs.Attributes.{validateDirectiveAttributes}
 use Rattle.linktext.specs.LinkText.{validateLinkText}
-use Rattle.contents.specs.Beside.{noInline, allEmpty, startsWithWhitespace, endsWithWhitespace, holdsJoined, finalBreak}
+use Rattle.beside.specs.Beside.{noInline, allEmpty, startsWithWhitespace, endsWithWhitespace, holdsJoined, finalBreak}
 
 -- `validate_text_directive`, up to the walk of its label: 54, then 55
 unfoldable pub validateTextDirective : List ℕ → List ℕ → Span → Text → Forest → List Entry

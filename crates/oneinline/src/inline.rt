@@ -3,7 +3,7 @@ ghost use Rattle.sheet.specs.Forest.{under};
 ghost use Rattle.report.specs.Report.{Lists, listIf, _⊕_};
 ghost use Rattle.checks.specs.Single.{validateDestination, validateIdentifier};
 ghost use Rattle.linktext.specs.LinkText.{validateLinkText};
-ghost use Rattle.contents.specs.Beside.{noInline};
+ghost use Rattle.beside.specs.Beside.{noInline};
 ghost use Rattle.oneinline.specs.Inline.{validateTextDirective, validateEmphasisContainer, validateInline};
 ghost use Rattle.checks.specs.Rules;
 ghost use Rattle.walks.specs.Walk.{Start};
@@ -14,9 +14,9 @@ use classes::class;
 use contents::content::gather;
 use inlinevalues::values::validate_inline_values;
 use linktext::links::validate_link_text;
+use recordkinds::kinds;
 use report::entries::Tally;
 use report::entries::list_if;
-use sheet::kinds;
 use sheet::records::Rec;
 
 // Rules 39 or 40, 41 and 30 of the container `r` whose children start at record `from`.

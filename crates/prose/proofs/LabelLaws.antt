@@ -6,7 +6,7 @@ use Prim.Native.Nat.{ℕ, zero, suc, _+_, _-_, _<_, _≤_}
 use native.Mathlib.Omega.{arith}
 use borrow.Author.Tests.{ltb-true, ltb-false, leb-true, leb-false}
 use lib.Dec.{ltb, leb}
-use Rattle.sheet.specs.Kinds.{isBlock}
+use Rattle.recordkinds.specs.Kinds.{isBlock}
 use Rattle.sheet.specs.Sheet.{recordAt}
 use Rattle.sheet.specs.Forest.{Forest, none, tree, under, size}
 use Rattle.sheet.specs.declared.records.Rec.{Rec}

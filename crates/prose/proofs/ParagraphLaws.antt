@@ -4,7 +4,7 @@ use mathlib.Core.Bool.{Bool, true, false, not, _&&_, _||_}
 use mathlib.Core.List.{List}
 use Prim.Native.Nat.{ℕ, _+_, _<_, _≤_}
 use borrow.Author.Tests.{not-true, not-false}
-use Rattle.sheet.specs.Kinds.{isInline}
+use Rattle.recordkinds.specs.Kinds.{isInline}
 use Rattle.sheet.specs.Sheet.{recordAt}
 use Rattle.sheet.specs.Forest.{under, size}
 use Rattle.sheet.specs.declared.records.Rec.{Rec}
@@ -13,7 +13,7 @@ use Rattle.report.specs.Report.{Lists, listIf}
 use Rattle.report.specs.declared.entries.Tally.{Tally}
 use Rattle.report.proofs.ReportLaws.{lists-then}
 use Rattle.checks.specs.Rules
-use Rattle.facts.specs.Values.{isEmptyText}
+use Rattle.emptiness.specs.Empty.{isEmptyText}
 use Rattle.walks.specs.Walk.{Done}
 use Rattle.walks.specs.declared.trees.Walked.{Walked}
 use Rattle.walks.proofs.DecideLaws.{Deciding, deciding-end, deciding-found, deciding-out, deciding-turn}

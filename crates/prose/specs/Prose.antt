@@ -2,7 +2,7 @@
 use Prim.Native.Nat.{ℕ}
 use mathlib.Core.List.{List}
 use Rattle.strings.specs.Lists.{if_then_else_}
-use Rattle.sheet.specs.Kinds.{isBlock}
+use Rattle.recordkinds.specs.Kinds.{isBlock}
 use Rattle.sheet.specs.Forest.{Forest, none, tree}
 use Rattle.report.specs.Report.{Entry, listIf, _⊕_}
 use Rattle.sheet.specs.declared.records.Span.{Span}

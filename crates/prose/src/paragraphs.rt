@@ -9,11 +9,11 @@ ghost use Rattle.walks.specs.Walk.{Start};
 ghost use Rattle.inlines.specs.Inlines.{allEmpty};
 ghost use Rattle.prose.specs.Prose.{validateParagraph};
 use checks::rules;
-use facts::values;
+use emptiness::empty;
 use inlines::nodes::validate_inlines;
+use recordkinds::kinds;
 use report::entries::Tally;
 use report::entries::list_if;
-use sheet::kinds;
 use sheet::records::Span;
 use sheet::records::record_at;
 use walks::trees::skip;
@@ -29,7 +29,7 @@ fn all_empty(sheet: &[u32], n: usize, from: usize, level: u32) -> bool
         if r.level <= level {
             return true;
         }
-        let passed = !kinds::is_inline(r.kind) | values::is_empty_text(r);
+        let passed = !kinds::is_inline(r.kind) | empty::is_empty_text(r);
         if !passed {
             return false;
         }

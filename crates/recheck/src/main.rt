@@ -3,6 +3,7 @@ mod front;
 mod long;
 mod record;
 
+use parts::part::part;
 use stored::line::write_line;
 use stored::piece::Got;
 use stored::piece::Step;
@@ -10,7 +11,6 @@ use stored::piece::last;
 use stored::piece::next;
 use stored::piece::read_at;
 use stored::tally::Tally;
-use strings::part::part;
 
 // The most bytes of a record.
 const MOST: usize = 5660;

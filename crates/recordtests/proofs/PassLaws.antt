@@ -7,7 +7,7 @@ use native.Mathlib.Omega.{arith}
 use borrow.Author.Tests.{ltb-false, eqb-false}
 use lib.Dec.{eqb, ltb}
 use Rattle.strings.specs.Lists.{if_then_else_}
-use Rattle.sheet.specs.Kinds.{isKind}
+use Rattle.recordkinds.specs.Kinds.{isKind}
 use Rattle.standing.specs.Places.{misplaced}
 use Rattle.form.specs.Fields.{badField}
 use Rattle.texts.specs.Texts.{textOutside, textIllFormed}

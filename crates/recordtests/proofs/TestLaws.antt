@@ -5,7 +5,7 @@ use mathlib.Core.List.{List}
 use Prim.Native.Nat.{ℕ}
 use borrow.Author.Needs.{needs}
 use borrow.Author.Tests.{not-true, not-false}
-use Rattle.sheet.specs.Kinds.{isKind}
+use Rattle.recordkinds.specs.Kinds.{isKind}
 use Rattle.standing.specs.Places.{misplaced}
 use Rattle.form.specs.Fields.{badField}
 use Rattle.texts.specs.Texts.{textOutside, textIllFormed}

@@ -6,7 +6,7 @@ use Prim.Native.Nat.{ℕ, _+_, _*_, _<_, _≤_}
 use lib.Dec.{eqb, ltb}
 use lib.ListN.{length}
 use Rattle.unicode.specs.Utf8.{isUtf8}
-use Rattle.sheet.specs.Kinds.{isKind, htmlContainer, htmlTag}
+use Rattle.recordkinds.specs.Kinds.{isKind, htmlContainer, htmlTag}
 use Rattle.sheet.specs.Sheet.{recordAt, recordsOf, recordWords}
 use Rattle.sheet.specs.Forest.{Forest, none, tree, forestOf, countKind}
 use Rattle.groups.specs.Groups.{holdsBlocks, parentGroup}

@@ -4,7 +4,7 @@ use mathlib.Core.Bool.{Bool, not, _||_}
 use mathlib.Core.List.{List}
 use lib.Dec.{eqb, ltb}
 use Rattle.strings.specs.Lists.{if_then_else_}
-use Rattle.sheet.specs.Kinds.{isKind}
+use Rattle.recordkinds.specs.Kinds.{isKind}
 use Rattle.sheet.specs.Sheet.{recordAt}
 use Rattle.standing.specs.Places.{misplaced}
 use Rattle.form.specs.Fields.{badField}

@@ -5,7 +5,7 @@ ghost use Rattle.standing.specs.Places.{places};
 ghost use Rattle.groups.specs.KindGroups.{kindGroups};
 ghost use Rattle.recordtests.specs.Tests.{badLevel, judgeTexts, judge};
 use form::fields;
-use sheet::kinds;
+use recordkinds::kinds;
 use sheet::records::Rec;
 use standing::places;
 use standing::places::Open;

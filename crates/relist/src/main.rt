@@ -1,6 +1,7 @@
 // Replays the stored films in data/ (rust/vectors writes them) through the listing and counts what differs in what is printed.
 mod film;
 
+use parts::part::part;
 use stored::line::write_line;
 use stored::piece::Got;
 use stored::piece::Step;
@@ -9,7 +10,6 @@ use stored::piece::next;
 use stored::piece::read_at;
 use stored::read;
 use stored::tally::Tally;
-use strings::part::part;
 
 // Far more films than a file has.
 const FILMS: usize = 0x10_0000;

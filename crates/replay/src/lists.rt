@@ -1,6 +1,7 @@
 // Sheets of one paragraph with what the Rust lists of its inlines.
 ghost use Prim.Native.Nat.{_≤_};
 use inlines::nodes::validate_inlines;
+use parts::part::part;
 use refusal::judge;
 use report::entries;
 use sheet::records::RECORD_WORDS;
@@ -8,7 +9,6 @@ use stored::read;
 use stored::tally::Tally;
 use stored::words;
 use stored::words::fill;
-use strings::part::part;
 use verdicts::verdict::Judged;
 
 // How many bytes stand before a record's words: how many words the sheet has, how many bytes its text, how many words the list.

@@ -7,6 +7,7 @@ mod values;
 
 ghost use Prim.Native.Nat.{_≤_};
 use libc::STDOUT_FILENO;
+use parts::part::part;
 use stored::line::write_line;
 use stored::piece::Got;
 use stored::piece::Step;
@@ -14,7 +15,6 @@ use stored::piece::last;
 use stored::piece::next;
 use stored::piece::read_at;
 use stored::tally::Tally;
-use strings::part::part;
 
 // The most bytes of a record: more than a sheet and a list of 800 words each and a long text have.
 const MOST: usize = 8192;

@@ -30,8 +30,8 @@ pub fn behind(r: &[u8]) -> usize
 // The answer for a stored sheet, whose words are brought to `words`; none where they do not fit.
 fn judged(words: &mut [u32], r: &[u8]) -> Judged {
     let n = words_of(r);
-    fill(words, strings::part::part(r, HEAD, n * 4));
-    let text = strings::part::part(r, HEAD + n * 4, text_bytes_of(r));
+    fill(words, parts::part::part(r, HEAD, n * 4));
+    let text = parts::part::part(r, HEAD + n * 4, text_bytes_of(r));
     if words.len() < n {
         return Judged::Accepted;
     }

@@ -18,7 +18,7 @@ fn first_seven(s: &[u8]) -> u32
         + flag(scalars::white::ends_with_white(s), 0x04)
         + flag(multiline::lines::holds_line_ending(s), 0x08)
         + flag(multiline::lines::is_blank(s), 0x10)
-        + flag(multiline::lines::has_blank_edge_line(s), 0x20)
+        + flag(edges::edge::has_blank_edge_line(s), 0x20)
         + flag(
             fences::fence::holds_fence_line(s, FrontmatterKind::Yaml),
             0x40,
@@ -81,7 +81,7 @@ pub fn behind(r: &[u8]) -> usize
 pub fn replay_record(r: &[u8], tally: Tally) -> Tally {
     let n = read::size(read::byte(r, 0));
     let both = read::number(r, 1);
-    let text = strings::part::part(r, HEAD, n);
+    let text = parts::part::part(r, HEAD, n);
     compare(
         both % 0x1_0000,
         both / 0x1_0000,

@@ -1,4 +1,3 @@
-pub mod Kinds
 pub mod Sheet
 pub mod Siblings
 pub mod Forest

@@ -1,3 +1,2 @@
-// The sheet: its records and their kinds.
-pub mod kinds;
+// The sheet: its records.
 pub mod records;

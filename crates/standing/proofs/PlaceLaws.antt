@@ -10,7 +10,7 @@ use lib.ListN.{length, getD, List·getD-eq-default}
 use borrow.Author.Needs.{needs}
 use borrow.Author.Tests.{leb-true, leb-false, eq-eqb, ne-eqb}
 use Rattle.strings.proofs.Tests.{and-left, and-right, or-left, or-right}
-use Rattle.sheet.specs.Kinds.{htmlTag}
+use Rattle.recordkinds.specs.Kinds.{htmlTag}
 use Rattle.groups.specs.Groups.{holdsTagsAndBlocks, holdsTagsAndInlines}
 use Rattle.standing.specs.Places.{places, placeOf, joined, misplaced}
 use Rattle.standing.specs.declared.places.Open.{Open}

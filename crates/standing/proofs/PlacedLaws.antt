@@ -6,7 +6,7 @@ use native.Mathlib.Omega.{arith}
 use borrow.Author.Tests.{ltb-false, leb-true, leb-false, lt-leb}
 use lib.Dec.{eqb, ltb, leb}
 use Rattle.strings.proofs.Tests.{allBelow, each}
-use Rattle.sheet.specs.Kinds.{isBlock, isInline, isKind, item, row, cell, htmlTag, attribute}
+use Rattle.recordkinds.specs.Kinds.{isBlock, isInline, isKind, item, row, cell, htmlTag, attribute}
 use Rattle.groups.specs.Groups.{holdsBlocks, holdsItems, holdsRows, holdsCells, holdsInlines, holdsLabel, holdsLabelAndBlocks, holdsTagsAndBlocks, holdsTagsAndInlines, holdsNothing, childGroup}
 use Rattle.standing.specs.Places.{places, placeOf, opened, joined, misplaced}
 use Rattle.standing.specs.declared.places.Open.{Open}

@@ -5,7 +5,7 @@ use mathlib.Core.List.{List, [], _∷_}
 use lib.Dec.{eqb, ltb, leb}
 use lib.ListN.{getD}
 use Rattle.strings.specs.Lists.{if_then_else_}
-use Rattle.sheet.specs.Kinds.{htmlTag}
+use Rattle.recordkinds.specs.Kinds.{htmlTag}
 use Rattle.sheet.specs.Siblings.{gather}
 use Rattle.groups.specs.Groups.{holdsBlocks, holdsTagsAndBlocks, holdsTagsAndInlines, parentGroup, childGroup}
 use Rattle.standing.specs.declared.places.Open.{Open}

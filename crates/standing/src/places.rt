@@ -3,13 +3,13 @@ ghost use mathlib.Core.Path.{_≡_};
 ghost use mathlib.Core.Bool.{true, false};
 ghost use mathlib.Core.List.{[]};
 ghost use lib.ListN.{getD};
-ghost use Rattle.sheet.specs.Kinds.{isKind};
+ghost use Rattle.recordkinds.specs.Kinds.{isKind};
 ghost use Rattle.groups.specs.KindGroups.{kindGroups};
 ghost use Rattle.standing.specs.Places.{places, placeOf, opened, joined, misplaced};
 use groups::kind::HOLDS_TAGS_AND_BLOCKS;
 use groups::kind::HOLDS_TAGS_AND_INLINES;
 use groups::kind::child_group;
-use sheet::kinds;
+use recordkinds::kinds;
 
 // The allowed places: a row for each group of parents, a column for each group of children
 // (block, item, row, cell, HTML tag, attribute, inline). 0: not allowed.

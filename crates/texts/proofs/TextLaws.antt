@@ -6,7 +6,7 @@ use Prim.Native.Nat.{ℕ, _+_}
 use lib.Dec.{leb}
 use lib.ListN.{length}
 use Rattle.strings.specs.Lists.{if_then_else_}
-use Rattle.strings.specs.Part.{partOf}
+use Rattle.parts.specs.Part.{partOf}
 use Rattle.unicode.specs.Utf8.{isUtf8, wellFormed}
 use Rattle.sheet.specs.declared.records.Text.{Text}
 use Rattle.texts.specs.Texts.{textOf, textIllFormed}

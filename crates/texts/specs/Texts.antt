@@ -4,7 +4,7 @@ use mathlib.Core.Bool.{Bool, not}
 use mathlib.Core.List.{List}
 use lib.Dec.{ltb}
 use lib.ListN.{length}
-use Rattle.strings.specs.Part.{partOf}
+use Rattle.parts.specs.Part.{partOf}
 use Rattle.unicode.specs.Utf8.{isUtf8}
 use Rattle.sheet.specs.declared.records.Text.{Text}
 

@@ -1,8 +1,8 @@
 // The texts that a record names.
 ghost use mathlib.Core.Path.{_≡_};
 ghost use Rattle.texts.specs.Texts.{textOf, textOutside, textIllFormed};
+use parts::part::part;
 use sheet::records::Text;
-use strings::part::part;
 use unicode::utf8::is_utf8;
 
 // The part of the sheet's text that a record names.

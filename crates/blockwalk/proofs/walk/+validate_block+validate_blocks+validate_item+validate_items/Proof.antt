@@ -34,7 +34,7 @@ use Rattle.items.proofs.item.validate_task_item.Reads as validate-task-item-rea
 use Rattle.neighbours.proofs.taken.validate_taken_block.Reads as validate-taken-block-reads
 use Rattle.blocks.proofs.holds.holds_blocks.Reads as holds-blocks-reads
 use Rattle.oneblock.proofs.block.validate_own.Reads as validate-own-reads
-use Rattle.sheet.proofs.kinds.is_block.Reads as is-block-reads
+use Rattle.recordkinds.proofs.kinds.is_block.Reads as is-block-reads
 use Rattle.sheet.proofs.records.record_at.Reads as record-at-reads
 use Rattle.walks.proofs.trees.skip.Reads as skip-reads
 use Rattle.blockwalk.proofs.walk.+validate_block+validate_blocks+validate_item+validate_items.{statement}

@@ -1,5 +1,5 @@
 -- `contents::content::final_break` meets its contract.
-use Rattle.contents.proofs.ContentLaws.{breaking}
+use Rattle.beside.proofs.ContentLaws.{breaking}
 use Rattle.contents.proofs.content.final_break.Statement.{statement}
 use Rattle.contents.proofs.content.final_break.Tie as tie
 

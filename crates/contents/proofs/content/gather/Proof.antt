@@ -1,7 +1,7 @@
 -- `contents::content::gather` meets its contract.
 use Prim.Native.Nat.{_-_}
 use borrow.Author.Needs.{needs}
-use Rattle.contents.proofs.ContentLaws.{Gathering, gather-turn, gathering}
+use Rattle.contents.proofs.GatherLaws.{Gathering, gather-turn, gathering}
 use Rattle.contents.proofs.content.gather.Statement.{statement}
 use Rattle.contents.proofs.content.gather.Tie as tie
 

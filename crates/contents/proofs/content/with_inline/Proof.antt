@@ -1,5 +1,5 @@
 -- `contents::content::with_inline` meets its contract.
-use Rattle.contents.proofs.ContentLaws.{gathering}
+use Rattle.contents.proofs.GatherLaws.{gathering}
 use Rattle.contents.proofs.content.with_inline.Statement.{statement}
 use Rattle.contents.proofs.content.with_inline.Tie as tie
 

@@ -18,8 +18,8 @@ use Rattle.inlines.proofs.nodes.+validate_inline_nodes+validate_node.Lt
 use Rattle.oneinline.proofs.inline.validate_inline.Reads as validate-inline-reads
 use Rattle.checks.proofs.single.validate_siblings.Reads as validate-siblings-reads
 use Rattle.walks.proofs.trees.skip.Reads as skip-reads
-use Rattle.sheet.proofs.kinds.is_inline.Reads as is-inline-reads
-use Rattle.sheet.proofs.kinds.pick.Reads as pick-reads
+use Rattle.recordkinds.proofs.kinds.is_inline.Reads as is-inline-reads
+use Rattle.recordkinds.proofs.kinds.pick.Reads as pick-reads
 use Rattle.sheet.proofs.records.record_at.Reads as record-at-reads
 use Rattle.inlines.proofs.nodes.+validate_inline_nodes+validate_node.{statement}
 use Rattle.inlines.proofs.nodes.+validate_inline_nodes+validate_node.Tie.{close}

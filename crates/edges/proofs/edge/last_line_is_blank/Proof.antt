@@ -1,0 +1,34 @@
+-- `edges::edge::last_line_is_blank` meets its contract.
+use Prim.Native.Nat.{_-_}
+use Rattle.multiline.proofs.LineLaws.{line-laws}
+use Rattle.strings.proofs.Scan.{At}
+use Rattle.multiline.specs.Scans.{lastBlank}
+use lib.ListN.{drop, length}
+use mathlib.Core.Bool.{true}
+use Rattle.edges.proofs.edge.last_line_is_blank.Statement.{statement}
+use Rattle.edges.proofs.edge.last_line_is_blank.Tie as tie
+
+abbrev Inv-loop : tie.InvT-loop
+Inv-loop s from last₀ blank₀ i₀ last blank i = At (lastBlank true true (drop «from» s)) (lastBlank last blank) s i
+
+abbrev μ-loop : tie.MeasureT-loop
+μ-loop s from last₀ blank₀ i₀ last blank i = length s - i
+
+pub last-line-is-blank-spec : {M : Type 1} → statement M
+last-line-is-blank-spec =
+    tie.close
+    (tie.spec
+    Inv-loop
+    μ-loop
+    (λ c. search line-laws)
+    (λ c. search line-laws)
+    (λ c κs. search line-laws)
+    (λ c κs. search line-laws)
+    (λ c κs. search line-laws)
+    (λ c κs. search line-laws)
+    (λ c κs. search line-laws)
+    (λ c κs. search line-laws)
+    (λ c. search line-laws)
+    (λ c. search line-laws)
+    (λ c. search line-laws)
+    (λ c. search line-laws))

@@ -1,0 +1,2 @@
+// The first and the last line of a text.
+pub mod edge;

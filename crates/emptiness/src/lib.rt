@@ -1,0 +1,2 @@
+// Texts of no bytes.
+pub mod empty;

@@ -1,0 +1,2 @@
+// Frontmatter.
+pub mod block;
