@@ -10,7 +10,6 @@ use Rattle.recordkinds.specs.Kinds.{isInline, lineBreak}
 use Rattle.sheet.specs.Forest.{Forest, none, tree}
 use Rattle.report.specs.Report.{Lists, listIf}
 use Rattle.report.specs.declared.entries.Tally.{Tally}
-use Rattle.sheet.specs.declared.records.Rec.{Rec}
 use Rattle.beside.specs.Content.{noContent, withInline, contentAfter, contentOf}
 use Rattle.beside.specs.Beside.{noInline, allEmpty, startsWithWhitespace, endsWithWhitespaceAfter, endsWithWhitespace, holdsJoined, finalBreakAfter, finalBreak}
 use Rattle.checks.specs.Rules

@@ -7,13 +7,13 @@ use Prim.Native.Nat.{ℕ, suc, _+_, _≤_, _<_}
 use native.Mathlib.Omega.{arith}
 use native.Mathlib.Nat.{zero-add, add-zero}
 use lib.Dec.{ltb, eqb}
-use borrow.Author.Tests.{le-leb, lt-leb, eqb-true, eqb-false, ltb-true, ltb-false, lt-ltb, le-ltb}
+use borrow.Author.Tests.{eqb-true, eqb-false, ltb-true, ltb-false, lt-ltb, le-ltb}
 use Rattle.strings.specs.Lists.{if_then_else_}
 use Rattle.sheet.specs.Sheet.{recordsOf}
 use Rattle.sheet.specs.Forest.{Forest, none, tree, forestOf, size, recordsIn}
 use Rattle.sheet.specs.declared.records.Rec.{Rec}
 use Rattle.sheet.proofs.Trees.{flat-forest, size-at}
-use Rattle.machine.specs.Machine.{Frame, fresh, withKid, theSheet, Step, opens, closes, closings, remain, stepsFrom, stepsOf}
+use Rattle.machine.specs.Machine.{Frame, fresh, withKid, theSheet, Step, opens, closes, closings, stepsFrom, stepsOf}
 use Rattle.machine.proofs.StepLaws.{Low, open-one, close-one}
 use Rattle.demand.specs.Demand.{timesOpened, timesClosed}
 

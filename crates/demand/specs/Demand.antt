@@ -10,7 +10,7 @@ use Rattle.recordkinds.specs.Kinds.{among}
 use Rattle.sheet.specs.Sheet.{recordsOf}
 use Rattle.report.specs.Report.{Entry}
 use Rattle.blocks.specs.Blocks.{validateDocument}
-use Rattle.machine.specs.Machine.{Step, opens, closes, Outcome, ended, stopped, outcome, run}
+use Rattle.machine.specs.Machine.{Step, opens, closes, ended, stopped, outcome, run}
 
 -- ---- the table of stops: beside each the rules that document 01 names
 pub record Row : Type 0 where

@@ -3,7 +3,6 @@ use Prim.Native.Nat.{ℕ}
 use mathlib.Core.Bool.{Bool, not, _&&_, _||_}
 use mathlib.Core.List.{List}
 use lib.Dec.{eqb}
-use Rattle.strings.specs.Lists.{if_then_else_}
 use Rattle.names.specs.Names.{isAttributeName}
 use Rattle.leaves.specs.Pipe.{hasOddEscapedPipe}
 use Rattle.scalars.specs.White.{startsWithWhite, endsWithWhite}
@@ -11,7 +10,6 @@ use Rattle.recordkinds.specs.Kinds.{attribute, text, wikiLink}
 use Rattle.classes.specs.Classes.{isBreak, isPlainBreak, namesOwnValue, namesLabel}
 use Rattle.texts.specs.Texts.{textOf}
 use Rattle.sheet.specs.declared.records.Rec.{Rec}
-use Rattle.sheet.specs.declared.records.Text.{Text}
 
 -- the match of `starts_with_whitespace` on the first inline that is no empty text
 unfoldable pub startsWhite : List ℕ → Rec → Bool

@@ -15,7 +15,7 @@ use Rattle.report.specs.Report.{Entry, Lists, listIf, _⊕_}
 use Rattle.sheet.specs.declared.records.Rec.{Rec}
 use Rattle.sheet.specs.declared.records.Span.{Span}
 use Rattle.report.specs.declared.entries.Tally.{Tally}
-use Rattle.sheet.proofs.Trees.{under-in, under-out, under-end, under-fits}
+use Rattle.sheet.proofs.Trees.{under-in}
 use Rattle.report.proofs.ReportLaws.{lists-none, lists-then}
 use Rattle.walks.proofs.WalkLaws.{Skipping, behindKids, skip-tree, skip-out, skip-end}
 use Rattle.walks.proofs.TreeLaws.{suc-some, count-end, count-out, count-in}

@@ -1,5 +1,4 @@
 // A film is read, checked and set, and what was found is printed.
-ghost use mathlib.Core.Path.{_≡_};
 ghost use Prim.Native.Nat.{_*_, _≤_};
 ghost use Rattle.sheet.specs.Sheet.{recordsOf};
 ghost use Rattle.film.specs.Film.{mostRecords};

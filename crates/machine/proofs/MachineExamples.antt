@@ -5,7 +5,7 @@ use Prim.Native.Nat.{ℕ, _+_}
 use Rattle.strings.specs.Lists.{any}
 use Rattle.parts.specs.Part.{partOf}
 use Rattle.multiline.specs.Lines.{holdsLineEnding}
-use Rattle.recordkinds.specs.Kinds.{paragraph, heading, blockQuote, list, table, frontmatter, leafDirective, containerDirective, blankLine, item, row, cell, attribute, text, emphasis, code, link, autolink, image, softBreak, lineBreak}
+use Rattle.recordkinds.specs.Kinds.{paragraph, heading, blockQuote, list, table, frontmatter, leafDirective, containerDirective, blankLine, item, row, cell, text, emphasis, code, link, autolink, image, softBreak, lineBreak}
 use Rattle.sheet.specs.Sheet.{recordAt}
 use Rattle.sheet.specs.Forest.{recordsFrom}
 use Rattle.texts.specs.Texts.{textOf}

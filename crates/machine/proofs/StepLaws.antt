@@ -3,7 +3,6 @@ use mathlib.Core.Path.{_≡_, refl}
 use mathlib.Core.List.{List, [], _∷_}
 use Prim.Native.Nat.{ℕ, suc, _≤_, _<_}
 use native.Mathlib.Omega.{arith}
-use lib.Dec.{eqb}
 use borrow.Author.Tests.{le-leb, lt-leb, eq-eqb, ne-eqb}
 use Rattle.sheet.specs.declared.records.Rec.{Rec}
 use Rattle.machine.specs.Machine.{Frame, fresh, withKid, Step, opens, closes, closings, remain, stepsFrom, stopOf, openAt, recordAtStep, blockPath, stopped, outcomeOf, runOf}

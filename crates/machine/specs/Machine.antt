@@ -1,6 +1,6 @@
 -- The setting machine of document 01: its openings and closings, its stops, its run, its answer and its marks.
 -- "It works from the sheet and its text alone, without the checker or its list."
-use Prim.Native.Nat.{ℕ, zero, suc, _+_}
+use Prim.Native.Nat.{ℕ, suc, _+_}
 use mathlib.Core.Bool.{Bool, true, false, not, _&&_, _||_}
 use mathlib.Core.List.{List, [], _∷_, _++_}
 use lib.Dec.{eqb, ltb, leb}

@@ -1,6 +1,6 @@
 -- Whether every inline is an empty text, told from tree to tree.
 use mathlib.Core.Path.{_≡_}
-use mathlib.Core.Bool.{Bool, true, false, not, _&&_, _||_}
+use mathlib.Core.Bool.{Bool, true, false, not, _||_}
 use mathlib.Core.List.{List}
 use Prim.Native.Nat.{ℕ, _+_, _<_, _≤_}
 use borrow.Author.Tests.{not-true, not-false}

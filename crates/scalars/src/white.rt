@@ -1,7 +1,6 @@
 // White space at the ends of a text.
 ghost use mathlib.Core.Path.{_≡_};
 ghost use Prim.Native.Nat.{_<_};
-ghost use lib.ListN.{length, drop};
 ghost use Rattle.strings.specs.Lists.{if_then_else_};
 ghost use Rattle.unicode.specs.Owed.{owedOf};
 ghost use Rattle.scalars.specs.Scalars.{leadBits, replacement};

@@ -1,5 +1,5 @@
 -- Demand 3 of the entries that the check wrote.
-use mathlib.Core.Path.{_≡_, refl, sym, ap, _∙_}
+use mathlib.Core.Path.{_≡_, refl, ap}
 use mathlib.Core.Bool.{Bool, true, false}
 use mathlib.Core.List.{List, _++_}
 use Prim.Native.Nat.{ℕ}
@@ -18,7 +18,7 @@ use Rattle.answers.specs.declared.answer.Checked.{Checked}
 use Rattle.answers.specs.declared.answer.Checked.the-variants.{Listed, Refused, ShortReport}
 use Rattle.setting.specs.Setting.{settingOf}
 use Rattle.answers.specs.declared.setting.Setting.{Setting}
-use Rattle.demand.specs.Demand.{Agrees, Demand}
+use Rattle.demand.specs.Demand.{Demand}
 use Rattle.demand.proofs.Demand.{demand-accepted}
 use Rattle.setter.specs.Both.{Done}
 

@@ -6,8 +6,7 @@ use Prim.Native.Nat.{ℕ, suc, _+_, _-_, _*_, _<_, _≤_}
 use native.Mathlib.Numerals.{add-one}
 use native.Mathlib.Nat.{sub-zero}
 use native.Mathlib.Omega.{arith}
-use borrow.Author.Needs.{needs}
-use borrow.Author.Tests.{lt-ltb, le-ltb, ltb-true, ltb-false, le-leb, lt-leb, leb-true, leb-false, eqb-true, eqb-false}
+use borrow.Author.Tests.{ltb-true, ltb-false, le-leb, lt-leb, leb-true, leb-false, eqb-true}
 use lib.Dec.{eqb, ltb, leb}
 use lib.ListN.{length, getD, set, replicate, length-set}
 use lib.Seq.{getD-set-same, getD-set-other}
@@ -15,14 +14,13 @@ use Rattle.strings.specs.Lists.{if_then_else_}
 use Rattle.sheet.specs.Sheet.{recordWords, recordsOf, recordAt}
 use Rattle.sheet.specs.Forest.{recordsFrom}
 use Rattle.sheet.specs.declared.records.Rec.{Rec}
-use Rattle.form.specs.Fields.{badField}
 use Rattle.refusal.specs.Refusal.{judgeSheet}
 use Rattle.recordtests.specs.Tests.{levelBefore}
 use Rattle.verdicts.specs.declared.verdict.Judged.the-variants.{Accepted}
 use Rattle.strings.proofs.Tests.{or-left, or-right}
 use Rattle.recordtests.proofs.PassLaws.{Deep, deep}
 use Rattle.refusal.proofs.FormedLaws.{each-passed, accepted}
-use Rattle.machine.specs.Machine.{Frame, fresh, withKid, theSheet, Step, opens, closes, closings, stepsFrom, stepsOf, lastMark, itemMark, seen, lowest, openingTests, closingTests, stopOf, Outcome, ended, stopped, outcomeOf, runOf, outcome, run, markOf, marksOf}
+use Rattle.machine.specs.Machine.{Frame, fresh, withKid, theSheet, Step, opens, closes, closings, stepsFrom, stepsOf, lastMark, itemMark, seen, lowest, openingTests, closingTests, stopOf, outcomeOf, runOf, outcome, run, markOf, marksOf}
 use Rattle.machine.proofs.StepLaws.{Low, open-one, close-one, goes-on, stops-here}
 use Rattle.frames.specs.Kept.{keptOf, seenBy, openedIn, joinedBy}
 use Rattle.frames.specs.declared.kept.Kept.{Kept}

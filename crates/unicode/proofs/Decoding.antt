@@ -2,11 +2,11 @@
 use mathlib.Core.Path.{_≡_, refl, sym, _∙_}
 use mathlib.Core.Bool.{Bool, true, false, not, _&&_, _||_, false≢true}
 use mathlib.Core.List.{List, [], _∷_}
-use Prim.Native.Nat.{ℕ, zero, suc, _+_, _-_, _<_, _≤_}
+use Prim.Native.Nat.{ℕ, zero, suc, _-_, _<_, _≤_}
 use native.Mathlib.Omega.{arith}
 use lib.Dec.{eqb, leb, ltb, eqb·suc-zero}
-use lib.ListN.{drop, replicate}
-use borrow.Author.Tests.{lt-leb, lt-ltb, le-ltb, le-leb, ltb-true, leb-true, leb-false, ne-eqb, eqb-true, eqb-false, not-true, not-false}
+use lib.ListN.{replicate}
+use borrow.Author.Tests.{lt-leb, lt-ltb, le-ltb, le-leb, ltb-true, leb-true, leb-false, ne-eqb, eqb-true, not-true, not-false}
 use Rattle.strings.specs.Bytes.{between}
 use Rattle.strings.specs.Lists.{none}
 use Rattle.unicode.specs.Utf8.{Range, _to_, within, trail, nothing, table, follow, wellFormed}

@@ -1,7 +1,7 @@
 -- A loop that goes from tree to tree with the path of each in scratch: its laws, over any list.
 use mathlib.Core.Path.{_≡_, refl, sym, ap, _∙_}
 use mathlib.Core.List.{List, [], _∷_, _++_}
-use Prim.Native.Nat.{ℕ, suc, _+_, _-_, _<_, _≤_}
+use Prim.Native.Nat.{ℕ, _+_, _-_, _<_, _≤_}
 use native.Mathlib.Omega.{arith}
 use native.Mathlib.Numerals.{add-one}
 use lib.ListN.{length, take, set, length-set, length-take}
@@ -9,7 +9,6 @@ use lib.Seq.{take-suc-set, take-take, take-set-le}
 use Rattle.sheet.specs.Sheet.{recordAt}
 use Rattle.sheet.specs.Forest.{Forest, none, under}
 use Rattle.report.specs.Report.{Entry, Lists, _⊕_}
-use Rattle.sheet.specs.declared.records.Rec.{Rec}
 use Rattle.report.specs.declared.entries.Tally.{Tally}
 use Rattle.walks.specs.Walk.{Start, Begin, Done}
 use Rattle.walks.proofs.WalkLaws.{Loop, Skipping, loop-start, loop-turn, loop-out, loop-end}

@@ -2,7 +2,6 @@
 use mathlib.Core.Path.{refl}
 use Rattle.machine.specs.Machine.{columns, nearest, inLink, onlyEmpty, lastMark}
 use Rattle.frames.specs.Kept.{keptOf, markerBehind}
-use borrow.Author.Needs.{needs}
 use Rattle.frames.proofs.kept.the_sheet.Statement.{statement}
 use Rattle.frames.proofs.kept.the_sheet.Tie as tie
 

@@ -2,7 +2,7 @@
 use mathlib.Core.Path.{_≡_, refl, sym, ap, _∙_}
 use Prim.Native.Nat.{_-_, _≤_}
 use native.Mathlib.Omega.{arith}
-use lib.ListN.{length, drop}
+use lib.ListN.{drop}
 use Rattle.strings.proofs.Scan.{At, stop, turn}
 use Rattle.unicode.specs.Owed.{owedOf}
 use Rattle.unicode.specs.Utf8.{wellFormed}

@@ -1,7 +1,6 @@
 -- `unicode::utf8::past_ascii` meets its contract.
 use mathlib.Core.Path.{refl}
 use borrow.Author.Needs.{needs}
-use Rattle.strings.proofs.Scan.{At}
 use Rattle.unicode.proofs.Decoding.{utf8-leap}
 use Rattle.unicode.proofs.utf8.past_ascii.Statement.{statement}
 use Rattle.unicode.proofs.utf8.past_ascii.Tie as tie
