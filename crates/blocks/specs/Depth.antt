@@ -8,7 +8,7 @@ use Rattle.recordkinds.specs.Kinds.{isBlock, list}
 use Rattle.sheet.specs.Forest.{Forest, none, tree}
 use Rattle.sheet.specs.declared.records.Rec.{Rec}
 
--- the depth of what stands under a record: `validate_blocks(.., depth + 1, ..)` for the blocks of a quote, an alert, a footnote definition, a directive, an HTML container and an item. `validate_list` has the list's own depth for its items.
+-- the depth of what stands under a record: `validate_blocks(.., depth + 1, ..)` for the blocks of a quote, an alert, a footnote definition, a directive, an HTML container and an item. `validate_list` has the list's own depth for its items. Under any other record no block stands.
 unfoldable pub depthUnder : ℕ → Rec → ℕ
 depthUnder depth r = if eqb (r .kind) list then depth else suc depth
 

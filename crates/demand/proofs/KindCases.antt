@@ -1,15 +1,15 @@
 -- The kinds by cases, and what is common to the inlines, to the blocks, and to tags and attributes.
-use mathlib.Core.Path.{_≡_, refl, sym, _∙_}
+use mathlib.Core.Path.{_≡_, refl, sym}
 use mathlib.Core.Logic.{_⊎_, inl, inr, ⊎-elim}
-use mathlib.Core.Bool.{Bool, true, false, not, _||_, true≢false, false≢true, and-false}
+use mathlib.Core.Bool.{Bool, true, false, not, _||_, true≢false}
 use mathlib.Core.List.{List, [], _∷_}
 use Prim.Native.Nat.{ℕ, _≤_, _<_}
 use native.Mathlib.Omega.{arith}
 use lib.Dec.{leb, eqb}
-use borrow.Author.Tests.{eqb-true, leb-true, leb-false, lt-leb}
+use borrow.Author.Tests.{eqb-true, leb-true}
 use Rattle.strings.specs.Lists.{if_then_else_}
 use Rattle.strings.proofs.Tests.{allBelow, each, and-right}
-use Rattle.recordkinds.specs.Kinds.{isBlock, isInline, isKind, htmlTag, attribute, blankLine, list}
+use Rattle.recordkinds.specs.Kinds.{isBlock, isInline, htmlTag, attribute, blankLine, list}
 use Rattle.machine.specs.Machine.{inPath}
 use Rattle.classes.specs.Classes.{isBreak, isLink}
 
@@ -24,17 +24,6 @@ oneOf n (m ∷ ms) = eqb n m || oneOf n ms
 pub or-cases : (a b : Bool) → (a || b) ≡ true → (a ≡ true) ⊎ (b ≡ true)
 or-cases true b h = inl refl
 or-cases false b h = inr h
-
--- a kind is below 54
-pub known : (k : ℕ) → isKind k ≡ true → k < 54
-known k h = go (leb k 53) refl
-  where
-    go : (t : Bool) → leb k 53 ≡ t → k < 54
-    go true e = let a : k ≤ 53 = leb-true k 53 e in omega arith
-    go false e =
-        let a : 53 < k = leb-false k 53 e in
-        let z : isKind k ≡ false = simp (lt-leb k 17 (omega arith), lt-leb k 24 (omega arith), lt-leb k 53 a, and-false) in
-        absurd (false≢true (sym z ∙ h))
 
 -- what a test says of one sort of kinds, it says of each
 of-test : (ℕ → Bool) → (ℕ → Bool) → ℕ → Bool

@@ -12,6 +12,7 @@ use borrow.Author.Tests.{eqb-true, leb-true, le-leb, ltb-true}
 use Rattle.strings.specs.Lists.{if_then_else_}
 use Rattle.strings.proofs.Tests.{allBelow, each, and-left, and-right}
 use Rattle.recordkinds.specs.Kinds.{among, isKind, paragraph, heading, blockQuote, alert, list, htmlContainer, footnoteDefinition, table, leafDirective, containerDirective, item, row, cell, emphasis, strong, delete, mark, link, image, linkReference, imageReference, inlineFootnote, textDirective}
+use Rattle.recordkinds.proofs.KindLaws.{kind-below}
 use Rattle.sheet.specs.Forest.{Forest, none, tree}
 use Rattle.sheet.specs.declared.records.Rec.{Rec}
 use Rattle.groups.specs.Groups.{holdsBlocks, holdsItems, holdsRows, holdsCells, holdsInlines, holdsLabel, holdsLabelAndBlocks, holdsTagsAndBlocks, holdsTagsAndInlines, holdsNothing, otherGroup, parentGroup, childGroup}
@@ -21,7 +22,7 @@ use Rattle.standing.proofs.PlacedLaws.{has-place, in-order, joined-group, opene
 use Rattle.machine.specs.Machine.{theSheet}
 use Rattle.recordtests.specs.Formed.{Formed}
 use Rattle.demand.proofs.Flat.{Deep}
-use Rattle.demand.proofs.KindCases.{rank, known, or-cases, InlineKind, inline-kind, BlockKind, block-kind, Extra, tag, attr}
+use Rattle.demand.proofs.KindCases.{rank, or-cases, InlineKind, inline-kind, BlockKind, block-kind, Extra, tag, attr}
 
 -- the group of an open record; the sheet's kind is 0
 unfoldable pub groupOf : Rec → ℕ
@@ -93,7 +94,7 @@ module _ (g : ℕ) (h : g < 10) where
   rank-place : (k : ℕ) → isKind k ≡ true → eqb (placeOf g k) 0 ≡ false → (placeOf g k < 4) × (rankAt g (placeOf g k) ≡ rank k)
   unfolding ranked
   rank-place k c n =
-      let f : (ltb (placeOf g k) 4 && eqb (rankAt g (placeOf g k)) (rank k)) ≡ true = rw (c, n) at (each (λ k. not (isKind k && not (eqb (placeOf g k) 0)) || (ltb (placeOf g k) 4 && eqb (rankAt g (placeOf g k)) (rank k))) 54 (each ranked 10 all-ranked g h) k (known k c)) in
+      let f : (ltb (placeOf g k) 4 && eqb (rankAt g (placeOf g k)) (rank k)) ≡ true = rw (c, n) at (each (λ k. not (isKind k && not (eqb (placeOf g k) 0)) || (ltb (placeOf g k) 4 && eqb (rankAt g (placeOf g k)) (rank k))) 54 (each ranked 10 all-ranked g h) k (kind-below k c)) in
       (ltb-true _ _ (and-left _ _ f), eqb-true _ _ (and-right (ltb (placeOf g k) 4) _ f))
 
 -- ---- there are ten groups

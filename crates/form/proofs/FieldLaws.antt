@@ -1,6 +1,6 @@
 -- What is 0 is in range, and no text that is 0, 0 is bad, whatever the kind.
 use mathlib.Core.Path.{_≡_, refl, sym}
-use mathlib.Core.Bool.{Bool, true, false, not, _&&_}
+use mathlib.Core.Bool.{Bool, true, false, not, _&&_, and-false}
 use Prim.Native.Nat.{ℕ}
 use native.Mathlib.Omega.{arith}
 use lib.Dec.{eqb, ltb}
@@ -11,10 +11,6 @@ use Rattle.sheet.specs.declared.records.Rec.{Rec}
 use Rattle.sheet.specs.declared.records.Text.{Text}
 use Rattle.strings.proofs.Tests.{and-left, and-right}
 use Rattle.form.specs.Fields.{mostA, mostB, mostC, badText, isSurrogate, badNumber}
-
-and-false : (b : Bool) → (b && false) ≡ false
-and-false true = refl
-and-false false = refl
 
 pub no-numbers : (r : Rec) → (eqb (r .a) 0 && eqb (r .b) 0 && eqb (r .c) 0) ≡ true → false ≡ badNumber r
 unfolding badNumber isSurrogate

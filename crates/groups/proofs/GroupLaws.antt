@@ -1,38 +1,18 @@
 -- The groups that the code reads are those of the definitions, for every kind.
-use mathlib.Core.Path.{_≡_, refl, sym, _∙_}
-use mathlib.Core.Bool.{Bool, true, false, not, _&&_, _||_, false≢true}
+use mathlib.Core.Path.{_≡_, refl}
+use mathlib.Core.Bool.{Bool, true, false, not, _&&_}
 use mathlib.Core.List.{List, []}
-use Prim.Native.Nat.{ℕ, _<_, _≤_}
-use native.Mathlib.Omega.{arith}
-use lib.Dec.{eqb, ltb, leb}
+use Prim.Native.Nat.{ℕ, _<_}
+use lib.Dec.{eqb}
 use lib.ListN.{getD}
 use borrow.Author.Needs.{needs}
-use borrow.Author.Tests.{eqb-true, ltb-true, ltb-false, lt-leb}
+use borrow.Author.Tests.{eqb-true}
 use Rattle.strings.specs.Lists.{if_then_else_}
 use Rattle.strings.proofs.Tests.{allBelow, each, and-left, and-right}
 use Rattle.recordkinds.specs.Kinds.{isKind, htmlContainer}
+use Rattle.recordkinds.proofs.KindLaws.{kind-below}
 use Rattle.groups.specs.KindGroups.{kindGroups}
 use Rattle.groups.specs.Groups.{otherGroup, parentGroup, childGroup, holdsTagsAndInlines}
-
-pub kind-below : (k : ℕ) → isKind k ≡ true → k < 54
-kind-below k h = go (ltb k 54) refl
-  where
-    not-kind : 54 ≤ k → isKind k ≡ false
-    not-kind m = rw (lt-leb k 17 (omega arith), lt-leb k 24 (omega arith), lt-leb k 53 (omega arith)) (all (leb 1 k) (leb 20 k) (leb 31 k))
-      where
-        all : (t u v : Bool) → ((t && false) || (u && false) || (v && false)) ≡ false
-        all true true true = refl
-        all true true false = refl
-        all true false true = refl
-        all true false false = refl
-        all false true true = refl
-        all false true false = refl
-        all false false true = refl
-        all false false false = refl
-
-    go : (t : Bool) → ltb k 54 ≡ t → k < 54
-    go true e = ltb-true k 54 e
-    go false e = absurd (false≢true (sym (not-kind (ltb-false k 54 e)) ∙ h))
 
 of-parent : ℕ → ℕ
 of-parent k = getD (getD kindGroups k []) 0 0

@@ -1,16 +1,15 @@
 -- What may stand where, for a record that is not misplaced: laws that walks and machine cite.
-use mathlib.Core.Path.{_≡_, refl, sym, _∙_}
-use mathlib.Core.Bool.{Bool, true, false, not, _&&_, _||_, false≢true, and-false}
-use Prim.Native.Nat.{ℕ, _<_, _≤_}
-use native.Mathlib.Omega.{arith}
-use borrow.Author.Tests.{ltb-false, leb-true, leb-false, lt-leb}
+use mathlib.Core.Path.{_≡_, refl}
+use mathlib.Core.Bool.{Bool, true, false, not, _&&_, _||_}
+use Prim.Native.Nat.{ℕ, _≤_}
+use borrow.Author.Tests.{ltb-false}
 use lib.Dec.{eqb, ltb, leb}
-use Rattle.strings.proofs.Tests.{allBelow, each}
+use Rattle.strings.proofs.Tests.{or-left, or-right, allBelow, each}
 use Rattle.recordkinds.specs.Kinds.{isBlock, isInline, isKind, item, row, cell, htmlTag, attribute}
+use Rattle.recordkinds.proofs.KindLaws.{kind-below}
 use Rattle.groups.specs.Groups.{holdsBlocks, holdsItems, holdsRows, holdsCells, holdsInlines, holdsLabel, holdsLabelAndBlocks, holdsTagsAndBlocks, holdsTagsAndInlines, holdsNothing, childGroup}
 use Rattle.standing.specs.Places.{places, placeOf, opened, joined, misplaced}
 use Rattle.standing.specs.declared.places.Open.{Open}
-use Rattle.strings.proofs.Tests.{or-left, or-right}
 
 -- ---- a record that is not misplaced has a place, at or after that of the child before it
 module _ (o : Open) (k : ℕ) (h : misplaced o k ≡ false) where
@@ -34,22 +33,12 @@ unfolding opened
 opened-group g = refl
 
 -- ---- a rule of all kinds under a group, by one computed test
-known : (k : ℕ) → isKind k ≡ true → k < 54
-known k h = go (leb k 53) refl
-  where
-    go : (t : Bool) → leb k 53 ≡ t → k < 54
-    go true e = let a : k ≤ 53 = leb-true k 53 e in omega arith
-    go false e =
-        let a : 53 < k = leb-false k 53 e in
-        let z : isKind k ≡ false = simp (lt-leb k 17 (omega arith), lt-leb k 24 (omega arith), lt-leb k 53 a, and-false) in
-        absurd (false≢true (sym z ∙ h))
-
 under-test : ℕ → (ℕ → Bool) → ℕ → Bool
 under-test g test k = not (isKind k && not (eqb (placeOf g k) 0)) || test k
 
 under-rule : (g : ℕ) (test : ℕ → Bool) → allBelow (under-test g test) 54 ≡ true → (o : Open) (k : ℕ) → o .group ≡ g → isKind k ≡ true → misplaced o k ≡ false → test k ≡ true
 unfolding under-test
-under-rule g test e o k f c h = rw (c, ← f, has-place o k h) at (each (under-test g test) 54 e k (known k c))
+under-rule g test e o k f c h = rw (c, ← f, has-place o k h) at (each (under-test g test) 54 e k (kind-below k c))
 
 module _ (o : Open) (k : ℕ) where
   pub blocks-only : o .group ≡ holdsBlocks → isKind k ≡ true → misplaced o k ≡ false → isBlock k ≡ true
