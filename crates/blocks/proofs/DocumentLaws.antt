@@ -6,17 +6,17 @@ use native.Mathlib.Nat.{sub-zero}
 use native.Mathlib.Omega.{arith}
 use borrow.Author.Tests.{lt-ltb}
 use lib.ListN.{length}
-use Rattle.sheet.specs.Sheet.{recordsOf}
-use Rattle.sheet.specs.Forest.{Forest, none, tree, deeper, forestOf, under}
-use Rattle.standing.specs.declared.places.Open.{Open}
-use Rattle.report.specs.Report.{Lists, start}
-use Rattle.report.specs.declared.entries.Tally.{Tally}
-use Rattle.recordtests.specs.Formed.{Formed, Sound}
-use Rattle.walks.specs.Walk.{Begin, Done}
-use Rattle.walks.specs.declared.trees.Walked.{Walked}
-use Rattle.walks.proofs.WalkLaws.{start-of}
-use Rattle.neighbours.specs.Taken.{first}
-use Rattle.blocks.specs.Blocks.{validateBlocks, validateDocument}
+use Rattle.leaves.specs.Sheet.Records.{recordsOf}
+use Rattle.leaves.specs.Sheet.Forest.{Forest, none, tree, deeper, forestOf, under}
+use Rattle.leaves.specs.declared.refusal.places.Open.{Open}
+use Rattle.leaves.specs.Report.Entries.{Lists, start}
+use Rattle.leaves.specs.declared.report.entries.Tally.{Tally}
+use Rattle.leaves.specs.Refusal.Formed.{Formed, Sound}
+use Rattle.inlines.specs.Walk.{Begin, Done}
+use Rattle.inlines.specs.declared.walk.Walked.{Walked}
+use Rattle.inlines.proofs.WalkLaws.{start-of}
+use Rattle.blocks.specs.Before.{first}
+use Rattle.blocks.specs.Walk.{validateBlocks, validateDocument}
 
 formed-deeper : (bytes : List ℕ) (l : ℕ) (o : Open) (f : Forest) → Formed bytes l o f → deeper l f ≡ f
 unfolding Formed deeper

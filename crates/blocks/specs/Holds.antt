@@ -2,7 +2,7 @@
 use Prim.Native.Nat.{ℕ}
 use mathlib.Core.Bool.{Bool, _&&_, _||_}
 use lib.Dec.{eqb}
-use Rattle.recordkinds.specs.Kinds.{blockQuote, alert, htmlContainer, footnoteDefinition, containerDirective}
+use Rattle.leaves.specs.Sheet.Kinds.{blockQuote, alert, htmlContainer, footnoteDefinition, containerDirective}
 
 -- Quotes, alerts, footnote definitions, container directives, and HTML containers of blocks (A is 0)
 unfoldable pub holdsBlocks : ℕ → ℕ → Bool

@@ -1,7 +1,7 @@
 // Which blocks hold blocks.
 ghost use mathlib.Core.Path.{_≡_};
 ghost use Rattle.blocks.specs.Holds.{holdsBlocks};
-use recordkinds::kinds;
+use leaves::sheet::kinds;
 
 // The blocks that hold blocks.
 pub fn holds_blocks(kind: u32, a: u32) -> bool

@@ -2,28 +2,28 @@
 use mathlib.Core.Path.{_≡_, refl}
 use mathlib.Core.List.{List, [], _∷_, map}
 use Prim.Native.Nat.{ℕ}
-use Rattle.strings.specs.Lists.{all, any, firstOr, lastOr}
-use Rattle.multiline.specs.Lines.{holdsLineEnding, longer, startsWith}
-use Rattle.leaves.specs.Math.{holdsBacktickDollar}
-use Rattle.names.specs.Names.{isDirectiveName, isRun, runs, isAttributeName}
-use Rattle.parts.specs.Part.{partOf}
-use Rattle.leaves.specs.Pipe.{hasOddEscapedPipe, oddPipeAfter}
-use Rattle.scalars.specs.Scalars.{scalars, decode, emit, leadBits, trailBits}
-use Rattle.unicode.specs.Utf8.{follow, table}
-use Rattle.scalars.specs.White.{isWhite, startsWithWhite, endsWithWhite}
-use Rattle.texts.specs.Texts.{textOf}
-use Rattle.sheet.specs.Forest.{Forest, none, tree}
-use Rattle.recordkinds.specs.Kinds.{attribute, text, escape, emphasis, strong, delete, mark, code, link, autolink, image, linkReference, imageReference, softBreak, lineBreak, math, footnoteReference, inlineFootnote, wikiLink, textDirective}
-use Rattle.report.specs.Report.{Entry, listIf, _⊕_}
-use Rattle.sheet.specs.declared.records.Rec.{Rec}
-use Rattle.sheet.specs.declared.records.Text.{Text}
-use Rattle.facts.specs.Values.{startsWhite, endsWhite, isUnwritable, isBadAttribute}
-use Rattle.checks.specs.Single.{validateDestination, validateIdentifier, validateEscape, validateDirectiveName, validateSiblings}
-use Rattle.literals.specs.Literals.{validateText, validateCodeInline, validateMathInline}
-use Rattle.attributes.specs.Attributes.{validateDirectiveAttributes}
-use Rattle.linktext.specs.LinkText.{validateLinkText}
-use Rattle.depths.specs.Every.{validateCellValues, validateOneLine, eachRecord}
-use Rattle.inlines.specs.Inlines.{noInline, allEmpty, startsWithWhitespace, endsWithWhitespaceAfter, endsWithWhitespace, holdsJoined, validateTextDirective, finalBreakAfter, finalBreak, validateEmphasisContainer, validateInline, validateInlineValues, validateNode, validateInlineNodesAfter, validateInlineNodes, validateInlines}
+use Rattle.leaves.specs.Text.Lists.{all, any, firstOr, lastOr}
+use Rattle.leaves.specs.Text.Lines.{holdsLineEnding, longer, startsWith}
+use Rattle.leaves.specs.Text.Math.{holdsBacktickDollar}
+use Rattle.leaves.specs.Text.Name.{isDirectiveName, isRun, runs, isAttributeName}
+use Rattle.leaves.specs.Text.Part.{partOf}
+use Rattle.leaves.specs.Text.Pipe.{hasOddEscapedPipe, oddPipeAfter}
+use Rattle.leaves.specs.Text.Scalars.{scalars, decode, emit, leadBits, trailBits}
+use Rattle.leaves.specs.Text.Utf8.{follow, table}
+use Rattle.leaves.specs.Text.White.{isWhite, startsWithWhite, endsWithWhite}
+use Rattle.leaves.specs.Sheet.Texts.{textOf}
+use Rattle.leaves.specs.Sheet.Forest.{Forest, none, tree}
+use Rattle.leaves.specs.Sheet.Kinds.{attribute, text, escape, emphasis, strong, delete, mark, code, link, autolink, image, linkReference, imageReference, softBreak, lineBreak, math, footnoteReference, inlineFootnote, wikiLink, textDirective}
+use Rattle.leaves.specs.Report.Entries.{Entry, listIf, _⊕_}
+use Rattle.leaves.specs.declared.sheet.records.Rec.{Rec}
+use Rattle.leaves.specs.declared.sheet.records.Text.{Text}
+use Rattle.inlines.specs.Values.{startsWhite, endsWhite, isUnwritable, isBadAttribute}
+use Rattle.inlines.specs.Single.{validateDestination, validateIdentifier, validateEscape, validateDirectiveName, validateSiblings}
+use Rattle.inlines.specs.Literal.{validateText, validateCodeInline, validateMathInline}
+use Rattle.inlines.specs.Attribute.{validateDirectiveAttributes}
+use Rattle.inlines.specs.Link.{validateLinkText}
+use Rattle.inlines.specs.Depth.{validateCellValues, validateOneLine, eachRecord}
+use Rattle.inlines.specs.Nodes.{noInline, allEmpty, startsWithWhitespace, endsWithWhitespaceAfter, endsWithWhitespace, holdsJoined, validateTextDirective, finalBreakAfter, finalBreak, validateEmphasisContainer, validateInline, validateInlineValues, validateNode, validateInlineNodesAfter, validateInlineNodes, validateInlines}
 
 -- ---- records over the text
 bytes : List ℕ

@@ -1,2 +1,16 @@
-pub mod NodeLaws
+pub mod AttributeLaws
+pub mod ContentLaws
+pub mod DecideLaws
+pub mod DepthLaws
+pub mod GatherLaws
 pub mod InlineExamples
+pub mod LinkLaws
+pub mod LiteralLaws
+pub mod NodeLaws
+pub mod NodesLaws
+pub mod OwnLaws
+pub mod PathLaws
+pub mod SingleLaws
+pub mod TreeLaws
+pub mod ValueLaws
+pub mod WalkLaws

@@ -1,70 +1,54 @@
--- The walk from inline to inline: one law for each way through its functions.
-use mathlib.Core.Path.{_≡_, refl}
-use mathlib.Core.Bool.{Bool, true, false, not}
-use mathlib.Core.List.{List, []}
-use Prim.Native.Nat.{ℕ, _+_, _-_, _*_, _<_, _≤_}
-use native.Mathlib.Omega.{arith}
-use borrow.Author.Tests.{not-true, not-false}
-use lib.ListN.{length}
-use Rattle.strings.specs.Lists.{if_then_else_}
-use Rattle.recordkinds.specs.Kinds.{isInline}
-use Rattle.sheet.specs.Sheet.{recordAt}
-use Rattle.sheet.specs.Forest.{Forest, none, under, size}
-use Rattle.report.specs.Report.{Entry, Lists, _⊕_}
-use Rattle.sheet.specs.declared.records.Rec.{Rec}
-use Rattle.report.specs.declared.entries.Tally.{Tally}
-use Rattle.sheet.proofs.Trees.{under-in}
-use Rattle.report.proofs.ReportLaws.{lists-none, lists-then}
-use Rattle.checks.specs.Single.{validateSiblings}
-use Rattle.inlines.specs.Inlines.{finalBreak, validateInline, validateNode, validateInlineNodesAfter, validateInlineNodes, validateInlines}
-use Rattle.walks.specs.Walk.{Done}
-use Rattle.inlines.specs.Here.{Here}
-use Rattle.walks.specs.declared.trees.Walked.{Walked}
-use Rattle.walks.proofs.WalkLaws.{Loop, behindKids, skip-tree, loop-turn}
+-- What one inline lists of itself, by what its calls answered: one law for each way through.
+use mathlib.Core.Path.{_≡_}
+use mathlib.Core.Bool.{Bool, false, not, _&&_, _||_}
+use mathlib.Core.List.{List}
+use Prim.Native.Nat.{ℕ}
+use borrow.Author.Needs.{needs}
+use borrow.Author.Tests.{ne-eqb}
+use Rattle.leaves.specs.Sheet.Kinds.{link, linkReference, inlineFootnote, textDirective}
+use Rattle.leaves.specs.Sheet.Forest.{Forest, under}
+use Rattle.leaves.specs.Report.Entries.{Entry, Lists, listIf, _⊕_}
+use Rattle.leaves.specs.declared.sheet.records.Rec.{Rec}
+use Rattle.leaves.specs.declared.sheet.records.Span.{Span}
+use Rattle.leaves.specs.declared.sheet.records.Text.{Text}
+use Rattle.leaves.specs.declared.report.entries.Tally.{Tally}
+use Rattle.leaves.proofs.report.EntryLaws.{lists-then}
+use Rattle.inlines.specs.Gathered.{contentOf}
+use Rattle.inlines.specs.Single.{validateDirectiveName}
+use Rattle.inlines.specs.Attribute.{validateDirectiveAttributes}
+use Rattle.inlines.specs.Content.{noInline}
+use Rattle.inlines.specs.Node.{validateTextDirective, validateEmphasisContainer, validateInline}
+use Rattle.inlines.specs.Own.{validateInlineValues}
+use Rattle.leaves.specs.Report.Rules
+use Rattle.leaves.specs.Sheet.Classes.{isEmphasisContainer}
+use Rattle.inlines.specs.Walk.{Done}
+use Rattle.inlines.specs.declared.gathered.Content.{Content}
+use Rattle.inlines.specs.declared.walk.Walked.{Walked}
+use Rattle.inlines.proofs.ContentLaws.{says-none, says-empty, says-starts, says-ends, says-joined, says-last}
 
--- ---- one record: what its children list, by a call
-abbrev pub underOf : List ℕ → List ℕ → List ℕ → ℕ → ℕ → ℕ → List Entry
-underOf bytes path w n i level = validateInlineNodesAfter bytes path 0 (under w n (i + 1) level)
+-- ---- by what was gathered of the children
+module _ (bytes path : List ℕ) (outer a : ℕ) (f : Forest) {s t : Tally} {x y : List ℕ} {c : Content} (is : c ≡ contentOf bytes outer a f) where
+  pub footnote-law : (span : Span) → Lists s t x y (listIf (not (c .some)) Rules.emptyInlineFootnote span path) → Lists s t x y (listIf (noInline f) Rules.emptyInlineFootnote span path)
+  footnote-law span l = rw (says-none bytes outer a f is) at l
 
-module _ (bytes path w : List ℕ) (n i level before : ℕ) {s : Tally} {x : List ℕ} {r : Rec} {f : Bool} (e : r ≡ recordAt w i) (g : f ≡ isInline (r .kind)) where
-  pub node-other : {j : ℕ} → not f ≡ true → j ≡ i + 1 + size (under w n (i + 1) level) → Done w n (i + 1) level (validateNode bytes path before (recordAt w i) (under w n (i + 1) level) (underOf bytes path w n i level)) s x (record { next = j; tally = s }) x
-  unfolding validateNode
-  node-other h j = let no-inline : isInline (recordAt w i .kind) ≡ false = not-true _ (rw (g, e) at h) in record { next = j; lists = rw no-inline lists-none }
+  pub emphasis-law : (span : Span) {u v o : Tally} {z p q : List ℕ} → Lists s t x y (listIf (c .empty) Rules.emptyEmphasis span path) → Lists t u y z (listIf (not (c .empty) && (c .starts || c .ends)) Rules.whiteEmphasis span path) → Lists u v z p (listIf (c .joined) Rules.joinedEmphasis span path) → Lists v o p q (listIf (c .breaks) Rules.finalHardBreak (c .last) path) → Lists s o x q (validateEmphasisContainer bytes path span outer a f)
+  unfolding validateEmphasisContainer
+  emphasis-law span k l m n =
+      lists-then (rw (says-empty bytes outer a f is) at k) (lists-then (rw (says-empty bytes outer a f is, says-starts bytes outer a f is, says-ends bytes outer a f is) at l) (lists-then (rw (says-joined bytes outer a f is) at m) (rw (says-last bytes outer a f is path) at n)))
 
-  pub node-done : {t u : Tally} {y z o : List ℕ} {q : Walked} → not f ≡ false → Here w path n i level → Lists s t x y (validateSiblings path (r .span) before (r .kind) (r .a)) → Lists t u y z (validateInline bytes path r (under w n (i + 1) (r .level))) → Done w n (i + 1) level (underOf bytes path w n i level) u z q o → Done w n (i + 1) level (validateNode bytes path before (recordAt w i) (under w n (i + 1) level) (underOf bytes path w n i level)) s x q o
-  unfolding validateNode
-  node-done {t} {u} {y} {z} h at a b d =
-      let inline : isInline (recordAt w i .kind) ≡ true = not-false _ (rw (g, e) at h) in
-      let own : Lists t u y z (validateInline bytes path (recordAt w i) (under w n (i + 1) level)) = rw (at .is) (rw e at b) in
-      record { next = d .next; lists = rw inline (lists-then (rw e at a) (lists-then own (d .lists))) }
+-- ---- by what a walk over the children listed after it
+module _ {w : List ℕ} {n from level : ℕ} {s t : Tally} {x y z : List ℕ} {r : Walked} where
+  pub then-walked : {es fs : List Entry} → Lists s t x y es → Done w n from level fs t y r z → Lists s (r .tally) x z (es ⊕ fs)
+  then-walked l d = lists-then l (d .lists)
 
--- ---- from one to the next
-pub nodes-none : (bytes path : List ℕ) (before : ℕ) → validateInlineNodesAfter bytes path before none ≡ []
-unfolding validateInlineNodesAfter
-nodes-none bytes path before = refl
+  pub directive-law : (bytes path : List ℕ) (span : Span) (name : Text) → Lists s t x y (validateDirectiveName bytes path span name) → Done w n from level (validateDirectiveAttributes bytes path (under w n from level)) t y r z → Lists s (r .tally) x z (validateTextDirective bytes path span name (under w n from level))
+  unfolding validateTextDirective
+  directive-law bytes path span name l d = lists-then l (d .lists)
 
-nodes-step : (bytes path : List ℕ) (before : ℕ) (w : List ℕ) (n i l : ℕ) → i < n → l < recordAt w i .level → validateInlineNodesAfter bytes path before (under w n i l) ≡ validateNode bytes path before (recordAt w i) (under w n (i + 1) (recordAt w i .level)) (underOf bytes path w n i (recordAt w i .level)) ⊕ validateInlineNodesAfter bytes path (if isInline (recordAt w i .kind) then recordAt w i .kind else before) (under w n (behindKids w n i) l)
-unfolding validateInlineNodesAfter
-nodes-step bytes path before w n i l b d = rw (under-in w n i l b d)
+pub ruleset parts = (footnote-law, emphasis-law, then-walked, directive-law, needs)
 
--- what a call for record i is given
-pub node-here : {es : List Entry} {h : Forest → List Entry} {path w : List ℕ} {n from level : ℕ} {s : Tally} {x : List ℕ} {i : ℕ} {t : Tally} {y : List ℕ} → Loop es h w path n from level s x i t y → {r : Rec} → i < n → r ≡ recordAt w i → Here w path n i (r .level)
-node-here v b e =
-    let p = v .start in
-    record { start = record { whole = p .whole; few = p .few; shallow = p .shallow; inside = omega arith; short = p .short }; is = rw e }
-
--- its level is deeper, and no level is more than 64
-pub node-falls : {es : List Entry} {h : Forest → List Entry} {path w : List ℕ} {n from level : ℕ} {s : Tally} {x : List ℕ} {i : ℕ} {t : Tally} {y : List ℕ} → Loop es h w path n from level s x i t y → {r : Rec} → i < n → r ≡ recordAt w i → level < r .level → 2 * (64 - r .level) + 1 < 2 * (64 - level)
-node-falls {i = i} v {r} b e d = let most : r .level ≤ 64 = rw e (v .start .shallow i b) in omega arith
-
-pub nodes-turn : (bytes : List ℕ) (before : ℕ) {path w : List ℕ} {n from level : ℕ} {es : List Entry} {s : Tally} {x : List ℕ} {i : ℕ} {t : Tally} {y : List ℕ} → Loop es (validateInlineNodesAfter bytes path before) w path n from level s x i t y → {z : List ℕ} {r : Rec} {f : Bool} {b : ℕ} {q : Walked} → i < n → r ≡ recordAt w i → level < r .level → Done w n (i + 1) (r .level) (validateNode bytes path before (recordAt w i) (under w n (i + 1) (r .level)) (underOf bytes path w n i (r .level))) t y q z → f ≡ isInline (r .kind) → b ≡ (if f then r .kind else before) → length z ≡ length y → Loop es (validateInlineNodesAfter bytes path b) w path n from level s x (q .next) (q .tally) z
-nodes-turn bytes before {path} {w} {n} {from} {level} {i = i} v {r = r} {f} {b} {q} h e d k g l o =
-    let d′ : level < recordAt w i .level = rw e at d in
-    let l′ : b ≡ (if isInline (recordAt w i .kind) then recordAt w i .kind else before) = rw (g, e) at l in
-    let k′ : Done w n (i + 1) (recordAt w i .level) _ _ _ q _ = rw e at k in
-    rw (l′, k′ .next) (loop-turn v (skip-tree w n from level (v .at) h d′) (nodes-step bytes path before w n i level h d′) (k′ .lists) o)
-
--- `validate_inlines`
-pub inlines-done : (bytes path : List ℕ) {w : List ℕ} {n from level : ℕ} {s t : Tally} {x y z : List ℕ} {q : Walked} → Lists s t x y (finalBreak path (under w n from level)) → Done w n from level (validateInlineNodesAfter bytes path 0 (under w n from level)) t y q z → Done w n from level (validateInlines bytes path (under w n from level)) s x q z
-unfolding validateInlines validateInlineNodes
-inlines-done bytes path a d = record { next = d .next; lists = lists-then a (d .lists) }
+-- ---- the kinds that no arm names, in the shape that a `match` gives for its `_`
+pub of-others : (bytes path : List ℕ) (r : Rec) (kids : Forest) {s t : Tally} {x y : List ℕ} {f : Bool} → f ≡ isEmphasisContainer (r .kind) → f ≡ false → ((((Unit {0} × (r .kind ≡ link → ⊥)) × (r .kind ≡ linkReference → ⊥)) × (r .kind ≡ textDirective → ⊥)) × (r .kind ≡ inlineFootnote → ⊥)) → Lists s t x y (validateInlineValues bytes path r) → Lists s t x y (validateInline bytes path r kids)
+unfolding validateInline
+of-others bytes path r kids e f none-of l =
+    rw (← e, f, ne-eqb (r .kind) link (none-of .0 .0 .0 .1), ne-eqb (r .kind) linkReference (none-of .0 .0 .1), ne-eqb (r .kind) textDirective (none-of .0 .1), ne-eqb (r .kind) inlineFootnote (none-of .1)) l

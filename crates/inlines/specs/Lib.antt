@@ -1,2 +1,13 @@
-pub mod Inlines
+pub mod Attribute
+pub mod Content
+pub mod Depth
+pub mod Gathered
 pub mod Here
+pub mod Link
+pub mod Literal
+pub mod Node
+pub mod Nodes
+pub mod Own
+pub mod Single
+pub mod Values
+pub mod Walk

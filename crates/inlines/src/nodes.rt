@@ -1,18 +1,18 @@
 // The walk of inlines: each with the one before it, by its kind and with its children.
 ghost use Prim.Native.Nat.{_+_};
-ghost use Rattle.sheet.specs.Sheet.{recordAt};
-ghost use Rattle.sheet.specs.Forest.{under};
-ghost use Rattle.inlines.specs.Inlines.{validateInlineNodesAfter, validateInlines, validateNode};
-ghost use Rattle.walks.specs.Walk.{Start, Done};
+ghost use Rattle.leaves.specs.Sheet.Records.{recordAt};
+ghost use Rattle.leaves.specs.Sheet.Forest.{under};
+ghost use Rattle.inlines.specs.Nodes.{validateInlineNodesAfter, validateInlines, validateNode};
+ghost use Rattle.inlines.specs.Walk.{Start, Done};
 ghost use Rattle.inlines.specs.Here.{Here};
-use checks::single;
-use contents::content::final_break;
-use oneinline::inline::validate_inline;
-use recordkinds::kinds;
-use report::entries::Tally;
-use sheet::records::record_at;
-use walks::trees::Walked;
-use walks::trees::skip;
+use crate::content::final_break;
+use crate::node::validate_inline;
+use crate::single;
+use crate::walk::Walked;
+use crate::walk::skip;
+use leaves::report::entries::Tally;
+use leaves::sheet::kinds;
+use leaves::sheet::records::record_at;
 
 // Record `i`, of level `level`, behind an inline of the kind `before`: both side by side, then itself, then its children. A record that is no inline is passed over.
 fn validate_node(

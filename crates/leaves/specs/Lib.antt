@@ -1,3 +1,4 @@
-pub mod Title
-pub mod Pipe
-pub mod Math
+pub mod Refusal
+pub mod Report
+pub mod Sheet
+pub mod Text

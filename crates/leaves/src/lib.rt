@@ -1,4 +1,5 @@
-// The byte facts that the rules stand on: titles, pipes, math. Each module's definitions are in the file of specs/ that bears its name.
-pub mod math;
-pub mod pipe;
-pub mod title;
+// The leaves: what is asked of bytes and texts; the sheet's records; which sheets are refused; the report. Each module's definitions are in the file of specs/ that bears its name.
+pub mod refusal;
+pub mod report;
+pub mod sheet;
+pub mod text;

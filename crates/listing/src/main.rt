@@ -1,10 +1,10 @@
 // Lists what the check and the setting machine find in a film on standard input. What is printed for what is read is proved of `list`.
 use libc::STDIN_FILENO;
 use libc::STDOUT_FILENO;
-use lister::program::list;
-use printing::print::OUTPUT_BYTES;
+use setter::listing::print::OUTPUT_BYTES;
+use setter::listing::program::list;
 
-// One byte more than the largest film has: a longer one is listed by these bytes as it would be whole (`listing-cut` of `lister`).
+// One byte more than the largest film has: a longer one is listed by these bytes as it would be whole (`listing-cut` of `setter`).
 const INPUT_BYTES: usize = 84504;
 
 fn input_bytes() -> [u8; INPUT_BYTES] {

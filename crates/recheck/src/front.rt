@@ -1,6 +1,6 @@
 // The exported functions by number, on the front of what is lent.
-use reedsander::exports::reedsander_check;
-use reedsander::exports::reedsander_set;
+use setter::exports::reedsander_check;
+use setter::exports::reedsander_set;
 
 pub const CHECK: usize = 0;
 

@@ -1,7 +1,7 @@
 // A stored call with a long sheet or a long text: the function, the words of the sheet, the bytes of the text, the words lent to be written into, how many bytes of those are 0 behind the call (4 bytes each); the answer (8 bytes). The sheet is of thematic breaks, the text of zeros.
 ghost use Prim.Native.Nat.{_<_};
 use crate::front;
-use parts::part::part;
+use leaves::text::part::part;
 use stored::read;
 use stored::tally::Tally;
 use stored::words;

@@ -3,7 +3,7 @@ mod front;
 mod long;
 mod record;
 
-use parts::part::part;
+use leaves::text::part::part;
 use stored::line::write_line;
 use stored::piece::Got;
 use stored::piece::Step;

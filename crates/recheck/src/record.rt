@@ -1,7 +1,7 @@
 // A stored check and setting: a head of six counts (words of the sheet, bytes of the text, words of the list, words of the report, marks that are written, marks) and two answers (the check's, the setting machine's); behind it the sheet, the text, the list and the marks that are written.
 ghost use Prim.Native.Nat.{_≤_};
 use crate::front;
-use parts::part::part;
+use leaves::text::part::part;
 use stored::read;
 use stored::tally::Tally;
 use stored::words;

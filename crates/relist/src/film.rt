@@ -1,6 +1,6 @@
 // A stored film: how many bytes it has and how many are printed for it (4 bytes each), the film, what is printed.
-use lister::program::list;
-use printing::print::OUTPUT_BYTES;
+use setter::listing::print::OUTPUT_BYTES;
+use setter::listing::program::list;
 use stored::tally::Tally;
 
 // How many bytes stand before the film.

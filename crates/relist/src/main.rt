@@ -1,7 +1,7 @@
 // Replays the stored films in data/ (rust/vectors writes them) through the listing and counts what differs in what is printed.
 mod film;
 
-use parts::part::part;
+use leaves::text::part::part;
 use stored::line::write_line;
 use stored::piece::Got;
 use stored::piece::Step;

@@ -1,15 +1,15 @@
 // Sheets of one paragraph with what the Rust lists of its inlines.
 ghost use Prim.Native.Nat.{_≤_};
 use inlines::nodes::validate_inlines;
-use parts::part::part;
-use refusal::judge;
-use report::entries;
-use sheet::records::RECORD_WORDS;
+use leaves::refusal::judge;
+use leaves::refusal::verdict::Judged;
+use leaves::report::entries;
+use leaves::sheet::records::RECORD_WORDS;
+use leaves::text::part::part;
 use stored::read;
 use stored::tally::Tally;
 use stored::words;
 use stored::words::fill;
-use verdicts::verdict::Judged;
 
 // How many bytes stand before a record's words: how many words the sheet has, how many bytes its text, how many words the list.
 pub const HEAD: usize = 6;

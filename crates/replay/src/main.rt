@@ -6,8 +6,8 @@ mod texts;
 mod values;
 
 ghost use Prim.Native.Nat.{_≤_};
+use leaves::text::part::part;
 use libc::STDOUT_FILENO;
-use parts::part::part;
 use stored::line::write_line;
 use stored::piece::Got;
 use stored::piece::Step;

@@ -1,10 +1,10 @@
 // Sheets with the refusal that a plain reading of document 01 gives each.
 ghost use Prim.Native.Nat.{_≤_};
+use leaves::refusal::verdict;
+use leaves::refusal::verdict::Judged;
 use stored::read;
 use stored::tally::Tally;
 use stored::words::fill;
-use verdicts::verdict;
-use verdicts::verdict::Judged;
 
 // How many bytes stand before a record's words: two counts, the number, and its record.
 pub const HEAD: usize = 7;
@@ -30,12 +30,12 @@ pub fn behind(r: &[u8]) -> usize
 // The answer for a stored sheet, whose words are brought to `words`; none where they do not fit.
 fn judged(words: &mut [u32], r: &[u8]) -> Judged {
     let n = words_of(r);
-    fill(words, parts::part::part(r, HEAD, n * 4));
-    let text = parts::part::part(r, HEAD + n * 4, text_bytes_of(r));
+    fill(words, leaves::text::part::part(r, HEAD, n * 4));
+    let text = leaves::text::part::part(r, HEAD + n * 4, text_bytes_of(r));
     if words.len() < n {
         return Judged::Accepted;
     }
-    refusal::judge::accept(&words[..n], text)
+    leaves::refusal::judge::accept(&words[..n], text)
 }
 
 // Both the number and the record of the answer are compared.

@@ -1,5 +1,5 @@
 // Texts with the answers of each function that takes one.
-use fences::fence::FrontmatterKind;
+use leaves::text::fence::FrontmatterKind;
 use stored::read;
 use stored::tally::Tally;
 ghost use Prim.Native.Nat.{_≤_};
@@ -13,14 +13,14 @@ fn flag(yes: bool, weight: u32) -> u32
 fn first_seven(s: &[u8]) -> u32
     ensures { λ r. ⌜ r ≤ 0x7F ⌝ }
 {
-    flag(unicode::utf8::is_utf8(s), 0x01)
-        + flag(scalars::white::starts_with_white(s), 0x02)
-        + flag(scalars::white::ends_with_white(s), 0x04)
-        + flag(multiline::lines::holds_line_ending(s), 0x08)
-        + flag(multiline::lines::is_blank(s), 0x10)
-        + flag(edges::edge::has_blank_edge_line(s), 0x20)
+    flag(leaves::text::utf8::is_utf8(s), 0x01)
+        + flag(leaves::text::white::starts_with_white(s), 0x02)
+        + flag(leaves::text::white::ends_with_white(s), 0x04)
+        + flag(leaves::text::lines::holds_line_ending(s), 0x08)
+        + flag(leaves::text::lines::is_blank(s), 0x10)
+        + flag(leaves::text::edges::has_blank_edge_line(s), 0x20)
         + flag(
-            fences::fence::holds_fence_line(s, FrontmatterKind::Yaml),
+            leaves::text::fence::holds_fence_line(s, FrontmatterKind::Yaml),
             0x40,
         )
 }
@@ -29,15 +29,15 @@ fn last_seven(s: &[u8]) -> u32
     ensures { λ r. ⌜ r ≤ 0x7F ⌝ }
 {
     flag(
-        fences::fence::holds_fence_line(s, FrontmatterKind::Toml),
+        leaves::text::fence::holds_fence_line(s, FrontmatterKind::Toml),
         0x01,
     )
-        + flag(leaves::title::is_alert_title(s), 0x02)
-        + flag(leaves::pipe::has_odd_escaped_pipe(s), 0x04)
-        + flag(names::name::is_directive_name(s), 0x08)
-        + flag(names::name::is_attribute_name(s), 0x10)
-        + flag(names::name::is_blank_identifier(s), 0x20)
-        + flag(leaves::math::holds_backtick_dollar(s), 0x40)
+        + flag(leaves::text::title::is_alert_title(s), 0x02)
+        + flag(leaves::text::pipe::has_odd_escaped_pipe(s), 0x04)
+        + flag(leaves::text::name::is_directive_name(s), 0x08)
+        + flag(leaves::text::name::is_attribute_name(s), 0x10)
+        + flag(leaves::text::name::is_blank_identifier(s), 0x20)
+        + flag(leaves::text::math::holds_backtick_dollar(s), 0x40)
 }
 
 // The answers of the fourteen functions, the first as the lowest bit.
@@ -81,7 +81,7 @@ pub fn behind(r: &[u8]) -> usize
 pub fn replay_record(r: &[u8], tally: Tally) -> Tally {
     let n = read::size(read::byte(r, 0));
     let both = read::number(r, 1);
-    let text = parts::part::part(r, HEAD, n);
+    let text = leaves::text::part::part(r, HEAD, n);
     compare(
         both % 0x1_0000,
         both / 0x1_0000,

@@ -15,9 +15,9 @@ pub fn behind_pair(r: &[u8]) -> usize
 pub fn replay_pair(r: &[u8], tally: Tally) -> Tally {
     let n = read::size(read::byte(r, 0));
     let m = read::size(read::byte(r, 1));
-    let same = parts::same::same_bytes(
-        parts::part::part(r, PAIR, n),
-        parts::part::part(r, n + PAIR, m),
+    let same = leaves::text::same::same_bytes(
+        leaves::text::part::part(r, PAIR, n),
+        leaves::text::part::part(r, n + PAIR, m),
     );
     tally.record().compare(same == (read::byte(r, 2) == 1))
 }
@@ -26,7 +26,7 @@ pub fn replay_pair(r: &[u8], tally: Tally) -> Tally {
 pub const PUNCTUATION: usize = 5;
 
 pub fn replay_punctuation(r: &[u8], tally: Tally) -> Tally {
-    let found = parts::punctuation::is_ascii_punctuation(read::number(r, 0));
+    let found = leaves::text::punctuation::is_ascii_punctuation(read::number(r, 0));
     tally.record().compare(found == (read::byte(r, 4) == 1))
 }
 
@@ -42,9 +42,9 @@ pub fn behind_part(r: &[u8]) -> usize
 // The part is of the text 0, 1, .. 15.
 pub fn replay_part(r: &[u8], tally: Tally) -> Tally {
     let text = [0u8, 1, 2, 3, 4, 5, 6, 7, 8, 9, 10, 11, 12, 13, 14, 15];
-    let found = parts::part::part(&text, read::long_number(r, 0), read::long_number(r, 8));
-    let expected = parts::part::part(r, PART, behind_part(r));
+    let found = leaves::text::part::part(&text, read::long_number(r, 0), read::long_number(r, 8));
+    let expected = leaves::text::part::part(r, PART, behind_part(r));
     tally
         .record()
-        .compare(parts::same::same_bytes(found, expected))
+        .compare(leaves::text::same::same_bytes(found, expected))
 }

@@ -6,20 +6,20 @@ use Prim.Native.Nat.{ℕ}
 use native.Mathlib.Omega.{arith}
 use lib.Dec.{ltb}
 use lib.ListN.{length, drop}
-use Rattle.report.specs.Report.{Entry, flat, entriesIn}
-use Rattle.report.proofs.ReportLaws.{read-back}
-use Rattle.verdicts.specs.Verdict.{isAccepted}
-use Rattle.refusal.specs.Refusal.{judgeSheet}
-use Rattle.verdicts.proofs.VerdictLaws.{is-accepted}
-use Rattle.verdicts.specs.declared.verdict.Judged.the-variants.{Accepted}
-use Rattle.blocks.specs.Blocks.{validateDocument}
-use Rattle.checker.specs.Check.{outcome}
-use Rattle.answers.specs.declared.answer.Checked.{Checked}
-use Rattle.answers.specs.declared.answer.Checked.the-variants.{Listed, Refused, ShortReport}
-use Rattle.setting.specs.Setting.{settingOf}
-use Rattle.answers.specs.declared.setting.Setting.{Setting}
-use Rattle.demand.specs.Demand.{Demand}
-use Rattle.demand.proofs.Demand.{demand-accepted}
+use Rattle.leaves.specs.Report.Entries.{Entry, flat, entriesIn}
+use Rattle.leaves.proofs.report.EntryLaws.{read-back}
+use Rattle.leaves.specs.Refusal.Verdict.{isAccepted}
+use Rattle.leaves.specs.Refusal.Judge.{judgeSheet}
+use Rattle.leaves.proofs.refusal.VerdictLaws.{is-accepted}
+use Rattle.leaves.specs.declared.refusal.verdict.Judged.the-variants.{Accepted}
+use Rattle.blocks.specs.Walk.{validateDocument}
+use Rattle.blocks.specs.Check.{outcome}
+use Rattle.blocks.specs.declared.answer.Checked.{Checked}
+use Rattle.blocks.specs.declared.answer.Checked.the-variants.{Listed, Refused, ShortReport}
+use Rattle.setter.specs.Setting.{settingOf}
+use Rattle.setter.specs.declared.answer.Setting.{Setting}
+use Rattle.setter.specs.Agrees.{Demand}
+use Rattle.setter.proofs.agrees.Demand.{demand-accepted}
 use Rattle.setter.specs.Both.{Done}
 
 -- a check that lists has accepted the sheet, and its entries are read back from the report

@@ -2,13 +2,13 @@
 use Prim.Native.Nat.{ℕ}
 use mathlib.Core.Path.{_≡_}
 use mathlib.Core.List.{List}
-use Rattle.report.specs.Report.{entriesIn}
-use Rattle.checker.specs.Check.{outcome}
-use Rattle.answers.specs.declared.answer.Checked.{Checked}
-use Rattle.answers.specs.declared.answer.Checked.the-variants.{Listed}
-use Rattle.setting.specs.Setting.{settingOf}
-use Rattle.answers.specs.declared.setting.Setting.{Setting}
-use Rattle.demand.specs.Demand.{Agrees}
+use Rattle.leaves.specs.Report.Entries.{entriesIn}
+use Rattle.blocks.specs.Check.{outcome}
+use Rattle.blocks.specs.declared.answer.Checked.{Checked}
+use Rattle.blocks.specs.declared.answer.Checked.the-variants.{Listed}
+use Rattle.setter.specs.Setting.{settingOf}
+use Rattle.setter.specs.declared.answer.Setting.{Setting}
+use Rattle.setter.specs.Agrees.{Agrees}
 
 -- a sheet, its text, the report and the marks before; the check's answer and the report after it; the machine's answer and the marks after it
 pub record Done (w bytes report marks : List ℕ) (checked : Checked) (written : List ℕ) (set : Setting) (marked : List ℕ) : Type 0 where

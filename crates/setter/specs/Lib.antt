@@ -1,1 +1,9 @@
+pub mod Agrees
+pub mod Answer
 pub mod Both
+pub mod Kept
+pub mod Listing
+pub mod Machine
+pub mod MachineRunning
+pub mod Packed
+pub mod Setting

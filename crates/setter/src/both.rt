@@ -1,9 +1,9 @@
 // The check and the setting machine, one after the other, on the same sheet and text.
 ghost use Rattle.setter.specs.Both.{Done};
-use answers::answer::Checked;
-use answers::setting::Setting;
-use checker::check::check;
-use setting::run::set;
+use crate::answer::Setting;
+use crate::machine::set;
+use blocks::answer::Checked;
+use blocks::check::check;
 
 // What each of the two answers.
 pub struct Both {

@@ -1,2 +1,8 @@
-// The check and the setting machine on one sheet and text.
+// The setting machine, that it and the check agree, what is exported to C, and the listing program's work. Each module's definitions are in the file of specs/ that bears its name.
+pub mod answer;
 pub mod both;
+pub mod exports;
+pub mod kept;
+pub mod listing;
+pub mod machine;
+pub mod stops;

@@ -1,5 +1,5 @@
 -- `listing::main` meets its contract: what is printed lies inside the output.
-use Rattle.printing.proofs.PrintLaws.{prints-within, prints-taken}
+use Rattle.setter.proofs.listing.PrintLaws.{prints-within, prints-taken}
 use borrow.Author.Needs.{needs}
 use Rattle.listing.proofs.main.Statement.{statement}
 use Rattle.listing.proofs.main.Tie as tie

@@ -4,10 +4,10 @@ use Prim.Native.Nat.{ℕ, _+_, _-_, _*_, _<_}
 use native.Mathlib.Omega.{arith}
 use borrow.Author.Needs.{needs}
 use borrow.Fn.Kind.{PK}
-use Rattle.sheet.specs.Forest.{under}
-use Rattle.inlines.specs.Inlines.{validateInlineNodesAfter}
-use Rattle.inlines.proofs.NodeLaws.{node-done, node-falls, node-here, node-other, nodes-none, nodes-turn}
-use Rattle.walks.proofs.WalkLaws.{Loop, done-down, loop-end, loop-out, loop-start}
+use Rattle.leaves.specs.Sheet.Forest.{under}
+use Rattle.inlines.specs.Nodes.{validateInlineNodesAfter}
+use Rattle.inlines.proofs.NodesLaws.{node-done, node-falls, node-here, node-other, nodes-none, nodes-turn}
+use Rattle.inlines.proofs.WalkLaws.{Loop, done-down, loop-end, loop-out, loop-start}
 use borrow.Fn.Kinds.{In}
 use borrow.Fn.PlainCycle.{Measures, is, falls, and}
 use Rattle.inlines.proofs.nodes.validate_inline_nodes.Reads as validate-inline-nodes
@@ -15,12 +15,12 @@ use Rattle.inlines.proofs.nodes.validate_inline_nodes.Kinds as validate
 use Rattle.inlines.proofs.nodes.+validate_inline_nodes+validate_node.Lts-validate_inline_nodes as validate-inline-nodes-lts
 use Rattle.inlines.proofs.nodes.validate_node.Reads as validate-node
 use Rattle.inlines.proofs.nodes.+validate_inline_nodes+validate_node.Lts-validate_node as validate-node-lts
-use Rattle.oneinline.proofs.inline.validate_inline.Reads as validate-inline-reads
-use Rattle.checks.proofs.single.validate_siblings.Reads as validate-siblings-reads
-use Rattle.walks.proofs.trees.skip.Reads as skip-reads
-use Rattle.recordkinds.proofs.kinds.is_inline.Reads as is-inline-reads
-use Rattle.recordkinds.proofs.kinds.pick.Reads as pick-reads
-use Rattle.sheet.proofs.records.record_at.Reads as record-at-reads
+use Rattle.inlines.proofs.node.validate_inline.Reads as validate-inline-reads
+use Rattle.inlines.proofs.single.validate_siblings.Reads as validate-siblings-reads
+use Rattle.inlines.proofs.walk.skip.Reads as skip-reads
+use Rattle.leaves.proofs.sheet.kinds.is_inline.Reads as is-inline-reads
+use Rattle.leaves.proofs.sheet.kinds.pick.Reads as pick-reads
+use Rattle.leaves.proofs.sheet.records.record_at.Reads as record-at-reads
 use Rattle.inlines.proofs.nodes.+validate_inline_nodes+validate_node.{statement}
 use Rattle.inlines.proofs.nodes.+validate_inline_nodes+validate_node.Tie.{close}
 

@@ -1,5 +1,5 @@
 -- `inlines::nodes::validate_inlines` meets its contract.
-use Rattle.inlines.proofs.NodeLaws.{inlines-done}
+use Rattle.inlines.proofs.NodesLaws.{inlines-done}
 use borrow.Author.Needs.{needs}
 use Rattle.inlines.proofs.nodes.validate_inlines.Statement.{statement}
 use Rattle.inlines.proofs.nodes.validate_inlines.Tie as tie

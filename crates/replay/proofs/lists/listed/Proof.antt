@@ -1,7 +1,7 @@
 -- `replay::lists::listed` meets its contract.
 use mathlib.Core.Path.{refl, sym, _∙_}
-use Rattle.walks.proofs.WalkLaws.{start-of}
-use Rattle.refusal.proofs.FormedLaws.{accepted}
+use Rattle.inlines.proofs.WalkLaws.{start-of}
+use Rattle.leaves.proofs.refusal.FormedLaws.{accepted}
 use borrow.Author.Needs.{needs}
 use Rattle.replay.proofs.lists.listed.Statement.{statement}
 use Rattle.replay.proofs.lists.listed.Tie as tie

@@ -1,2 +1,0 @@
-// The attributes of directives.
-pub mod names;

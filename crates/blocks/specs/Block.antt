@@ -1,0 +1,61 @@
+-- The match of `validate_block` on one block, up to the blocks or items that it holds: for each kind the list of its entries in validate.rs's order. Kept rules only. Its arms are cut in three; no kind is in two of them. `path` is the block's own.
+use Prim.Native.Nat.{ℕ}
+use mathlib.Core.List.{List, []}
+use lib.Dec.{eqb}
+use Rattle.leaves.specs.Text.Lists.{if_then_else_}
+use Rattle.leaves.specs.Sheet.Kinds.{paragraph, heading, alert, list, codeBlock, htmlContainer, definition, footnoteDefinition, table, frontmatter, leafDirective, containerDirective}
+use Rattle.leaves.specs.Sheet.Forest.{Forest}
+use Rattle.leaves.specs.Report.Entries.{Entry, _⊕_}
+use Rattle.leaves.specs.declared.sheet.records.Rec.{Rec}
+use Rattle.leaves.specs.declared.sheet.records.Span.{Span}
+use Rattle.inlines.specs.Nodes.{validateInlines}
+use Rattle.blocks.specs.Heads.{validateHeading, validateAlert, validateCodeBlock, validateDefinition}
+use Rattle.blocks.specs.Frontmatter.{validateFrontmatter}
+use Rattle.blocks.specs.Html.{validateHtmlContainer}
+use Rattle.blocks.specs.Footnote.{validateFootnoteDefinition}
+use Rattle.blocks.specs.List.{validateList}
+use Rattle.blocks.specs.Prose.{validateParagraph, validateLeafDirective, validateContainerDirective}
+use Rattle.blocks.specs.Table.{validateTable}
+
+-- Blocks that hold neither blocks nor parts of their own. Thematic breaks, HTML blocks, math blocks and blank lines have no message that is kept.
+unfoldable pub validateLeaf : List ℕ → List ℕ → Rec → Forest → List Entry
+validateLeaf bytes path r kids =
+    if eqb (r .kind) paragraph
+    then validateParagraph bytes path (r .span) kids
+    else if eqb (r .kind) heading
+    then (validateHeading path (r .span) (r .a) ⊕ validateInlines bytes path kids)
+    else if eqb (r .kind) codeBlock
+    then validateCodeBlock bytes path (r .span) (r .a) (r .b) (r .first) (r .second)
+    else if eqb (r .kind) definition
+    then validateDefinition bytes path (r .span) (r .a) (r .first) (r .second)
+    else if eqb (r .kind) frontmatter
+    then validateFrontmatter bytes path (r .span) (r .level) (r .a) (r .first)
+    else if eqb (r .kind) leafDirective
+    then validateLeafDirective bytes path (r .span) (r .first) kids
+    else []
+
+-- `validate_html_container`: its tags, and its inlines where it holds inlines (A is not 0)
+unfoldable pub validateHtml : List ℕ → List ℕ → Span → ℕ → Forest → List Entry
+validateHtml bytes path span a kids = validateHtmlContainer bytes path span kids ⊕ (if eqb a 0 then [] else validateInlines bytes path kids)
+
+-- Blocks that hold blocks or items; a quote has no message of its own.
+unfoldable pub validateContainer : List ℕ → List ℕ → Rec → Forest → List Entry
+validateContainer bytes path r kids =
+    if eqb (r .kind) alert
+    then validateAlert bytes path (r .span) (r .a) (r .first)
+    else if eqb (r .kind) list
+    then validateList path (r .span) (r .c) kids
+    else if eqb (r .kind) htmlContainer
+    then validateHtml bytes path (r .span) (r .a) kids
+    else if eqb (r .kind) containerDirective
+    then validateContainerDirective bytes path (r .span) (r .first) kids
+    else validateLeaf bytes path r kids
+
+-- Blocks that report at the paths of what they hold, and the others.
+unfoldable pub validateOwn : List ℕ → List ℕ → Rec → Forest → List Entry
+validateOwn bytes path r kids =
+    if eqb (r .kind) footnoteDefinition
+    then validateFootnoteDefinition path (r .span) (r .first) kids
+    else if eqb (r .kind) table
+    then validateTable bytes path (r .span) (r .a) kids
+    else validateContainer bytes path r kids

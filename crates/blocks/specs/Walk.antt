@@ -1,0 +1,53 @@
+-- The walk of blocks of validate.rs, and the whole list of a sheet. Kept rules only: of validate.rs's messages the 14 that document 01 drops leave no trace.
+-- A path has an index for each block, item, row and cell from the sheet down. Document 01: "Path indices count blocks, items, rows and cells only."
+use Prim.Native.Nat.{ℕ, suc}
+use mathlib.Core.Bool.{Bool}
+use mathlib.Core.List.{List, [], _∷_, _++_}
+use lib.Dec.{eqb}
+use Rattle.leaves.specs.Text.Lists.{if_then_else_}
+use Rattle.leaves.specs.Sheet.Kinds.{isBlock, list}
+use Rattle.leaves.specs.Sheet.Forest.{Forest, none, tree, count, forestOf}
+use Rattle.leaves.specs.Report.Entries.{Entry, _⊕_}
+use Rattle.leaves.specs.declared.sheet.records.Rec.{Rec}
+use Rattle.blocks.specs.declared.before.Before.{Before}
+use Rattle.blocks.specs.Before.{first, beforeNext, validateTakenBlock}
+use Rattle.blocks.specs.Block.{validateOwn}
+use Rattle.blocks.specs.Holds.{holdsBlocks}
+use Rattle.blocks.specs.Item.{validateItemBlankLines, validateTaskItem}
+use Rattle.blocks.specs.Number.{itemNumber, validateItemNumber}
+
+-- `validate_block`: what a block reports, and then its items or its blocks, from what these list
+unfoldable pub validateBlock : List ℕ → List ℕ → Rec → Forest → List Entry → List Entry → List Entry
+validateBlock bytes path r kids items blocks =
+    validateOwn bytes path r kids ⊕ (if eqb (r .kind) list then items else if holdsBlocks (r .kind) (r .a) then blocks else [])
+
+-- an item of a list that is ordered where `ordered` is 1 and tight where `tight` is 1, from what its blocks list; `last` for the list's last
+unfoldable pub validateItem : List ℕ → ℕ → ℕ → Bool → Rec → Forest → List Entry → List Entry
+validateItem path ordered tight last r kids blocks =
+    validateItemNumber path (r .span) ordered (itemNumber (r .b) (r .c))
+    ⊕ validateItemBlankLines path (eqb tight 1) last 0 kids
+    ⊕ validateTaskItem path (r .span) (r .a) kids
+    ⊕ blocks
+
+unfoldable mutual
+  -- `validate_blocks`: the blocks among the trees, the first of them the k-th, behind the block `before`. Trees of another sort (tags, attributes, a label's inlines) are passed over.
+  pub validateBlocks : List ℕ → List ℕ → ℕ → Before → Forest → List Entry
+  validateBlocks bytes path k before none = []
+  validateBlocks bytes path k before (tree r kids rest) =
+      let items = validateItems bytes (path ++ k ∷ []) 0 (r .a) (r .c) kids in
+      let blocks = validateBlocks bytes (path ++ k ∷ []) 0 first kids in
+      let later = validateBlocks bytes path (suc k) (beforeNext before (r .kind) (r .a) (r .b)) rest in
+      let passed = validateBlocks bytes path k before rest in
+      if isBlock (r .kind) then (validateTakenBlock (path ++ k ∷ []) (r .span) before (r .kind) (r .a) (r .b) ⊕ validateBlock bytes (path ++ k ∷ []) r kids items blocks ⊕ later) else passed
+
+  -- the items of a list, the first of them the k-th
+  pub validateItems : List ℕ → List ℕ → ℕ → ℕ → ℕ → Forest → List Entry
+  validateItems bytes path k ordered tight none = []
+  validateItems bytes path k ordered tight (tree r kids rest) =
+      let blocks = validateBlocks bytes (path ++ k ∷ []) 0 first kids in
+      let later = validateItems bytes path (suc k) ordered tight rest in
+      validateItem (path ++ k ∷ []) ordered tight (eqb (count rest) 0) r kids blocks ⊕ later
+
+-- `validate_document`: the whole list of a sheet and its text
+unfoldable pub validateDocument : List ℕ → List ℕ → List Entry
+validateDocument w bytes = validateBlocks bytes [] 0 first (forestOf w)

@@ -1,0 +1,55 @@
+// What an item reports by its number.
+ghost use mathlib.Core.Path.{_≡_};
+ghost use Prim.Native.Nat.{_≤_};
+ghost use lib.ListN.{length};
+ghost use Rattle.leaves.specs.Report.Entries.{Lists};
+ghost use Rattle.blocks.specs.Number.{itemNumber, validateItemNumber};
+use leaves::report::entries::Tally;
+use leaves::report::entries::list_if;
+use leaves::report::rules;
+use leaves::sheet::records::Span;
+
+const MOST_NUMBER: u32 = 999999999;
+
+// An item's own number.
+pub enum Number {
+    Absent,
+    Present(u32),
+}
+
+// The number of an item whose B and C these are.
+pub fn item_number(b: u32, c: u32) -> Number
+    ensures { λ r. ⌜ r ≡ itemNumber b c ⌝ }
+{
+    if b == 1 {
+        return Number::Present(c);
+    }
+    Number::Absent
+}
+
+// Rule 49: a bullet has no number. Rule 50: a number has at most nine digits.
+pub fn validate_item_number(
+    report: &mut [u32],
+    path: &[u32],
+    span: Span,
+    ordered: u32,
+    number: Number,
+    tally: Tally,
+) -> Tally
+    requires { ⌜ length (now path) ≤ 64 ⌝ }
+    ensures { λ r. ⌜ Lists tally r (now (report .entry)) (now (report .exit)) (validateItemNumber (now (path .entry)) span ordered number) ⌝ }
+{
+    let Number::Present(value) = number else {
+        return tally;
+    };
+    let out = list_if(
+        ordered != 1,
+        report,
+        rules::BULLET_NUMBER,
+        span,
+        path,
+        tally,
+    );
+    let long = (ordered == 1) & (MOST_NUMBER < value);
+    list_if(long, report, rules::LONG_NUMBER, span, path, out)
+}

@@ -1,2 +1,0 @@
-// The block walk, up to the whole list.
-pub mod walk;

@@ -1,3 +1,0 @@
-// What both walks ask of one record.
-pub mod rules;
-pub mod single;

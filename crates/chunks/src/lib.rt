@@ -1,2 +1,0 @@
-// Sixteen bytes at once. The definitions are in specs/Chunk.antt.
-pub mod chunk;

@@ -1,7 +1,0 @@
--- `classes::class::is_joined` meets its contract.
-use mathlib.Core.Path.{refl}
-use Rattle.classes.proofs.class.is_joined.Statement.{statement}
-use Rattle.classes.proofs.class.is_joined.Tie as tie
-
-pub is-joined-spec : {M : Type 1} → statement M
-is-joined-spec = tie.close (tie.spec (λ c. refl))

@@ -1,2 +1,0 @@
-// What an inline is by its kind.
-pub mod class;

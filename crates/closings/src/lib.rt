@@ -1,2 +1,0 @@
-// The stops of closings, and the marks.
-pub mod tests;

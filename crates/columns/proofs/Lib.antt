@@ -1,3 +1,0 @@
-pub mod LineLaws
-pub mod ColumnExamples
-pub mod LineReadLaws

@@ -1,2 +1,0 @@
-// What an HTML container reports of its tags.
-pub mod tags;

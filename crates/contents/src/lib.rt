@@ -1,2 +1,0 @@
-// What inlines side by side say of the container that holds them.
-pub mod content;

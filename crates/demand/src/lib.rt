@@ -1,1 +1,0 @@
-// Demand 3: the machine's stops and the check's list agree.

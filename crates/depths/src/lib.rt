@@ -1,2 +1,0 @@
-// The rules that ask at every depth.
-pub mod every;

@@ -1,2 +1,0 @@
-// Numbers as fields of 11 places.
-pub mod fields;

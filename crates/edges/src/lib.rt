@@ -1,2 +1,0 @@
-// The first and the last line of a text.
-pub mod edge;

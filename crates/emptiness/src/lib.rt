@@ -1,2 +1,0 @@
-// Texts of no bytes.
-pub mod empty;

@@ -1,2 +1,0 @@
-// What is asked of one record's own values.
-pub mod values;

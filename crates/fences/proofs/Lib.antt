@@ -1,2 +1,0 @@
-pub mod FenceLaws
-pub mod FenceExamples

@@ -1,2 +1,0 @@
-pub mod Fence
-pub mod Scans

@@ -1,2 +1,0 @@
-// Frontmatter's fence lines. The definitions are in specs/Fence.antt.
-pub mod fence;

@@ -1,3 +1,0 @@
-pub mod FilmLaws
-pub mod CutLaws
-pub mod FilmExamples

@@ -1,2 +1,0 @@
-// Footnote definitions.
-pub mod definition;

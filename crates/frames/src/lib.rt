@@ -1,2 +1,0 @@
-// What is kept of the records that are open. The definitions are in specs/Kept.antt.
-pub mod kept;

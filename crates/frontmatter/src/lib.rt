@@ -1,2 +1,0 @@
-// Frontmatter.
-pub mod block;

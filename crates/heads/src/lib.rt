@@ -1,2 +1,0 @@
-// What a block reports by its own record.
-pub mod own;

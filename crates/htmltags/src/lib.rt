@@ -1,2 +1,0 @@
-// The tags of HTML containers.
-pub mod tags;

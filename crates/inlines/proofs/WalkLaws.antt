@@ -1,0 +1,122 @@
+-- Loops over the trees deeper than a level, from tree to tree.
+use mathlib.Core.Path.{_≡_, refl, sym, _∙_}
+use mathlib.Core.Bool.{Bool, true, false}
+use mathlib.Core.List.{List, []}
+use Prim.Native.Nat.{ℕ, _+_, _-_, _<_, _≤_}
+use native.Mathlib.Nat.{sub-add-eq}
+use native.Mathlib.Omega.{arith}
+use borrow.Author.Needs.{needs}
+use borrow.Author.Tests.{ltb-true, ltb-false}
+use lib.Dec.{ltb}
+use lib.ListN.{length}
+use Rattle.leaves.specs.Sheet.Records.{recordAt, recordsOf}
+use Rattle.leaves.specs.Refusal.Formed.{Sound}
+use Rattle.leaves.specs.Sheet.Forest.{Forest, none, tree, deeper, past, forestAt, under, size}
+use Rattle.leaves.specs.Report.Entries.{Entry, Lists, _⊕_}
+use Rattle.leaves.specs.declared.sheet.records.Rec.{Rec}
+use Rattle.leaves.specs.declared.report.entries.Tally.{Tally}
+use Rattle.leaves.proofs.sheet.ForestLaws.{past-in, past-out, deeper-in, deeper-out, past-at, under-in, under-out, under-end, under-fits, size-step, size-out, size-end}
+use Rattle.leaves.proofs.report.EntryLaws.{join-assoc, none-join, lists-none, lists-then}
+use Rattle.inlines.specs.Walk.{Start, Done}
+use Rattle.inlines.specs.declared.walk.Walked.{Walked}
+
+-- ---- a list that goes from tree to tree
+module _ (h : Forest → List Entry) (g : Rec → Forest → List Entry) (at-none : h none ≡ []) (at-tree : (r : Rec) (kids rest : Forest) → h (tree r kids rest) ≡ g r kids ⊕ h rest) where
+  -- the trees deeper than l are those deeper than m, and then the rest of them
+  spine-split : (l m : ℕ) → l ≤ m → (f : Forest) → h (deeper l f) ≡ h (deeper m f) ⊕ h (deeper l (past m f))
+  unfolding past deeper
+  spine-split l m b none = rw at-none (sym (none-join []))
+  spine-split l m b (tree r kids rest) = go (ltb m (r .level)) refl (spine-split l m b rest)
+    where
+      go : (t : Bool) → ltb m (r .level) ≡ t → h (deeper l rest) ≡ h (deeper m rest) ⊕ h (deeper l (past m rest)) → h (deeper l (tree r kids rest)) ≡ h (deeper m (tree r kids rest)) ⊕ h (deeper l (past m (tree r kids rest)))
+      go true e ih =
+          let d : m < r .level = ltb-true _ _ e in
+          rw (past-in m r kids rest d, deeper-in l r kids rest (omega arith), deeper-in m r kids rest d, at-tree r kids (deeper l rest), at-tree r kids (deeper m rest), ih) (sym (join-assoc (g r kids) (h (deeper m rest)) (h (deeper l (past m rest)))))
+      go false e ih = rw (past-out m r kids rest (ltb-false _ _ e), deeper-out m r kids rest (ltb-false _ _ e), at-none) (sym (none-join (h (deeper l (tree r kids rest)))))
+
+  module _ (w : List ℕ) (n i l : ℕ) (b : i < n) (d : l < recordAt w i .level) where
+    -- record i with its kids, and then what comes after them
+    pub spine-tree : h (under w n i l) ≡ g (recordAt w i) (under w n (i + 1) (recordAt w i .level)) ⊕ h (under w n (i + 1 + size (under w n (i + 1) (recordAt w i .level))) l)
+    spine-tree = rw (under-in w n i l b d) (at-tree (recordAt w i) _ _)
+
+    -- its kids, and then what comes after them, are the records after it
+    pub spine-kids : h (under w n (i + 1) l) ≡ h (under w n (i + 1) (recordAt w i .level)) ⊕ h (under w n (i + 1 + size (under w n (i + 1) (recordAt w i .level))) l)
+    spine-kids = rw (past-at, ← sub-add-eq n (i + 1)) at (spine-split l (recordAt w i .level) (omega arith) (forestAt w (n - (i + 1)) (i + 1)))
+
+-- ---- passing over trees: record i is where a walk stands that began at record `from`
+pub record Skipping (w : List ℕ) (n from level i : ℕ) : Type 0 where
+  pub inside : i ≤ n
+  pub gone : i + size (under w n i level) ≡ from + size (under w n from level)
+
+-- where the kids of record i end
+abbrev pub behindKids : List ℕ → ℕ → ℕ → ℕ
+behindKids w n i = i + 1 + size (under w n (i + 1) (recordAt w i .level))
+
+module _ (w : List ℕ) (n from level : ℕ) where
+  pub skip-start : from ≤ n → Skipping w n from level from
+  skip-start h = record { inside = h; gone = refl }
+
+  module _ {i : ℕ} (v : Skipping w n from level i) where
+    pub skip-turn : {m : ℕ} → i < n → m ≡ recordAt w i .level → level < m → Skipping w n from level (i + 1)
+    skip-turn h e d = let f : level < recordAt w i .level = rw e at d in record { inside = omega arith; gone = omega (arith, size-step w n i level h f, v .gone) }
+
+    -- .. and past all that stands under record i
+    pub skip-tree : i < n → level < recordAt w i .level → Skipping w n from level (behindKids w n i)
+    unfolding size
+    skip-tree b d =
+        let m : behindKids w n i + size (under w n (behindKids w n i) level) ≡ i + size (under w n i level) = rw (under-in w n i level b d) (omega arith) in
+        record { inside = under-fits w n (i + 1) (recordAt w i .level) (omega arith); gone = m ∙ v .gone }
+
+    pub skip-out : {m : ℕ} → i < n → m ≡ recordAt w i .level → m ≤ level → i ≡ from + size (under w n from level)
+    skip-out h e d = let f : recordAt w i .level ≤ level = rw e at d in omega (arith, size-out w n i level h f, v .gone)
+
+    pub skip-end : n ≤ i → i ≡ from + size (under w n from level)
+    skip-end h = omega (arith, size-end w n i level h, v .gone)
+
+-- it goes on behind where it stood
+pub skip-down : (w : List ℕ) (n i m : ℕ) {j : ℕ} → i < n → j ≡ i + 1 + size (under w n (i + 1) m) → n - j < n - i
+skip-down w n i m {j} b e = let d : i < j = rw e (omega arith) in omega arith
+
+pub skip-fits : (w : List ℕ) (n i m : ℕ) {j : ℕ} → i < n → j ≡ i + 1 + size (under w n (i + 1) m) → j ≤ n
+skip-fits w n i m b e = rw e (under-fits w n (i + 1) m (omega arith))
+
+-- the level of a record that was read
+pub level-of : (w : List ℕ) (i : ℕ) {r : Rec} → r ≡ recordAt w i → r .level ≡ recordAt w i .level
+level-of w i e = rw e
+
+pub done-down : {w : List ℕ} {n i level : ℕ} {es : List Entry} {s : Tally} {x y : List ℕ} {q : Walked} → i < n → Done w n (i + 1) level es s x q y → n - q .next < n - i
+done-down {i = i} {q = q} b d = let f : i < q .next = rw (d .next) (omega arith) in omega arith
+
+pub ruleset skipping = (skip-start, skip-turn, skip-out, skip-end, needs)
+
+-- ---- a loop that lists es stands at record i, with the tally t and the report y: what lists the rest, h, lists the whole
+pub record Loop (es : List Entry) (h : Forest → List Entry) (w path : List ℕ) (n from level : ℕ) (s : Tally) (x : List ℕ) (i : ℕ) (t : Tally) (y : List ℕ) : Type 0 where
+  pub start : Start w path n from
+  pub at : Skipping w n from level i
+  pub same : length y ≡ length x
+  pub lists : (u : Tally) (z : List ℕ) → Lists t u y z (h (under w n i level)) → Lists s u x z es
+
+module _ {w path : List ℕ} {n from level : ℕ} where
+  pub loop-start : (h : Forest → List Entry) (s : Tally) (x : List ℕ) → Start w path n from → Loop (h (under w n from level)) h w path n from level s x from s x
+  loop-start h s x p = record { start = p; at = skip-start w n from level (p .inside); same = refl; lists = λ u z k. k }
+
+  module _ {es : List Entry} {h : Forest → List Entry} {s : Tally} {x : List ℕ} {i : ℕ} {t : Tally} {y : List ℕ} (v : Loop es h w path n from level s x i t y) where
+    -- some entries are listed, and the rest, g, from record j on
+    pub loop-turn : {g : Forest → List Entry} {u : Tally} {z : List ℕ} {fs : List Entry} {j : ℕ} → Skipping w n from level j → h (under w n i level) ≡ fs ⊕ g (under w n j level) → Lists t u y z fs → length z ≡ length y → Loop es g w path n from level s x j u z
+    loop-turn m q k e =
+        record {
+          start = v .start;
+          at = m;
+          same = e ∙ v .same;
+          lists = λ a c f. v .lists a c (rw q (lists-then k f));
+        }
+
+    pub loop-out : {r : Rec} → h none ≡ [] → i < n → r ≡ recordAt w i → r .level ≤ level → Done w n from level es s x (record { next = i; tally = t }) y
+    loop-out z b e d = let f : recordAt w i .level ≤ level = rw e at d in record { next = skip-out w n from level (v .at) b refl f; lists = v .lists t y (rw (under-out w n i level b f, z) lists-none) }
+
+    pub loop-end : h none ≡ [] → n ≤ i → Done w n from level es s x (record { next = i; tally = t }) y
+    loop-end z b = record { next = skip-end w n from level (v .at) b; lists = v .lists t y (rw (under-end w n i level b, z) lists-none) }
+
+-- ---- what acceptance gives a walk
+pub start-of : {w bytes path : List ℕ} {n from : ℕ} → Sound w bytes → n ≡ recordsOf w → from ≤ n → length path ≤ 64 → Start w path n from
+start-of sound e b s = rw e (record { whole = omega (arith, sound .whole); few = sound .few; shallow = sound .shallow; inside = rw e at b; short = s })

@@ -1,2 +1,0 @@
-// What one inline reports by its own values.
-pub mod values;

@@ -1,0 +1,13 @@
+pub mod AcceptLaws
+pub mod FormedLaws
+pub mod GroupLaws
+pub mod JudgeLaws
+pub mod OpenLaws
+pub mod PassLaws
+pub mod PlaceLaws
+pub mod PlacedLaws
+pub mod RecordTestLaws
+pub mod SheetExamples
+pub mod TagLaws
+pub mod VerdictLaws
+pub mod ZeroFieldLaws

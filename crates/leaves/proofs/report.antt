@@ -1,0 +1,2 @@
+pub mod EntryExamples
+pub mod EntryLaws

@@ -1,0 +1,5 @@
+pub mod ForestLaws
+pub mod KindLaws
+pub mod RecordLaws
+pub mod SiblingLaws
+pub mod TextLaws

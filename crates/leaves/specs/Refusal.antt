@@ -1,0 +1,12 @@
+pub mod Fields
+pub mod Formed
+pub mod Groups
+pub mod Judge
+pub mod Judging
+pub mod KindGroups
+pub mod Limits
+pub mod Places
+pub mod Record
+pub mod Tags
+pub mod TagsPlaced
+pub mod Verdict

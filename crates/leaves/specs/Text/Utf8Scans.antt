@@ -1,0 +1,16 @@
+-- How the code reads a text, a byte at a time. The proofs equate each of these with a definition of another file, and no promise to a caller cites them.
+use Prim.Native.Nat.{ℕ}
+use mathlib.Core.Bool.{Bool, false, not}
+use mathlib.Core.List.{List, [], _∷_}
+use Rattle.leaves.specs.Text.Lists.{if_then_else_}
+use Rattle.leaves.specs.Text.Utf8.{Range, within, follow, table}
+
+-- b is not what is owed
+unfoldable pub breaks : List Range → ℕ → Bool
+breaks [] b = false
+breaks (r ∷ owed) b = not (within r b)
+
+-- what is owed after b: less by one, or what follows a first byte
+unfoldable pub owedAfter : List Range → ℕ → List Range
+owedAfter [] b = follow table b
+owedAfter (r ∷ owed) b = if within r b then owed else follow table b

@@ -1,0 +1,64 @@
+// The tests of one record: refusals 4 to 9.
+ghost use mathlib.Core.Path.{_≡_};
+ghost use Prim.Native.Nat.{_≤_};
+ghost use Rattle.leaves.specs.Refusal.Places.{places};
+ghost use Rattle.leaves.specs.Refusal.KindGroups.{kindGroups};
+ghost use Rattle.leaves.specs.Refusal.Record.{badLevel, judgeTexts, judge};
+use crate::refusal::fields;
+use crate::refusal::places;
+use crate::refusal::places::Open;
+use crate::refusal::verdict::Judged;
+use crate::sheet::kinds;
+use crate::sheet::records::Rec;
+use crate::sheet::texts;
+
+// 0, over 64, or over the level before plus one.
+fn bad_level(before: u32, level: u32) -> bool
+    requires { ⌜ before ≤ 64 ⌝ }
+    ensures { λ r. ⌜ r ≡ badLevel before level ⌝ }
+{
+    (level == 0) | (64 < level) | (before + 1 < level)
+}
+
+// The tests 8 and 9.
+fn judge_texts(bytes: &[u8], i: usize, r: Rec) -> Judged
+    ensures { λ j. ⌜ j ≡ judgeTexts (now (bytes .entry)) i r ⌝ }
+{
+    let first = r.first;
+    let second = r.second;
+    if texts::text_outside(bytes, first) | texts::text_outside(bytes, second) {
+        return Judged::TextOutside(i);
+    }
+    if texts::text_ill_formed(bytes, first) | texts::text_ill_formed(bytes, second) {
+        return Judged::NotUtf8(i);
+    }
+    Judged::Accepted
+}
+
+// The tests 4 to 9 of record `i`.
+pub fn judge(
+    table: &[[u32; 7]; 10],
+    groups: &[[u32; 2]; 54],
+    bytes: &[u8],
+    i: usize,
+    r: Rec,
+    before: u32,
+    o: Open,
+) -> Judged
+    requires { ⌜ (now table ≡ places) × (now groups ≡ kindGroups) × (before ≤ 64) ⌝ }
+    ensures { λ j. ⌜ j ≡ judge (now (bytes .entry)) i r before o ⌝ }
+{
+    if !kinds::is_kind(r.kind) {
+        return Judged::UnknownKind(i);
+    }
+    if bad_level(before, r.level) {
+        return Judged::BadLevel(i);
+    }
+    if places::misplaced(table, groups, o, r.kind) {
+        return Judged::Misplaced(i);
+    }
+    if fields::bad_field(r) {
+        return Judged::BadField(i);
+    }
+    judge_texts(bytes, i, r)
+}

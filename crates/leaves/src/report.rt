@@ -1,0 +1,3 @@
+// The report: its entries, and the rules that they name.
+pub mod entries;
+pub mod rules;

@@ -1,0 +1,16 @@
+// The part of a text that a record names.
+ghost use mathlib.Core.Path.{_≡_};
+ghost use Rattle.leaves.specs.Text.Part.{partOf};
+
+// The caller's own bytes from `start`, `len` of them; none where they do not lie inside the text.
+pub fn part(text: &[u8], start: usize, len: usize) -> &[u8]
+    ensures { λ r. ⌜ now r ≡ partOf (now (text .entry)) start len ⌝ }
+{
+    if text.len() < start {
+        return &text[0..0];
+    }
+    if text.len() - start < len {
+        return &text[0..0];
+    }
+    &text[start..start + len]
+}

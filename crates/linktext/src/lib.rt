@@ -1,2 +1,0 @@
-// The text of links.
-pub mod links;

@@ -1,2 +1,0 @@
-// The listing program's work: from what it reads to what it prints.
-pub mod program;

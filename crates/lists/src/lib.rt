@@ -1,2 +1,0 @@
-// What a list reports of itself by what it holds.
-pub mod list;

@@ -1,2 +1,0 @@
-// What text, code and math report by their values.
-pub mod literal;

@@ -1,1 +1,0 @@
-// The setting machine: its definitions. Its code comes with demand 3.

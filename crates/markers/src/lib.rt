@@ -1,2 +1,0 @@
-// The markers of lists.
-pub mod marker;

@@ -1,2 +1,0 @@
-// Names of directives and attributes, and identifiers.
-pub mod name;

@@ -1,2 +1,0 @@
-// What a block reports by the block before it.
-pub mod taken;

@@ -1,2 +1,0 @@
-// What an item reports by its number.
-pub mod number;

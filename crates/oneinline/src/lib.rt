@@ -1,2 +1,0 @@
-// What one inline reports of itself.
-pub mod inline;

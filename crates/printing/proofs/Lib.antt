@@ -1,2 +1,0 @@
-pub mod PrintLaws
-pub mod PrintExamples

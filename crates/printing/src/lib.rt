@@ -1,2 +1,0 @@
-// What the program prints: the lines of a list, or of a refusal.
-pub mod print;

@@ -1,2 +1,0 @@
-pub mod LabelLaws
-pub mod ParagraphLaws

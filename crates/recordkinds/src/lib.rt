@@ -1,2 +1,0 @@
-// The kinds of records.
-pub mod kinds;

@@ -1,2 +1,0 @@
-// The tests of one record.
-pub mod tests;

@@ -1,2 +1,0 @@
-// What is exported to C.
-pub mod exports;

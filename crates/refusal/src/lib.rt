@@ -1,2 +1,0 @@
-// Which sheets are refused.
-pub mod judge;

@@ -1,2 +1,0 @@
-// The report's entries.
-pub mod entries;

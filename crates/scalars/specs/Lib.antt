@@ -1,3 +1,0 @@
-pub mod Scalars
-pub mod White
-pub mod Values

@@ -1,2 +1,0 @@
-// Scalar values, and white space at the ends of a text.
-pub mod white;

@@ -1,0 +1,100 @@
+-- What is kept of an open record is what its frame shows: as it opens, as a child of it closes, and to a record that opens under it.
+use mathlib.Core.Path.{_≡_, refl}
+use mathlib.Core.Bool.{Bool, true, false, not, _&&_, _||_, true≢false}
+use mathlib.Core.List.{List, [], _∷_}
+use Prim.Native.Nat.{ℕ, _≤_}
+use native.Mathlib.Numerals.{add-one}
+use native.Mathlib.Omega.{arith}
+use lib.Dec.{eqb, ltb}
+use lib.ListN.{length}
+use borrow.Author.Tests.{eq-eqb, ltb-true, ltb-false}
+use Rattle.leaves.specs.Text.Lists.{if_then_else_}
+use Rattle.leaves.specs.Sheet.Kinds.{list, blankLine, item}
+use Rattle.leaves.specs.declared.sheet.records.Rec.{Rec}
+use Rattle.leaves.specs.Refusal.Fields.{mostA, mostB, mostC, isSurrogate, badNumber, badField}
+use Rattle.leaves.proofs.text.TestLaws.{and-left, and-right}
+use Rattle.leaves.proofs.text.TestLaws.{or-left, or-right}
+use Rattle.leaves.specs.Text.Marker.{writtenMarker}
+use Rattle.setter.specs.Machine.{Frame, fresh, withKid, columns, nearest, inLink, behindList, onlyEmpty, lastMark, Seen, seen, Test, lowest, openingTests}
+use Rattle.setter.specs.Kept.{markerBehind, keptOf, seenBy, openedIn, joinedBy}
+
+-- a list's written marker is never 0
+some-marker : (a b : ℕ) → eqb 0 (writtenMarker a b) ≡ false
+unfolding writtenMarker
+some-marker a b = go (eqb a 1) (eqb b 4) (eqb b 1) (eqb b 2)
+  where
+    go : (t u v w : Bool) → eqb 0 (if t then (if u then 0x29 else 0x2E) else if v then 0x2A else if w then 0x2B else 0x2D) ≡ false
+    go true true v w = refl
+    go true false v w = refl
+    go false u true w = refl
+    go false u false true = refl
+    go false u false false = refl
+
+-- the marker behind the siblings tells whether a list joins the one before it
+joins-kept : (ss : List Rec) (r : Rec) → eqb (markerBehind ss) (writtenMarker (r .a) (r .b)) ≡ behindList ss r
+unfolding markerBehind behindList
+joins-kept [] r = some-marker (r .a) (r .b)
+joins-kept (s ∷ ss) r = go (eqb (s .kind) blankLine) (eqb (s .kind) list) (joins-kept ss r)
+  where
+    go : (t u : Bool) → eqb (markerBehind ss) (writtenMarker (r .a) (r .b)) ≡ behindList ss r → eqb (if t then markerBehind ss else if u then writtenMarker (s .a) (s .b) else 0) (writtenMarker (r .a) (r .b)) ≡ (if t then behindList ss r else u && eqb (writtenMarker (s .a) (s .b)) (writtenMarker (r .a) (r .b)))
+    go true u e = e
+    go false true e = refl
+    go false false e = some-marker (r .a) (r .b)
+
+pub seen-kept : (r : Rec) (f : Frame) (st : List Frame) → seenBy r (keptOf f st) ≡ seen r (f ∷ st)
+unfolding keptOf
+seen-kept r f st = rw (joins-kept (f .kids) r)
+
+pub opened-kept : (i : ℕ) (r : Rec) (f : Frame) (st : List Frame) → openedIn i r (keptOf f st) ≡ keptOf (fresh i r) (f ∷ st)
+unfolding keptOf openedIn columns nearest inLink onlyEmpty lastMark markerBehind
+opened-kept i r f st = refl
+
+pub joined-kept : (r : Rec) (f : Frame) (st : List Frame) → joinedBy (keptOf f st) r ≡ keptOf (withKid r f) st
+unfolding keptOf joinedBy columns nearest inLink onlyEmpty lastMark markerBehind
+joined-kept r f st = rw (add-one (length (f .kids)))
+
+-- ---- an item that opens has a small number, or none
+-- where the lowest of the tests that hold is none, none holds
+Silent : List Test → Type 0
+Silent [] = Unit {0}
+Silent (t ∷ ts) = (t .holds ≡ false) × Silent ts
+
+numbered : List Test → Bool
+numbered [] = true
+numbered (t ∷ ts) = ltb 0 (t .stop) && numbered ts
+
+silent : (ts : List Test) → numbered ts ≡ true → lowest ts ≡ 0 → Silent ts
+unfolding Silent numbered
+silent [] n h = tt
+silent (t ∷ ts) n h = go (t .holds) refl (silent ts (and-right (ltb 0 (t .stop)) (numbered ts) n))
+  where
+    go : (b : Bool) → t .holds ≡ b → (lowest ts ≡ 0 → Silent ts) → Silent (t ∷ ts)
+    go true e later = let p = ltb-true 0 (t .stop) (and-left (ltb 0 (t .stop)) (numbered ts) n) in absurd (omega (arith, rw e at h))
+    go false e later = (e, later (rw e at h))
+
+-- a record that is no item has a C of at most 1
+plain-small : (r : Rec) → badField r ≡ false → eqb (r .kind) item ≡ false → r .c ≤ 1
+unfolding badField badNumber mostC
+plain-small r bad e =
+    let numbers : badNumber r ≡ false = or-left (badNumber r) _ (or-left _ _ (or-left _ _ bad)) in
+    let most : r .c ≤ mostC (r .kind) (r .b) = ltb-false _ _ (or-right (ltb (mostA (r .kind)) (r .a) || ltb (mostB (r .kind) (r .a)) (r .b)) (ltb (mostC (r .kind) (r .b)) (r .c)) (or-left _ (isSurrogate (r .kind) (r .a)) numbers)) in
+    go (eqb (r .kind) list) (rw e at most)
+  where
+    go : (t : Bool) → r .c ≤ (if t then 1 else 0) → r .c ≤ 1
+    go true h = h
+    go false h = omega arith
+
+-- where it opens without a stop
+pub small-number : (bytes : List ℕ) (r : Rec) (s : Seen) → lowest (openingTests bytes r s) ≡ 0 → badField r ≡ false → r .b ≡ 1 → r .c ≤ 999999999
+unfolding openingTests Silent numbered
+small-number bytes r s h bad e =
+    let q = silent (openingTests bytes r s) refl h in
+    let large : (eqb (r .kind) item && s .ordered && eqb (r .b) 1 && ltb 999999999 (r .c)) ≡ false = q .1 .1 .1 .1 .0 in
+    let bullet : (eqb (r .kind) item && not (s .ordered) && eqb (r .b) 1) ≡ false = q .1 .1 .1 .1 .1 .0 in
+    let n : eqb (r .b) 1 ≡ true = eq-eqb (r .b) 1 e in
+    go (eqb (r .kind) item) refl (s .ordered) refl (rw n at large) (rw n at bullet)
+  where
+    go : (t : Bool) → eqb (r .kind) item ≡ t → (o : Bool) → s .ordered ≡ o → (t && o && true && ltb 999999999 (r .c)) ≡ false → (t && not o && true) ≡ false → r .c ≤ 999999999
+    go false f o g x y = omega (arith, plain-small r bad f)
+    go true f true g x y = ltb-false _ _ x
+    go true f false g x y = absurd (true≢false y)

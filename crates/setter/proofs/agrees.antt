@@ -1,0 +1,10 @@
+pub mod Blocks
+pub mod Context
+pub mod Demand
+pub mod Fits
+pub mod Flat
+pub mod Inlines
+pub mod KindCases
+pub mod Noise
+pub mod Placed
+pub mod Tables

@@ -1,0 +1,63 @@
+// A film: its sheet and its text, or why it is refused.
+ghost use mathlib.Core.Path.{_≡_};
+ghost use Prim.Native.Nat.{_≤_};
+ghost use Rattle.setter.specs.Listing.Film.{mostRecords, textBehind, Reads};
+use crate::listing::filmanswer::Film;
+use crate::listing::records::RECORD_BYTES;
+use crate::listing::records::behind;
+use crate::listing::records::read_records;
+use leaves::text::columns::read_line;
+use leaves::text::field::PLACES;
+
+// How many bytes the first line has: two counts.
+const COUNT_BYTES: usize = 2 * PLACES + 1;
+
+// The most records of a film, and the most bytes of its text.
+pub const MOST_RECORDS: usize = 512;
+
+const MOST_BYTES: usize = 16384;
+
+// The words of the largest sheet.
+pub const SHEET_WORDS: usize = 6144;
+
+// The text of a film of `n` records: all that stands behind them.
+pub fn text_behind(s: &[u8], n: usize) -> &[u8]
+    requires { ⌜ n ≤ mostRecords ⌝ }
+    ensures { λ r. ⌜ now r ≡ textBehind n (now (s .entry)) ⌝ }
+{
+    behind(s, COUNT_BYTES + n * RECORD_BYTES)
+}
+
+fn size(n: u32) -> usize
+    ensures { λ r. ⌜ r ≡ n ⌝ }
+{
+    n as usize
+}
+
+// Reads a film's sheet into the words, where the counts are good; answers how many records it has, or why it is refused.
+pub fn read_film(s: &[u8], sheet: &mut [u32; SHEET_WORDS]) -> Film
+    ensures { λ r. ⌜ Reads (now (s .entry)) (now (sheet .entry)) (now (sheet .exit)) r ⌝ }
+{
+    let mut counts = [0u32; 2];
+    let good = read_line(s, &mut counts);
+    if !good {
+        return Film::BadColumn;
+    }
+    let records = size(counts[0]);
+    let bytes = size(counts[1]);
+    if MOST_RECORDS < records {
+        return Film::BigFilm;
+    }
+    if MOST_BYTES < bytes {
+        return Film::BigFilm;
+    }
+    let lines = read_records(behind(s, COUNT_BYTES), records, sheet);
+    if !lines {
+        return Film::BadColumn;
+    }
+    let text = text_behind(s, records);
+    if text.len() != bytes {
+        return Film::BadColumn;
+    }
+    Film::Ready(records)
+}

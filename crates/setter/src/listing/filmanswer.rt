@@ -1,0 +1,32 @@
+// The answer for a film, with its number and its records.
+ghost use mathlib.Core.Path.{_≡_};
+ghost use Rattle.setter.specs.Listing.FilmAnswer.{filmNumber, filmRecords};
+
+// A film is refused, or how many records it has.
+pub enum Film {
+    BadColumn,
+    BigFilm,
+    Ready(usize),
+}
+
+// Document 01's number of a refused film; 0 where it is ready.
+pub fn film_number(f: Film) -> u32
+    ensures { λ r. ⌜ r ≡ filmNumber f ⌝ }
+{
+    match f {
+        Film::BadColumn => 13,
+        Film::BigFilm => 14,
+        Film::Ready(_) => 0,
+    }
+}
+
+// How many records a film that is ready has.
+pub fn film_records(f: Film) -> usize
+    ensures { λ r. ⌜ r ≡ filmRecords f ⌝ }
+{
+    match f {
+        Film::BadColumn => 0,
+        Film::BigFilm => 0,
+        Film::Ready(n) => n,
+    }
+}

@@ -1,2 +1,0 @@
-// The setting machine.
-pub mod run;

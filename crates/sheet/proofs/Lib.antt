@@ -1,3 +1,0 @@
-pub mod RecordLaws
-pub mod Trees
-pub mod SiblingLaws

@@ -1,3 +1,0 @@
-pub mod Sheet
-pub mod Siblings
-pub mod Forest

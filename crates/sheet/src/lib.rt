@@ -1,2 +1,0 @@
-// The sheet: its records.
-pub mod records;

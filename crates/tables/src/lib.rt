@@ -1,2 +1,0 @@
-// Tables, with their rows and cells.
-pub mod grid;

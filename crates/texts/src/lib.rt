@@ -1,2 +1,0 @@
-// The texts that records name.
-pub mod text;

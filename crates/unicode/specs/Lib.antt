@@ -1,3 +1,0 @@
-pub mod Utf8
-pub mod Scans
-pub mod Owed

@@ -1,2 +1,0 @@
-// The answer for a sheet.
-pub mod verdict;

@@ -1,4 +1,0 @@
-pub mod WalkLaws
-pub mod TreeLaws
-pub mod PathLaws
-pub mod DecideLaws

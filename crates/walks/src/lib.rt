@@ -1,2 +1,0 @@
-// Where a walk stands, and what it is given and hands back.
-pub mod trees;
