@@ -1,9 +1,9 @@
 //! Finds the checker's static library and links it.
 //!
-//! `REEDSANDER_LIB_DIR` names a folder that holds `libreedsander.a`; a
+//! `REEDSANDER_LIB_DIR` names a folder that holds `libsetter.a`; a
 //! relative name is seen from the repository's root, the folder that holds
-//! `rust/`. Without it `rt staticlib reedsander` is run there, which proves
-//! the checker and writes the library.
+//! `rust/`. Without it `rt staticlib setter` is run there, which proves
+//! the checker and the setting machine and writes the library.
 //!
 //! The library is copied to cargo's own folder, so that what was built stays
 //! whole when the root's `target/` is removed.
@@ -14,7 +14,7 @@ use std::{
     process::Command,
 };
 
-const LIBRARY: &str = "libreedsander.a";
+const LIBRARY: &str = "libsetter.a";
 
 fn main() {
     println!("cargo:rerun-if-env-changed=REEDSANDER_LIB_DIR");
@@ -31,7 +31,7 @@ fn main() {
     let copied = fs::copy(&library, out.join(LIBRARY));
     copied.unwrap_or_else(|error| panic!("{}: {error}", library.display()));
     println!("cargo:rustc-link-search=native={}", out.display());
-    println!("cargo:rustc-link-lib=static=reedsander");
+    println!("cargo:rustc-link-lib=static=setter");
 }
 
 /// A folder that cargo names.
@@ -53,12 +53,12 @@ fn proved(root: &Path) -> PathBuf {
         println!("cargo:rerun-if-changed={}", root.join(source).display());
     }
     let status = Command::new("rt")
-        .args(["staticlib", "reedsander"])
+        .args(["staticlib", "setter"])
         .current_dir(root)
         .status();
     match status {
         Ok(status) if status.success() => root.join("target/staticlib").join(LIBRARY),
-        Ok(status) => panic!("rt staticlib reedsander: {status}"),
+        Ok(status) => panic!("rt staticlib setter: {status}"),
         Err(error) => panic!(
             "rt: {error}; without it, REEDSANDER_LIB_DIR names the folder that holds {LIBRARY}"
         ),

@@ -3,7 +3,8 @@ use mathlib.Core.Path.{_≡_, refl}
 use mathlib.Core.List.{List, [], _∷_, _++_, map}
 use Prim.Native.Nat.{ℕ, _+_}
 use Rattle.leaves.specs.Text.Fence.{holdsFenceLine, isFence}
-use Rattle.leaves.specs.Text.Lines.{hasBlankEdgeLine, holdsLineEnding, isBlank, isCrOfCrlf, lines, longer, startsWith}
+use Rattle.leaves.specs.Text.Edges.{hasBlankEdgeLine}
+use Rattle.leaves.specs.Text.Lines.{holdsLineEnding, isBlank, isCrOfCrlf, lines, longer, startsWith}
 use Rattle.leaves.specs.Text.Lists.{all, any, none, firstOr, lastOr}
 use Rattle.leaves.specs.Text.Name.{isAttributeName, isBlankIdentifier, isDirectiveName, isRun, runs}
 use Rattle.leaves.specs.Text.Part.{partOf}
@@ -32,7 +33,8 @@ use Rattle.blocks.specs.Item.{opensWithParagraph, validateBlankLine, val
 use Rattle.blocks.specs.Number.{itemNumber, validateItemNumber}
 use Rattle.blocks.specs.List.{countFull, holdsOneBlock, validateList}
 use Rattle.blocks.specs.Table.{headerWidth, validateCell, validateCells, validateRows, validateTable}
-use Rattle.blocks.specs.Prose.{beforeBlocks, validateDirective, validateParagraph}
+use Rattle.blocks.specs.Label.{beforeBlocks, validateDirective}
+use Rattle.blocks.specs.Paragraph.{validateParagraph}
 use Rattle.blocks.specs.Holds.{holdsBlocks}
 use Rattle.blocks.specs.Block.{validateContainer, validateHtml, validateLeaf, validateOwn}
 use Rattle.blocks.specs.Walk.{validateBlock, validateBlocks, validateDocument, validateItem, validateItems}

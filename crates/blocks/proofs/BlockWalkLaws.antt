@@ -19,7 +19,7 @@ use Rattle.leaves.specs.declared.report.entries.Tally.{Tally}
 use Rattle.leaves.proofs.report.EntryLaws.{join-assoc, join-none, none-join, lists-none, lists-then}
 use Rattle.inlines.specs.Walk.{Begin, Done}
 use Rattle.inlines.specs.declared.walk.Walked.{Walked}
-use Rattle.inlines.proofs.WalkLaws.{behindKids, level-of, skip-tree}
+use Rattle.leaves.proofs.sheet.SkipLaws.{behindKids, level-of, skip-tree}
 use Rattle.inlines.proofs.PathLaws.{Paced, paced-room, paced-own, paced-call, paced-turn, kept-set, kept-below}
 use Rattle.blocks.specs.declared.before.Before.{Before}
 use Rattle.blocks.specs.Before.{first, beforeNext, validateTakenBlock, beforeAt, indexAt}

@@ -17,7 +17,7 @@ use Rattle.leaves.specs.declared.sheet.records.Text.{Text}
 use Rattle.leaves.specs.declared.report.entries.Tally.{Tally}
 use Rattle.leaves.proofs.sheet.ForestLaws.{under-in}
 use Rattle.leaves.proofs.report.EntryLaws.{none-join, lists-none, lists-then}
-use Rattle.inlines.proofs.WalkLaws.{behindKids, skip-tree}
+use Rattle.leaves.proofs.sheet.SkipLaws.{behindKids, skip-tree}
 use Rattle.inlines.proofs.PathLaws.{Paced, paced-own, paced-turn}
 use Rattle.leaves.specs.Report.Rules
 use Rattle.leaves.specs.Sheet.Empty.{isEmpty}

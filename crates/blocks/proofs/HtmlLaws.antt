@@ -13,8 +13,8 @@ use Rattle.leaves.specs.declared.sheet.records.Span.{Span}
 use Rattle.leaves.specs.declared.report.entries.Tally.{Tally}
 use Rattle.leaves.proofs.sheet.ForestLaws.{under-in}
 use Rattle.leaves.proofs.report.EntryLaws.{lists-none, lists-then}
-use Rattle.inlines.proofs.WalkLaws.{behindKids}
-use Rattle.inlines.proofs.TreeLaws.{Stands}
+use Rattle.leaves.proofs.sheet.SkipLaws.{behindKids}
+use Rattle.leaves.proofs.sheet.TreeLaws.{Stands}
 use Rattle.leaves.specs.Report.Rules
 use Rattle.leaves.specs.Sheet.Empty.{isEmpty}
 use Rattle.blocks.specs.Html.{validateTags, validateHtmlContainer}

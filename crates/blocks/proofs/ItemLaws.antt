@@ -17,9 +17,9 @@ use Rattle.leaves.specs.declared.sheet.records.Span.{Span}
 use Rattle.leaves.specs.declared.report.entries.Tally.{Tally}
 use Rattle.leaves.proofs.sheet.ForestLaws.{under-in}
 use Rattle.leaves.proofs.report.EntryLaws.{lists-none, lists-then}
-use Rattle.inlines.proofs.WalkLaws.{Skipping, behindKids, skip-tree, skip-out, skip-end}
-use Rattle.inlines.proofs.TreeLaws.{suc-some, count-end, count-out, count-in}
-use Rattle.inlines.proofs.DecideLaws.{Deciding, deciding-end, deciding-found, deciding-out, deciding-turn}
+use Rattle.leaves.proofs.sheet.SkipLaws.{Skipping, behindKids, skip-tree, skip-out, skip-end}
+use Rattle.leaves.proofs.sheet.TreeLaws.{suc-some, count-end, count-out, count-in}
+use Rattle.leaves.proofs.sheet.DecideLaws.{Deciding, deciding-end, deciding-found, deciding-out, deciding-turn}
 use Rattle.inlines.proofs.PathLaws.{Paced, kept-set, paced-own, paced-turn}
 use Rattle.leaves.specs.Report.Rules
 use Rattle.blocks.specs.Item.{opensWithParagraph, validateBlankLine, validateItemBlankLines, validateTaskItem}

@@ -21,9 +21,9 @@ use Rattle.inlines.specs.Attribute.{validateDirectiveAttributes}
 use Rattle.inlines.specs.Depth.{validateOneLine}
 use Rattle.inlines.specs.Walk.{Start, Done}
 use Rattle.inlines.specs.declared.walk.Walked.{Walked}
-use Rattle.inlines.proofs.WalkLaws.{behindKids}
+use Rattle.leaves.proofs.sheet.SkipLaws.{behindKids}
 use Rattle.inlines.specs.Nodes.{validateInlines}
-use Rattle.blocks.specs.Prose.{beforeBlocks, validateDirective}
+use Rattle.blocks.specs.Label.{beforeBlocks, validateDirective}
 
 -- ---- cutting a sheet behind some trees leaves them as they are
 none-of : (f : Forest) → size f ≤ 0 → f ≡ none

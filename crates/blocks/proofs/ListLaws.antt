@@ -16,8 +16,8 @@ use Rattle.leaves.specs.declared.sheet.records.Span.{Span}
 use Rattle.leaves.specs.declared.report.entries.Tally.{Tally}
 use Rattle.leaves.proofs.sheet.ForestLaws.{under-in, under-out, under-end, under-fits}
 use Rattle.leaves.proofs.report.EntryLaws.{join-none, lists-then}
-use Rattle.inlines.proofs.WalkLaws.{behindKids}
-use Rattle.inlines.proofs.TreeLaws.{Stands}
+use Rattle.leaves.proofs.sheet.SkipLaws.{behindKids}
+use Rattle.leaves.proofs.sheet.TreeLaws.{Stands}
 use Rattle.leaves.specs.Report.Rules
 use Rattle.blocks.specs.List.{countFull, holdsOneBlock, validateList}
 

@@ -16,9 +16,9 @@ use Rattle.leaves.specs.Report.Rules
 use Rattle.leaves.specs.Sheet.Empty.{isEmptyText}
 use Rattle.inlines.specs.Walk.{Done}
 use Rattle.inlines.specs.declared.walk.Walked.{Walked}
-use Rattle.inlines.proofs.DecideLaws.{Deciding, deciding-end, deciding-found, deciding-out, deciding-turn}
+use Rattle.leaves.proofs.sheet.DecideLaws.{Deciding, deciding-end, deciding-found, deciding-out, deciding-turn}
 use Rattle.inlines.specs.Nodes.{allEmpty, validateInlines}
-use Rattle.blocks.specs.Prose.{validateParagraph}
+use Rattle.blocks.specs.Paragraph.{validateParagraph}
 
 abbrev passes : Rec → Bool
 passes r = not (isInline (r .kind)) || isEmptyText r

@@ -19,9 +19,9 @@ use Rattle.leaves.specs.Report.Rules
 use Rattle.inlines.specs.Depth.{validateCellValues, validateOneLine}
 use Rattle.inlines.specs.Walk.{Done}
 use Rattle.inlines.specs.declared.walk.Walked.{Walked}
-use Rattle.inlines.proofs.WalkLaws.{behindKids, level-of, skip-tree}
+use Rattle.leaves.proofs.sheet.SkipLaws.{behindKids, level-of, skip-tree}
 use Rattle.inlines.proofs.PathLaws.{Paced, paced-room, paced-own, paced-turn, kept-set, kept-below}
-use Rattle.inlines.proofs.TreeLaws.{Stands, ends-some}
+use Rattle.leaves.proofs.sheet.TreeLaws.{Stands, ends-some}
 use Rattle.inlines.specs.Nodes.{validateInlines}
 use Rattle.blocks.specs.Table.{headerWidth, validateCell, validateCells, validateRows, validateTable}
 

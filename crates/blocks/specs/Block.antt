@@ -14,7 +14,8 @@ use Rattle.blocks.specs.Frontmatter.{validateFrontmatter}
 use Rattle.blocks.specs.Html.{validateHtmlContainer}
 use Rattle.blocks.specs.Footnote.{validateFootnoteDefinition}
 use Rattle.blocks.specs.List.{validateList}
-use Rattle.blocks.specs.Prose.{validateParagraph, validateLeafDirective, validateContainerDirective}
+use Rattle.blocks.specs.Paragraph.{validateParagraph}
+use Rattle.blocks.specs.Label.{validateLeafDirective, validateContainerDirective}
 use Rattle.blocks.specs.Table.{validateTable}
 
 -- Blocks that hold neither blocks nor parts of their own. Thematic breaks, HTML blocks, math blocks and blank lines have no message that is kept.

@@ -3,7 +3,7 @@ use Prim.Native.Nat.{ℕ}
 use mathlib.Core.Bool.{not, _&&_, _||_}
 use mathlib.Core.List.{List}
 use lib.Dec.{eqb, ltb}
-use Rattle.leaves.specs.Text.Lines.{hasBlankEdgeLine}
+use Rattle.leaves.specs.Text.Edges.{hasBlankEdgeLine}
 use Rattle.leaves.specs.Text.Name.{isBlankIdentifier}
 use Rattle.leaves.specs.Text.Title.{isAlertTitle}
 use Rattle.leaves.specs.Sheet.Texts.{textOf}

@@ -8,9 +8,10 @@ pub mod Heads
 pub mod Holds
 pub mod Html
 pub mod Item
+pub mod Label
 pub mod List
 pub mod Number
-pub mod Prose
+pub mod Paragraph
 pub mod Table
 pub mod Walk
 pub mod WalkAt

@@ -19,14 +19,14 @@ pub struct Before {
 }
 
 // Indented code, and a footnote definition, take the lines of indented code behind them.
-pub fn takes_indented_code(kind: u32, a: u32) -> bool
+fn takes_indented_code(kind: u32, a: u32) -> bool
     ensures { λ r. ⌜ r ≡ takesIndentedCode kind a ⌝ }
 {
     ((kind == kinds::CODE_BLOCK) & (a == 1)) | (kind == kinds::FOOTNOTE_DEFINITION)
 }
 
 // Rule 1: two lists of one marker would read as one. Rule 15: indented code behind what takes its lines.
-pub fn validate_taken_block(
+pub(crate) fn validate_taken_block(
     report: &mut [u32],
     path: &[u32],
     span: Span,
@@ -48,7 +48,7 @@ pub fn validate_taken_block(
 }
 
 // The block before the next tree: a blank line does not count, nor what is no block.
-pub fn before_at(before: Before, kind: u32, a: u32, b: u32) -> Before
+pub(crate) fn before_at(before: Before, kind: u32, a: u32, b: u32) -> Before
     ensures { λ q. ⌜ q ≡ beforeAt before kind a b ⌝ }
 {
     if !kinds::is_block(kind) {
@@ -61,7 +61,7 @@ pub fn before_at(before: Before, kind: u32, a: u32, b: u32) -> Before
 }
 
 // The next tree's index: one more behind a block.
-pub fn index_at(k: u32, kind: u32) -> u32
+pub(crate) fn index_at(k: u32, kind: u32) -> u32
     requires { ⌜ k ≤ 65535 ⌝ }
     ensures { λ q. ⌜ q ≡ indexAt k kind ⌝ }
 {

@@ -157,7 +157,7 @@ fn validate_container(
 }
 
 // Blocks that report at the paths of what they hold, and the others.
-pub fn validate_own(
+pub(crate) fn validate_own(
     sheet: &[u32],
     bytes: &[u8],
     report: &mut [u32],

@@ -5,12 +5,12 @@ ghost use Rattle.leaves.specs.Sheet.Forest.{under};
 ghost use Rattle.leaves.specs.Report.Entries.{Lists};
 ghost use Rattle.inlines.specs.Walk.{Begin};
 ghost use Rattle.blocks.specs.Footnote.{blankLineAt, validateFootnoteDefinition};
-use inlines::walk::ends;
-use inlines::walk::skip;
 use leaves::report::entries::Tally;
 use leaves::report::entries::list_if;
 use leaves::report::rules;
 use leaves::sheet::empty::is_empty;
+use leaves::sheet::forest::ends;
+use leaves::sheet::forest::skip;
 use leaves::sheet::kinds;
 use leaves::sheet::records::Span;
 use leaves::sheet::records::Text;
@@ -51,7 +51,7 @@ fn blank_line_at(
 }
 
 // Rule 3, then 4.
-pub fn validate_footnote_definition(
+pub(crate) fn validate_footnote_definition(
     sheet: &[u32],
     report: &mut [u32],
     path: &mut [u32],

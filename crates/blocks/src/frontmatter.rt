@@ -23,7 +23,7 @@ fn frontmatter_kind(a: u32) -> FrontmatterKind
 }
 
 // Rule 28: frontmatter stands at level 1. Rule 29: no line of it is its own fence.
-pub fn validate_frontmatter(
+pub(crate) fn validate_frontmatter(
     bytes: &[u8],
     report: &mut [u32],
     path: &[u32],

@@ -16,7 +16,7 @@ use leaves::text::name::is_blank_identifier;
 use leaves::text::title::is_alert_title;
 
 // Rule 10: a heading's depth is from 1 to 6.
-pub fn validate_heading(
+pub(crate) fn validate_heading(
     report: &mut [u32],
     path: &[u32],
     span: Span,
@@ -31,7 +31,7 @@ pub fn validate_heading(
 }
 
 // Rule 11, where there is a title (`a` is 1).
-pub fn validate_alert(
+pub(crate) fn validate_alert(
     bytes: &[u8],
     report: &mut [u32],
     path: &[u32],
@@ -48,7 +48,7 @@ pub fn validate_alert(
 }
 
 // Rule 26, where there is an info string (`b` is 1), and 27 of indented code (`a` is 1).
-pub fn validate_code_block(
+pub(crate) fn validate_code_block(
     bytes: &[u8],
     report: &mut [u32],
     path: &[u32],
@@ -69,7 +69,7 @@ pub fn validate_code_block(
 }
 
 // Rule 24, then 25.
-pub fn validate_definition(
+pub(crate) fn validate_definition(
     bytes: &[u8],
     report: &mut [u32],
     path: &[u32],

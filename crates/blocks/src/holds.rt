@@ -4,7 +4,7 @@ ghost use Rattle.blocks.specs.Holds.{holdsBlocks};
 use leaves::sheet::kinds;
 
 // The blocks that hold blocks.
-pub fn holds_blocks(kind: u32, a: u32) -> bool
+pub(crate) fn holds_blocks(kind: u32, a: u32) -> bool
     ensures { λ r. ⌜ r ≡ holdsBlocks kind a ⌝ }
 {
     (kind == kinds::BLOCK_QUOTE)

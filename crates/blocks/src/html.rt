@@ -5,12 +5,12 @@ ghost use Rattle.leaves.specs.Sheet.Forest.{under};
 ghost use Rattle.leaves.specs.Report.Entries.{Lists};
 ghost use Rattle.inlines.specs.Walk.{Start};
 ghost use Rattle.blocks.specs.Html.{validateTags, validateHtmlContainer};
-use inlines::walk::ends;
-use inlines::walk::skip;
 use leaves::report::entries::Tally;
 use leaves::report::entries::list_if;
 use leaves::report::rules;
 use leaves::sheet::empty::is_empty;
+use leaves::sheet::forest::ends;
+use leaves::sheet::forest::skip;
 use leaves::sheet::records::Rec;
 use leaves::sheet::records::Span;
 use leaves::sheet::records::record_at;
@@ -59,7 +59,7 @@ fn validate_tags(
 }
 
 // A container's first two children are its tags.
-pub fn validate_html_container(
+pub(crate) fn validate_html_container(
     sheet: &[u32],
     bytes: &[u8],
     report: &mut [u32],

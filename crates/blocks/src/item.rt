@@ -13,11 +13,11 @@ ghost use Rattle.blocks.specs.Item.{
   validateItemBlankLines,
   validateTaskItem,
 };
-use inlines::walk::ends;
-use inlines::walk::skip;
 use leaves::report::entries::Tally;
 use leaves::report::entries::list_if;
 use leaves::report::rules;
+use leaves::sheet::forest::ends;
+use leaves::sheet::forest::skip;
 use leaves::sheet::kinds;
 use leaves::sheet::records::Span;
 use leaves::sheet::records::record_at;
@@ -45,7 +45,7 @@ fn validate_blank_line(
 }
 
 // The blank lines of an item of the level `level`, in a list of the level `outer`. A block that nothing deeper than `outer` stands behind is the last block of the last item.
-pub fn validate_item_blank_lines(
+pub(crate) fn validate_item_blank_lines(
     sheet: &[u32],
     report: &mut [u32],
     path: &mut [u32],
@@ -108,7 +108,7 @@ fn opens_with_paragraph(sheet: &[u32], n: usize, from: usize, level: u32) -> boo
 }
 
 // Rule 14, where the item has a checkbox (`checked` is not 0).
-pub fn validate_task_item(
+pub(crate) fn validate_task_item(
     sheet: &[u32],
     report: &mut [u32],
     path: &[u32],

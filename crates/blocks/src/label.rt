@@ -6,13 +6,13 @@ ghost use Rattle.leaves.specs.Sheet.Records.{recordWords};
 ghost use Rattle.leaves.specs.Sheet.Forest.{under, size};
 ghost use Rattle.leaves.specs.Report.Entries.{Lists};
 ghost use Rattle.inlines.specs.Walk.{Start};
-ghost use Rattle.blocks.specs.Prose.{beforeBlocks, validateDirective};
+ghost use Rattle.blocks.specs.Label.{beforeBlocks, validateDirective};
 use inlines::attribute::validate_directive_attributes;
 use inlines::depth;
 use inlines::nodes::validate_inlines;
 use inlines::single::validate_directive_name;
-use inlines::walk::skip;
 use leaves::report::entries::Tally;
+use leaves::sheet::forest::skip;
 use leaves::sheet::kinds;
 use leaves::sheet::records::Span;
 use leaves::sheet::records::Text;
@@ -39,7 +39,7 @@ fn label_end(sheet: &[u32], n: usize, from: usize, level: u32) -> usize
 }
 
 // Rule 54, then 55, the label's inlines, and `rule` for each break in it. The records up to the first block are a sheet of their own, so no walk goes through the blocks.
-pub fn validate_directive(
+pub(crate) fn validate_directive(
     sheet: &[u32],
     bytes: &[u8],
     report: &mut [u32],

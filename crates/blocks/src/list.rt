@@ -10,11 +10,11 @@ ghost use Rattle.leaves.specs.Sheet.Forest.{under};
 ghost use Rattle.leaves.specs.Report.Entries.{Lists};
 ghost use Rattle.inlines.specs.Walk.{Start};
 ghost use Rattle.blocks.specs.List.{countFull, holdsOneBlock, validateList};
-use inlines::walk::ends;
-use inlines::walk::skip;
 use leaves::report::entries::Tally;
 use leaves::report::entries::list_if;
 use leaves::report::rules;
+use leaves::sheet::forest::ends;
+use leaves::sheet::forest::skip;
 use leaves::sheet::kinds;
 use leaves::sheet::records::Span;
 use leaves::sheet::records::level_at;
@@ -66,7 +66,7 @@ fn holds_one_block(sheet: &[u32], n: usize, from: usize, level: u32) -> bool
 }
 
 // Rule 12: a list holds an item. Rule 13: one item of one block is tight.
-pub fn validate_list(
+pub(crate) fn validate_list(
     sheet: &[u32],
     report: &mut [u32],
     path: &[u32],

@@ -12,13 +12,13 @@ use leaves::sheet::records::Span;
 const MOST_NUMBER: u32 = 999999999;
 
 // An item's own number.
-pub enum Number {
+pub(crate) enum Number {
     Absent,
     Present(u32),
 }
 
 // The number of an item whose B and C these are.
-pub fn item_number(b: u32, c: u32) -> Number
+pub(crate) fn item_number(b: u32, c: u32) -> Number
     ensures { λ r. ⌜ r ≡ itemNumber b c ⌝ }
 {
     if b == 1 {
@@ -28,7 +28,7 @@ pub fn item_number(b: u32, c: u32) -> Number
 }
 
 // Rule 49: a bullet has no number. Rule 50: a number has at most nine digits.
-pub fn validate_item_number(
+pub(crate) fn validate_item_number(
     report: &mut [u32],
     path: &[u32],
     span: Span,

@@ -7,13 +7,13 @@ ghost use Rattle.leaves.specs.Sheet.Forest.{under};
 ghost use Rattle.leaves.specs.Report.Entries.{Lists};
 ghost use Rattle.inlines.specs.Walk.{Start};
 ghost use Rattle.inlines.specs.Nodes.{allEmpty};
-ghost use Rattle.blocks.specs.Prose.{validateParagraph};
+ghost use Rattle.blocks.specs.Paragraph.{validateParagraph};
 use inlines::nodes::validate_inlines;
-use inlines::walk::skip;
 use leaves::report::entries::Tally;
 use leaves::report::entries::list_if;
 use leaves::report::rules;
 use leaves::sheet::empty;
+use leaves::sheet::forest::skip;
 use leaves::sheet::kinds;
 use leaves::sheet::records::Span;
 use leaves::sheet::records::record_at;
@@ -39,7 +39,7 @@ fn all_empty(sheet: &[u32], n: usize, from: usize, level: u32) -> bool
 }
 
 // Rule 2, then the inlines.
-pub fn validate_paragraph(
+pub(crate) fn validate_paragraph(
     sheet: &[u32],
     bytes: &[u8],
     report: &mut [u32],

@@ -8,11 +8,11 @@ ghost use Rattle.blocks.specs.Table.{validateCell, validateCells, valida
 use inlines::depth;
 use inlines::nodes::validate_inlines;
 use inlines::walk::Walked;
-use inlines::walk::count;
-use inlines::walk::ends;
 use leaves::report::entries::Tally;
 use leaves::report::entries::list_if;
 use leaves::report::rules;
+use leaves::sheet::forest::count;
+use leaves::sheet::forest::ends;
 use leaves::sheet::records::Span;
 use leaves::sheet::records::level_at;
 use leaves::sheet::records::record_at;
@@ -118,7 +118,7 @@ fn validate_rows(
 }
 
 // Rule 16 alone; or 17, 18 and the rows. `a` is the table's alignment count.
-pub fn validate_table(
+pub(crate) fn validate_table(
     sheet: &[u32],
     bytes: &[u8],
     report: &mut [u32],

@@ -21,9 +21,9 @@ use crate::item;
 use crate::number::item_number;
 use crate::number::validate_item_number;
 use inlines::walk::Walked;
-use inlines::walk::skip;
 use leaves::report::entries;
 use leaves::report::entries::Tally;
+use leaves::sheet::forest::skip;
 use leaves::sheet::kinds;
 use leaves::sheet::records::record_at;
 
@@ -234,7 +234,7 @@ fn validate_item(
 }
 
 // The whole list of an accepted sheet of n records.
-pub fn validate_document(sheet: &[u32], bytes: &[u8], report: &mut [u32], n: usize) -> Tally
+pub(crate) fn validate_document(sheet: &[u32], bytes: &[u8], report: &mut [u32], n: usize) -> Tally
     requires { ⌜ Sound (now sheet) (now bytes) × (n ≡ recordsOf (now sheet)) ⌝ }
     ensures { λ q. ⌜ Lists start q (now (report .entry)) (now (report .exit)) (validateDocument (now (sheet .entry)) (now (bytes .entry))) ⌝ }
 {

@@ -11,7 +11,8 @@ use Rattle.leaves.specs.declared.sheet.records.Rec.{Rec}
 use Rattle.leaves.specs.declared.report.entries.Tally.{Tally}
 use Rattle.inlines.specs.Values.{isBadAttribute}
 use Rattle.leaves.specs.Report.Rules
-use Rattle.inlines.proofs.WalkLaws.{Loop, behindKids, loop-turn, skip-tree, spine-tree}
+use Rattle.inlines.proofs.WalkLaws.{Loop, loop-turn, spine-tree}
+use Rattle.leaves.proofs.sheet.SkipLaws.{behindKids, skip-tree}
 use Rattle.inlines.specs.Attribute.{validateDirectiveAttributes}
 
 pub attributes-none : (bytes path : List ℕ) → validateDirectiveAttributes bytes path none ≡ []

@@ -10,13 +10,13 @@ use Rattle.leaves.specs.Sheet.Kinds.{isInline, lineBreak}
 use Rattle.leaves.specs.Sheet.Forest.{Forest, none, tree}
 use Rattle.leaves.specs.Report.Entries.{Lists, listIf}
 use Rattle.leaves.specs.declared.report.entries.Tally.{Tally}
-use Rattle.inlines.specs.Gathered.{noContent, withInline, contentAfter, contentOf}
+use Rattle.inlines.specs.ContentGathered.{noContent, withInline, contentAfter, contentOf}
 use Rattle.inlines.specs.Content.{noInline, allEmpty, startsWithWhitespace, endsWithWhitespaceAfter, endsWithWhitespace, holdsJoined, finalBreakAfter, finalBreak}
 use Rattle.leaves.specs.Report.Rules
 use Rattle.leaves.specs.Sheet.Empty.{isEmptyText}
 use Rattle.inlines.specs.Values.{startsWhite, endsWhite}
 use Rattle.leaves.specs.Sheet.Classes.{isJoined}
-use Rattle.inlines.specs.declared.gathered.Content.{Content}
+use Rattle.inlines.specs.declared.content.Content.{Content}
 
 -- ---- the first inline that is no empty text: the test of it counts, and none after it
 starts-now : (s e w x : Bool) → (s || e && not false && w || e && false && x) ≡ (s || e && w)

@@ -10,7 +10,8 @@ use Rattle.leaves.specs.Report.Entries.{Entry, Lists, listIf, _⊕_}
 use Rattle.leaves.specs.declared.sheet.records.Rec.{Rec}
 use Rattle.leaves.specs.declared.report.entries.Tally.{Tally}
 use Rattle.leaves.proofs.report.EntryLaws.{join-assoc}
-use Rattle.inlines.proofs.WalkLaws.{Loop, loop-turn, skip-turn, spine-kids, spine-tree}
+use Rattle.inlines.proofs.WalkLaws.{Loop, loop-turn, spine-kids, spine-tree}
+use Rattle.leaves.proofs.sheet.SkipLaws.{skip-turn}
 use Rattle.inlines.specs.Depth.{eachRecord}
 
 pub each-none : (entries : Rec → List Entry) → eachRecord entries none ≡ []

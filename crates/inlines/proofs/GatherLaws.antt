@@ -15,9 +15,9 @@ use Rattle.leaves.proofs.sheet.ForestLaws.{under-in, under-out, under-end}
 use Rattle.leaves.specs.Sheet.Empty.{isEmptyText}
 use Rattle.inlines.specs.Values.{startsWhite, endsWhite}
 use Rattle.leaves.specs.Sheet.Classes.{isJoined}
-use Rattle.inlines.specs.Gathered.{noContent, withInline, contentAfter, contentOf}
-use Rattle.inlines.specs.declared.gathered.Content.{Content}
-use Rattle.inlines.proofs.WalkLaws.{Skipping, skip-start, skip-tree, skip-down, behindKids}
+use Rattle.inlines.specs.ContentGathered.{noContent, withInline, contentAfter, contentOf}
+use Rattle.inlines.specs.declared.content.Content.{Content}
+use Rattle.leaves.proofs.sheet.SkipLaws.{Skipping, skip-start, skip-tree, skip-down, behindKids}
 
 -- ---- one inline more, or a record of another sort
 module _ (bytes : List ℕ) (outer a : ℕ) (c : Content) (r : Rec) where

@@ -1,6 +1,5 @@
 pub mod AttributeLaws
 pub mod ContentLaws
-pub mod DecideLaws
 pub mod DepthLaws
 pub mod GatherLaws
 pub mod InlineExamples
@@ -11,6 +10,5 @@ pub mod NodesLaws
 pub mod OwnLaws
 pub mod PathLaws
 pub mod SingleLaws
-pub mod TreeLaws
 pub mod ValueLaws
 pub mod WalkLaws

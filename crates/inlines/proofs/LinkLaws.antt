@@ -15,7 +15,8 @@ use Rattle.leaves.specs.declared.report.entries.Tally.{Tally}
 use Rattle.leaves.proofs.report.EntryLaws.{none-join}
 use Rattle.leaves.specs.Sheet.Classes.{isLink}
 use Rattle.leaves.specs.Report.Rules
-use Rattle.inlines.proofs.WalkLaws.{Loop, Skipping, loop-turn, skip-tree, skip-turn, spine-kids, spine-tree}
+use Rattle.inlines.proofs.WalkLaws.{Loop, loop-turn, spine-kids, spine-tree}
+use Rattle.leaves.proofs.sheet.SkipLaws.{Skipping, skip-tree, skip-turn}
 use Rattle.inlines.specs.Link.{validateLinkText}
 
 pub links-none : (path : List ℕ) → validateLinkText path none ≡ []

@@ -13,7 +13,7 @@ use Rattle.leaves.specs.declared.sheet.records.Span.{Span}
 use Rattle.leaves.specs.declared.sheet.records.Text.{Text}
 use Rattle.leaves.specs.declared.report.entries.Tally.{Tally}
 use Rattle.leaves.proofs.report.EntryLaws.{lists-then}
-use Rattle.inlines.specs.Gathered.{contentOf}
+use Rattle.inlines.specs.ContentGathered.{contentOf}
 use Rattle.inlines.specs.Single.{validateDirectiveName}
 use Rattle.inlines.specs.Attribute.{validateDirectiveAttributes}
 use Rattle.inlines.specs.Content.{noInline}
@@ -22,7 +22,7 @@ use Rattle.inlines.specs.Own.{validateInlineValues}
 use Rattle.leaves.specs.Report.Rules
 use Rattle.leaves.specs.Sheet.Classes.{isEmphasisContainer}
 use Rattle.inlines.specs.Walk.{Done}
-use Rattle.inlines.specs.declared.gathered.Content.{Content}
+use Rattle.inlines.specs.declared.content.Content.{Content}
 use Rattle.inlines.specs.declared.walk.Walked.{Walked}
 use Rattle.inlines.proofs.ContentLaws.{says-none, says-empty, says-starts, says-ends, says-joined, says-last}
 

@@ -18,9 +18,10 @@ use Rattle.leaves.proofs.report.EntryLaws.{lists-none, lists-then}
 use Rattle.inlines.specs.Single.{validateSiblings}
 use Rattle.inlines.specs.Nodes.{finalBreak, validateInline, validateNode, validateInlineNodesAfter, validateInlineNodes, validateInlines}
 use Rattle.inlines.specs.Walk.{Done}
-use Rattle.inlines.specs.Here.{Here}
+use Rattle.inlines.specs.NodesHere.{Here}
 use Rattle.inlines.specs.declared.walk.Walked.{Walked}
-use Rattle.inlines.proofs.WalkLaws.{Loop, behindKids, skip-tree, loop-turn}
+use Rattle.inlines.proofs.WalkLaws.{Loop, loop-turn}
+use Rattle.leaves.proofs.sheet.SkipLaws.{behindKids, skip-tree}
 
 -- ---- one record: what its children list, by a call
 abbrev pub underOf : List ℕ → List ℕ → List ℕ → ℕ → ℕ → ℕ → List Entry

@@ -11,7 +11,8 @@ use Rattle.leaves.specs.Sheet.Forest.{Forest, none, under}
 use Rattle.leaves.specs.Report.Entries.{Entry, Lists, _⊕_}
 use Rattle.leaves.specs.declared.report.entries.Tally.{Tally}
 use Rattle.inlines.specs.Walk.{Start, Begin, Done}
-use Rattle.inlines.proofs.WalkLaws.{Loop, Skipping, loop-start, loop-turn, loop-out, loop-end}
+use Rattle.inlines.proofs.WalkLaws.{Loop, loop-start, loop-turn, loop-out, loop-end}
+use Rattle.leaves.proofs.sheet.SkipLaws.{Skipping}
 
 -- the loop stands at record i, which would be the k-th, with the scratch q
 pub record Paced (es : List Entry) (h : Forest → List Entry) (w p : List ℕ) (n from len level : ℕ) (s : Tally) (x : List ℕ) (i k : ℕ) (t : Tally) (y q : List ℕ) : Type 0 where

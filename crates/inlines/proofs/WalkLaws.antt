@@ -5,7 +5,6 @@ use mathlib.Core.List.{List, []}
 use Prim.Native.Nat.{ℕ, _+_, _-_, _<_, _≤_}
 use native.Mathlib.Nat.{sub-add-eq}
 use native.Mathlib.Omega.{arith}
-use borrow.Author.Needs.{needs}
 use borrow.Author.Tests.{ltb-true, ltb-false}
 use lib.Dec.{ltb}
 use lib.ListN.{length}
@@ -15,10 +14,11 @@ use Rattle.leaves.specs.Sheet.Forest.{Forest, none, tree, deeper, past, forestA
 use Rattle.leaves.specs.Report.Entries.{Entry, Lists, _⊕_}
 use Rattle.leaves.specs.declared.sheet.records.Rec.{Rec}
 use Rattle.leaves.specs.declared.report.entries.Tally.{Tally}
-use Rattle.leaves.proofs.sheet.ForestLaws.{past-in, past-out, deeper-in, deeper-out, past-at, under-in, under-out, under-end, under-fits, size-step, size-out, size-end}
+use Rattle.leaves.proofs.sheet.ForestLaws.{past-in, past-out, deeper-in, deeper-out, past-at, under-in, under-out, under-end}
 use Rattle.leaves.proofs.report.EntryLaws.{join-assoc, none-join, lists-none, lists-then}
 use Rattle.inlines.specs.Walk.{Start, Done}
 use Rattle.inlines.specs.declared.walk.Walked.{Walked}
+use Rattle.leaves.proofs.sheet.SkipLaws.{Skipping, skip-end, skip-out, skip-start}
 
 -- ---- a list that goes from tree to tree
 module _ (h : Forest → List Entry) (g : Rec → Forest → List Entry) (at-none : h none ≡ []) (at-tree : (r : Rec) (kids rest : Forest) → h (tree r kids rest) ≡ g r kids ⊕ h rest) where
@@ -43,51 +43,8 @@ module _ (h : Forest → List Entry) (g : Rec → Forest → List Entry) (at-non
     pub spine-kids : h (under w n (i + 1) l) ≡ h (under w n (i + 1) (recordAt w i .level)) ⊕ h (under w n (i + 1 + size (under w n (i + 1) (recordAt w i .level))) l)
     spine-kids = rw (past-at, ← sub-add-eq n (i + 1)) at (spine-split l (recordAt w i .level) (omega arith) (forestAt w (n - (i + 1)) (i + 1)))
 
--- ---- passing over trees: record i is where a walk stands that began at record `from`
-pub record Skipping (w : List ℕ) (n from level i : ℕ) : Type 0 where
-  pub inside : i ≤ n
-  pub gone : i + size (under w n i level) ≡ from + size (under w n from level)
-
--- where the kids of record i end
-abbrev pub behindKids : List ℕ → ℕ → ℕ → ℕ
-behindKids w n i = i + 1 + size (under w n (i + 1) (recordAt w i .level))
-
-module _ (w : List ℕ) (n from level : ℕ) where
-  pub skip-start : from ≤ n → Skipping w n from level from
-  skip-start h = record { inside = h; gone = refl }
-
-  module _ {i : ℕ} (v : Skipping w n from level i) where
-    pub skip-turn : {m : ℕ} → i < n → m ≡ recordAt w i .level → level < m → Skipping w n from level (i + 1)
-    skip-turn h e d = let f : level < recordAt w i .level = rw e at d in record { inside = omega arith; gone = omega (arith, size-step w n i level h f, v .gone) }
-
-    -- .. and past all that stands under record i
-    pub skip-tree : i < n → level < recordAt w i .level → Skipping w n from level (behindKids w n i)
-    unfolding size
-    skip-tree b d =
-        let m : behindKids w n i + size (under w n (behindKids w n i) level) ≡ i + size (under w n i level) = rw (under-in w n i level b d) (omega arith) in
-        record { inside = under-fits w n (i + 1) (recordAt w i .level) (omega arith); gone = m ∙ v .gone }
-
-    pub skip-out : {m : ℕ} → i < n → m ≡ recordAt w i .level → m ≤ level → i ≡ from + size (under w n from level)
-    skip-out h e d = let f : recordAt w i .level ≤ level = rw e at d in omega (arith, size-out w n i level h f, v .gone)
-
-    pub skip-end : n ≤ i → i ≡ from + size (under w n from level)
-    skip-end h = omega (arith, size-end w n i level h, v .gone)
-
--- it goes on behind where it stood
-pub skip-down : (w : List ℕ) (n i m : ℕ) {j : ℕ} → i < n → j ≡ i + 1 + size (under w n (i + 1) m) → n - j < n - i
-skip-down w n i m {j} b e = let d : i < j = rw e (omega arith) in omega arith
-
-pub skip-fits : (w : List ℕ) (n i m : ℕ) {j : ℕ} → i < n → j ≡ i + 1 + size (under w n (i + 1) m) → j ≤ n
-skip-fits w n i m b e = rw e (under-fits w n (i + 1) m (omega arith))
-
--- the level of a record that was read
-pub level-of : (w : List ℕ) (i : ℕ) {r : Rec} → r ≡ recordAt w i → r .level ≡ recordAt w i .level
-level-of w i e = rw e
-
 pub done-down : {w : List ℕ} {n i level : ℕ} {es : List Entry} {s : Tally} {x y : List ℕ} {q : Walked} → i < n → Done w n (i + 1) level es s x q y → n - q .next < n - i
 done-down {i = i} {q = q} b d = let f : i < q .next = rw (d .next) (omega arith) in omega arith
-
-pub ruleset skipping = (skip-start, skip-turn, skip-out, skip-end, needs)
 
 -- ---- a loop that lists es stands at record i, with the tally t and the report y: what lists the rest, h, lists the whole
 pub record Loop (es : List Entry) (h : Forest → List Entry) (w path : List ℕ) (n from level : ℕ) (s : Tally) (x : List ℕ) (i : ℕ) (t : Tally) (y : List ℕ) : Type 0 where

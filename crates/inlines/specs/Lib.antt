@@ -1,12 +1,12 @@
 pub mod Attribute
 pub mod Content
+pub mod ContentGathered
 pub mod Depth
-pub mod Gathered
-pub mod Here
 pub mod Link
 pub mod Literal
 pub mod Node
 pub mod Nodes
+pub mod NodesHere
 pub mod Own
 pub mod Single
 pub mod Values

@@ -1,4 +1,4 @@
--- What validate.rs reports of one inline by itself: for each of its functions a definition of the same name, which gives the list of its entries in its order. What it calls is in `Single`, `Own`, `Depth` and `Content`.
+-- What validate.rs reports of one inline by itself: for each of its functions a definition of the same name, which gives the list of its entries in its order. What it calls is in `Single`, `Own`, `Link`, `Attribute` and `Content`.
 -- `kids` are the trees under the inline, and `path` is that of the enclosing block or cell.
 use Prim.Native.Nat.{ℕ}
 use mathlib.Core.Bool.{not, _&&_, _||_}

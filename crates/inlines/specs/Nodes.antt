@@ -1,4 +1,4 @@
--- The walk of inlines of validate.rs: for each of its functions a definition of the same name, which gives the list of its entries in its order. What it calls is in `Single`, `Content` and `Node`; the last two are passed on.
+-- The walk of inlines of validate.rs: for each of its functions a definition of the same name, which gives the list of its entries in its order. What it calls is in `Single`, `Content`, `Own` and `Node`; the last three are passed on.
 -- Inlines are the trees of a forest; trees of another sort (attributes, tags, blocks) are passed over. `path` is that of the enclosing block or cell.
 use Prim.Native.Nat.{ℕ}
 use mathlib.Core.List.{List, []}

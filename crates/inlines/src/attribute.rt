@@ -4,10 +4,10 @@ ghost use Rattle.inlines.specs.Attribute.{validateDirectiveAttributes};
 ghost use Rattle.inlines.specs.Walk.{Start, Done};
 use crate::values;
 use crate::walk::Walked;
-use crate::walk::skip;
 use leaves::report::entries;
 use leaves::report::entries::Tally;
 use leaves::report::rules;
+use leaves::sheet::forest::skip;
 use leaves::sheet::records;
 use leaves::sheet::records::Span;
 

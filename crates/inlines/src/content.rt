@@ -7,20 +7,35 @@ ghost use Rattle.leaves.specs.Sheet.Forest.{under};
 ghost use Rattle.leaves.specs.Report.Entries.{Lists};
 ghost use Rattle.inlines.specs.Walk.{Start};
 ghost use Rattle.inlines.specs.Content.{finalBreak};
-ghost use Rattle.inlines.specs.Gathered.{noContent, withInline, contentOf};
-use crate::gathered::Content;
+ghost use Rattle.inlines.specs.ContentGathered.{noContent, withInline, contentOf};
 use crate::values;
-use crate::walk::skip;
 use leaves::report::entries::Tally;
 use leaves::report::entries::list_if;
 use leaves::report::rules;
 use leaves::sheet::classes;
 use leaves::sheet::empty;
+use leaves::sheet::forest::skip;
 use leaves::sheet::kinds;
 use leaves::sheet::records;
 use leaves::sheet::records::Rec;
 use leaves::sheet::records::Span;
 use leaves::text::bytes::choose;
+
+// What inlines side by side give.
+pub(crate) struct Content {
+    // an inline stands there
+    pub some: bool,
+    // all of them are empty texts
+    pub empty: bool,
+    // the first that is no empty text starts with white space, and the last ends with it
+    pub starts: bool,
+    pub ends: bool,
+    // there is one alone, written with the container's delimiter
+    pub joined: bool,
+    // the last is a line break, and its span
+    pub breaks: bool,
+    pub last: Span,
+}
 
 fn no_content() -> Content
     ensures { λ r. ⌜ r ≡ noContent ⌝ }
@@ -61,7 +76,7 @@ fn with_inline(bytes: &[u8], outer: u32, a: u32, c: Content, r: Rec) -> Content
 }
 
 // The content of a container of the kind `outer` whose A is `a`: the trees from record `from` on that are deeper than `level`.
-pub fn gather(
+pub(crate) fn gather(
     sheet: &[u32],
     bytes: &[u8],
     n: usize,
@@ -87,7 +102,7 @@ pub fn gather(
 }
 
 // Rule 30: a hard break is not the last inline. A container that a `]` closes is not asked.
-pub fn final_break(
+pub(crate) fn final_break(
     sheet: &[u32],
     bytes: &[u8],
     report: &mut [u32],

@@ -8,11 +8,11 @@ ghost use Rattle.leaves.specs.Sheet.Forest.{under, size};
 ghost use Rattle.inlines.specs.Link.{validateLinkText};
 ghost use Rattle.inlines.specs.Walk.{Start, Done};
 use crate::walk::Walked;
-use crate::walk::skip;
 use leaves::report::entries;
 use leaves::report::entries::Tally;
 use leaves::report::rules;
 use leaves::sheet::classes;
+use leaves::sheet::forest::skip;
 use leaves::sheet::records;
 
 // The record to go on with: behind all that stands under record `i` where it is a link, else the next.
@@ -27,7 +27,7 @@ fn past_link(sheet: &[u32], n: usize, i: usize, found: bool, level: u32) -> usiz
 }
 
 // Rule 42: link text holds no link, at any depth; not below a link that was found.
-pub fn validate_link_text(
+pub(crate) fn validate_link_text(
     sheet: &[u32],
     report: &mut [u32],
     path: &[u32],

@@ -14,7 +14,7 @@ use leaves::text::lines::holds_line_ending;
 use leaves::text::math::holds_backtick_dollar;
 
 // Rule 31: text holds no line ending.
-pub fn validate_text(
+pub(crate) fn validate_text(
     bytes: &[u8],
     report: &mut [u32],
     path: &[u32],
@@ -30,7 +30,7 @@ pub fn validate_text(
 }
 
 // Rules 44, 45: inline code is not empty and holds no line ending.
-pub fn validate_code_inline(
+pub(crate) fn validate_code_inline(
     bytes: &[u8],
     report: &mut [u32],
     path: &[u32],
@@ -48,7 +48,7 @@ pub fn validate_code_inline(
 }
 
 // Rules 46, 47, 48: inline math is not empty; a dollar fence (`a` is 0) has `b` dollars, at least one; the code form holds no "`$".
-pub fn validate_math_inline(
+pub(crate) fn validate_math_inline(
     bytes: &[u8],
     report: &mut [u32],
     path: &[u32],

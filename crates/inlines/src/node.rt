@@ -123,7 +123,7 @@ fn validate_inline_footnote(
 }
 
 // What one inline reports of itself, before its children, which start at record `from`.
-pub fn validate_inline(
+pub(crate) fn validate_inline(
     sheet: &[u32],
     bytes: &[u8],
     report: &mut [u32],

@@ -4,15 +4,16 @@ ghost use Rattle.leaves.specs.Sheet.Records.{recordAt};
 ghost use Rattle.leaves.specs.Sheet.Forest.{under};
 ghost use Rattle.inlines.specs.Nodes.{validateInlineNodesAfter, validateInlines, validateNode};
 ghost use Rattle.inlines.specs.Walk.{Start, Done};
-ghost use Rattle.inlines.specs.Here.{Here};
+ghost use Rattle.inlines.specs.NodesHere.{Here};
 use crate::content::final_break;
 use crate::node::validate_inline;
 use crate::single;
 use crate::walk::Walked;
-use crate::walk::skip;
 use leaves::report::entries::Tally;
+use leaves::sheet::forest::skip;
 use leaves::sheet::kinds;
 use leaves::sheet::records::record_at;
+use leaves::text::bytes::pick;
 
 // Record `i`, of level `level`, behind an inline of the kind `before`: both side by side, then itself, then its children. A record that is no inline is passed over.
 fn validate_node(
@@ -68,7 +69,7 @@ fn validate_inline_nodes(
             };
         }
         let w = validate_node(sheet, bytes, report, path, n, i, r.level, last, out);
-        last = kinds::pick(kinds::is_inline(r.kind), r.kind, last);
+        last = pick(kinds::is_inline(r.kind), r.kind, last);
         out = w.tally;
         i = w.next;
     }

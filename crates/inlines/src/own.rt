@@ -11,7 +11,7 @@ use leaves::sheet::kinds;
 use leaves::sheet::records::Rec;
 
 // What an inline reports that is asked for its own values alone.
-pub fn validate_inline_values(
+pub(crate) fn validate_inline_values(
     bytes: &[u8],
     report: &mut [u32],
     path: &[u32],

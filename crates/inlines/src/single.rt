@@ -39,7 +39,7 @@ pub fn validate_destination(
 }
 
 // Rules 32, 33, 34, 36, as the rule says: an identifier or a target is not empty.
-pub fn validate_identifier(
+pub(crate) fn validate_identifier(
     report: &mut [u32],
     path: &[u32],
     rule: u32,
@@ -55,7 +55,13 @@ pub fn validate_identifier(
 }
 
 // Rule 43: an escaped value is ASCII punctuation.
-pub fn validate_escape(report: &mut [u32], path: &[u32], span: Span, a: u32, tally: Tally) -> Tally
+pub(crate) fn validate_escape(
+    report: &mut [u32],
+    path: &[u32],
+    span: Span,
+    a: u32,
+    tally: Tally,
+) -> Tally
     requires { ⌜ length (now path) ≤ 64 ⌝ }
     ensures { λ r. ⌜ Lists tally r (now (report .entry)) (now (report .exit)) (validateEscape (now (path .entry)) span a) ⌝ }
 {
@@ -80,7 +86,7 @@ pub fn validate_directive_name(
 }
 
 // Rules 37, 38: a break after a break would leave an empty line, and two strikethroughs join their delimiters. `before` is the kind of the inline before, 0 where there is none.
-pub fn validate_siblings(
+pub(crate) fn validate_siblings(
     report: &mut [u32],
     path: &[u32],
     span: Span,

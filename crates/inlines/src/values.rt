@@ -14,7 +14,7 @@ use leaves::text::pipe::has_odd_escaped_pipe;
 use leaves::text::white;
 
 // Whether an inline starts with white space.
-pub fn starts_white(bytes: &[u8], r: Rec) -> bool
+pub(crate) fn starts_white(bytes: &[u8], r: Rec) -> bool
     ensures { λ q. ⌜ q ≡ startsWhite (now (bytes .entry)) r ⌝ }
 {
     let t = only_if(r.kind == kinds::TEXT, r.first);
@@ -22,7 +22,7 @@ pub fn starts_white(bytes: &[u8], r: Rec) -> bool
 }
 
 // Whether an inline ends with white space.
-pub fn ends_white(bytes: &[u8], r: Rec) -> bool
+pub(crate) fn ends_white(bytes: &[u8], r: Rec) -> bool
     ensures { λ q. ⌜ q ≡ endsWhite (now (bytes .entry)) r ⌝ }
 {
     let t = only_if(r.kind == kinds::TEXT, r.first);
@@ -30,7 +30,7 @@ pub fn ends_white(bytes: &[u8], r: Rec) -> bool
 }
 
 // Whether a cell cannot hold the inline's value, which has a `|` after an odd run of backslashes.
-pub fn is_unwritable(bytes: &[u8], r: Rec) -> bool
+pub(crate) fn is_unwritable(bytes: &[u8], r: Rec) -> bool
     ensures { λ q. ⌜ q ≡ isUnwritable (now (bytes .entry)) r ⌝ }
 {
     let wiki = r.kind == kinds::WIKI_LINK;
@@ -40,7 +40,7 @@ pub fn is_unwritable(bytes: &[u8], r: Rec) -> bool
 }
 
 // Whether a record is an attribute with a name that none may have.
-pub fn is_bad_attribute(bytes: &[u8], r: Rec) -> bool
+pub(crate) fn is_bad_attribute(bytes: &[u8], r: Rec) -> bool
     ensures { λ q. ⌜ q ≡ isBadAttribute (now (bytes .entry)) r ⌝ }
 {
     (r.kind == kinds::ATTRIBUTE) & !is_attribute_name(text_of(bytes, r.first))

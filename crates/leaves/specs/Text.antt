@@ -1,10 +1,11 @@
 pub mod Bytes
 pub mod Chunk
 pub mod Columns
+pub mod EdgeScans
+pub mod Edges
 pub mod Fence
 pub mod FenceScans
 pub mod Field
-pub mod LineScans
 pub mod Lines
 pub mod Lists
 pub mod Marker

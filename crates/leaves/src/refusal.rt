@@ -1,8 +1,8 @@
 // Which sheets are refused, with which number and record.
-pub mod fields;
-pub mod groups;
+mod fields;
+mod groups;
 pub mod judge;
 pub mod places;
-pub mod record;
-pub mod tags;
+mod record;
+mod tags;
 pub mod verdict;

@@ -1,6 +1,6 @@
 // Texts as bytes: what the rules ask of them, and the lines and fields of the program.
 pub mod bytes;
-pub mod chunk;
+mod chunk;
 pub mod columns;
 pub mod edges;
 pub mod fence;

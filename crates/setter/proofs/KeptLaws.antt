@@ -12,10 +12,11 @@ use Rattle.leaves.specs.Text.Lists.{if_then_else_}
 use Rattle.leaves.specs.Sheet.Kinds.{list, blankLine, item}
 use Rattle.leaves.specs.declared.sheet.records.Rec.{Rec}
 use Rattle.leaves.specs.Refusal.Fields.{mostA, mostB, mostC, isSurrogate, badNumber, badField}
-use Rattle.leaves.proofs.text.TestLaws.{and-left, and-right}
-use Rattle.leaves.proofs.text.TestLaws.{or-left, or-right}
+use Rattle.leaves.proofs.text.TestLaws.{and-left, and-right, or-left, or-right}
 use Rattle.leaves.specs.Text.Marker.{writtenMarker}
-use Rattle.setter.specs.Machine.{Frame, fresh, withKid, columns, nearest, inLink, behindList, onlyEmpty, lastMark, Seen, seen, Test, lowest, openingTests}
+use Rattle.setter.specs.Steps.{Frame, fresh, withKid}
+use Rattle.setter.specs.Seen.{columns, nearest, inLink, behindList, onlyEmpty, lastMark, Seen, seen}
+use Rattle.setter.specs.Stops.{Test, lowest, openingTests}
 use Rattle.setter.specs.Kept.{markerBehind, keptOf, seenBy, openedIn, joinedBy}
 
 -- a list's written marker is never 0

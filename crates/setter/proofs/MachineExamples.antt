@@ -10,7 +10,11 @@ use Rattle.leaves.specs.Sheet.Records.{recordAt}
 use Rattle.leaves.specs.Sheet.Forest.{recordsFrom}
 use Rattle.leaves.specs.Sheet.Texts.{textOf}
 use Rattle.leaves.specs.Text.Marker.{writtenMarker}
-use Rattle.setter.specs.Machine.{Outcome, ended, stopped, closings, remain, stepsFrom, stepsOf, columns, nearest, inLink, behindList, onlyEmpty, openingTests, closingTests, stopOf, position, pathOf, blockPath, outcomeOf, runOf, outcome, run, lastMark, markOf, marksOf}
+use Rattle.setter.specs.Machine.{Outcome, ended, stopped, position, pathOf, blockPath, outcomeOf, runOf, outcome, run}
+use Rattle.setter.specs.Marks.{markOf, marksOf}
+use Rattle.setter.specs.Stops.{openingTests, closingTests, stopOf}
+use Rattle.setter.specs.Seen.{columns, nearest, inLink, behindList, onlyEmpty, lastMark}
+use Rattle.setter.specs.Steps.{closings, remain, stepsFrom, stepsOf}
 
 -- ---- sheets over the text `a LF`
 bytes : List ℕ

@@ -20,7 +20,11 @@ use Rattle.leaves.specs.declared.refusal.verdict.Judged.the-variants.{Accepted}
 use Rattle.leaves.proofs.text.TestLaws.{or-left, or-right}
 use Rattle.leaves.proofs.refusal.PassLaws.{Deep, deep}
 use Rattle.leaves.proofs.refusal.FormedLaws.{each-passed, accepted}
-use Rattle.setter.specs.Machine.{Frame, fresh, withKid, theSheet, Step, opens, closes, closings, stepsFrom, stepsOf, lastMark, itemMark, seen, lowest, openingTests, closingTests, stopOf, outcomeOf, runOf, outcome, run, markOf, marksOf}
+use Rattle.setter.specs.Steps.{Frame, fresh, withKid, theSheet, Step, closings, stepsFrom, stepsOf, opens, closes}
+use Rattle.setter.specs.Machine.{outcomeOf, runOf, outcome, run}
+use Rattle.setter.specs.Marks.{markOf, marksOf}
+use Rattle.setter.specs.Stops.{lowest, openingTests, closingTests, stopOf}
+use Rattle.setter.specs.Seen.{lastMark, itemMark, seen}
 use Rattle.setter.proofs.StepLaws.{Low, open-one, close-one, goes-on, stops-here}
 use Rattle.setter.specs.Kept.{keptOf, seenBy, openedIn, joinedBy}
 use Rattle.setter.specs.declared.kept.Kept.{Kept}

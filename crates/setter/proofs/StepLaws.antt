@@ -5,7 +5,9 @@ use Prim.Native.Nat.{ℕ, suc, _≤_, _<_}
 use native.Mathlib.Omega.{arith}
 use borrow.Author.Tests.{le-leb, lt-leb, eq-eqb, ne-eqb}
 use Rattle.leaves.specs.declared.sheet.records.Rec.{Rec}
-use Rattle.setter.specs.Machine.{Frame, fresh, withKid, Step, opens, closes, closings, remain, stepsFrom, stopOf, openAt, recordAtStep, blockPath, stopped, outcomeOf, runOf}
+use Rattle.setter.specs.Steps.{Frame, fresh, withKid, Step, closings, remain, stepsFrom, opens, closes}
+use Rattle.setter.specs.Machine.{openAt, recordAtStep, blockPath, stopped, outcomeOf, runOf}
+use Rattle.setter.specs.Stops.{stopOf}
 
 -- what comes after is of level m at most
 unfoldable pub Low : ℕ → List Rec → Type 0

@@ -10,7 +10,8 @@ use Rattle.leaves.specs.Sheet.Kinds.{among}
 use Rattle.leaves.specs.Sheet.Records.{recordsOf}
 use Rattle.leaves.specs.Report.Entries.{Entry}
 use Rattle.blocks.specs.Walk.{validateDocument}
-use Rattle.setter.specs.Machine.{Step, opens, closes, ended, stopped, outcome, run}
+use Rattle.setter.specs.Steps.{Step, opens, closes}
+use Rattle.setter.specs.Machine.{ended, stopped, outcome, run}
 
 -- ---- the table of stops: beside each the rules that document 01 names
 pub record Row : Type 0 where

@@ -10,7 +10,8 @@ use Rattle.leaves.specs.declared.sheet.records.Rec.{Rec}
 use Rattle.leaves.specs.Sheet.Classes.{isBreak}
 use Rattle.leaves.specs.Sheet.Empty.{isEmptyText}
 use Rattle.leaves.specs.Text.Marker.{writtenMarker}
-use Rattle.setter.specs.Machine.{Frame, Seen, columns, nearest, inLink, behindBreak, onlyEmpty, itemMark, lastMark}
+use Rattle.setter.specs.Steps.{Frame}
+use Rattle.setter.specs.Seen.{Seen, columns, nearest, inLink, behindBreak, onlyEmpty, itemMark, lastMark}
 use Rattle.setter.specs.declared.kept.Kept.{Kept}
 
 -- no record has more children, and no item before another a larger number

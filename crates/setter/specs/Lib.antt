@@ -5,5 +5,9 @@ pub mod Kept
 pub mod Listing
 pub mod Machine
 pub mod MachineRunning
+pub mod Marks
 pub mod Packed
+pub mod Seen
 pub mod Setting
+pub mod Steps
+pub mod Stops

@@ -8,7 +8,8 @@ use Rattle.leaves.specs.Text.Lists.{if_then_else_}
 use Rattle.leaves.specs.Sheet.Records.{recordsOf}
 use Rattle.leaves.specs.Refusal.Verdict.{isAccepted}
 use Rattle.leaves.specs.Refusal.Judge.{judgeSheet}
-use Rattle.setter.specs.Machine.{Outcome, ended, stopped, outcome, run, marksOf}
+use Rattle.setter.specs.Machine.{Outcome, ended, stopped, outcome, run}
+use Rattle.setter.specs.Marks.{marksOf}
 use Rattle.setter.specs.declared.answer.Setting.{Setting}
 use Rattle.setter.specs.declared.answer.Setting.the-variants.{Ended, Stopped, Refused, ShortMarks}
 

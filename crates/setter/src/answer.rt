@@ -12,7 +12,7 @@ pub enum Setting {
 }
 
 // The stop; 0 at the end, and where nothing was set.
-pub fn stop_number(s: Setting) -> u32
+pub(crate) fn stop_number(s: Setting) -> u32
     ensures { λ r. ⌜ r ≡ stopNumber s ⌝ }
 {
     match s {
@@ -24,7 +24,7 @@ pub fn stop_number(s: Setting) -> u32
 }
 
 // The record of a stop; the number of records at the end.
-pub fn run_record(s: Setting) -> u32
+pub(crate) fn run_record(s: Setting) -> u32
     ensures { λ r. ⌜ r ≡ runRecord s ⌝ }
 {
     match s {

@@ -1,18 +1,19 @@
 // What the machine keeps of an open record.
 ghost use mathlib.Core.Path.{_≡_};
 ghost use Prim.Native.Nat.{_≤_};
-ghost use Rattle.setter.specs.Machine.{theSheet};
+ghost use Rattle.setter.specs.Steps.{theSheet};
 ghost use Rattle.setter.specs.Kept.{keptOf, openedIn, joinedBy, nextMarker, mostKids, mostNumber};
-ghost use Rattle.setter.specs.Machine.{itemMark};
 ghost use mathlib.Core.List.{[]};
+use crate::marks::item_mark;
 use leaves::sheet::classes;
 use leaves::sheet::empty;
 use leaves::sheet::kinds;
 use leaves::sheet::records::Rec;
+use leaves::text::bytes::pick;
 use leaves::text::marker::written_marker;
 
 // What the stops and marks ask of an open record: of itself and what is open around it, and of its children that have closed.
-pub struct Kept {
+pub(crate) struct Kept {
     // its number, from 0
     pub at: u32,
     // A of the nearest table
@@ -36,7 +37,7 @@ pub struct Kept {
 }
 
 // The sheet itself, before anything opens.
-pub fn the_sheet() -> Kept
+pub(crate) fn the_sheet() -> Kept
     ensures { λ r. ⌜ r ≡ keptOf theSheet [] ⌝ }
 {
     Kept {
@@ -54,13 +55,13 @@ pub fn the_sheet() -> Kept
 }
 
 // Record `i` once it has opened under `k`.
-pub fn opened(i: u32, r: Rec, k: Kept) -> Kept
+pub(crate) fn opened(i: u32, r: Rec, k: Kept) -> Kept
     ensures { λ q. ⌜ q ≡ openedIn i r k ⌝ }
 {
     Kept {
         at: i,
-        columns: kinds::pick(r.kind == kinds::TABLE, r.a, k.columns),
-        nearest: kinds::pick(kinds::is_inline(r.kind), k.nearest, r.kind),
+        columns: pick(r.kind == kinds::TABLE, r.a, k.columns),
+        nearest: pick(kinds::is_inline(r.kind), k.nearest, r.kind),
         linked: (r.kind == kinds::LINK) | (r.kind == kinds::LINK_REFERENCE) | k.linked,
         ordered: r.a == 1,
         kids: 0,
@@ -71,24 +72,16 @@ pub fn opened(i: u32, r: Rec, k: Kept) -> Kept
     }
 }
 
-// The number of an ordered item: its own, else one more than that of the item before.
-pub fn item_mark(r: Rec, before: u32) -> u32
-    requires { ⌜ before ≤ mostNumber ⌝ }
-    ensures { λ q. ⌜ q ≡ itemMark r before ⌝ }
-{
-    kinds::pick(r.b == 1, r.c, before + 1)
-}
-
 // The marker behind record r: a blank line is skipped.
 fn next_marker(r: Rec, before: u32) -> u32
     ensures { λ q. ⌜ q ≡ nextMarker r before ⌝ }
 {
-    let list = kinds::pick(r.kind == kinds::LIST, written_marker(r.a, r.b), 0);
-    kinds::pick(r.kind == kinds::BLANK_LINE, before, list)
+    let list = pick(r.kind == kinds::LIST, written_marker(r.a, r.b), 0);
+    pick(r.kind == kinds::BLANK_LINE, before, list)
 }
 
 // `k` once its child r has closed.
-pub fn joined(k: Kept, r: Rec) -> Kept
+pub(crate) fn joined(k: Kept, r: Rec) -> Kept
     requires { ⌜ (k .kids ≤ mostKids) × (k .number ≤ mostNumber) ⌝ }
     ensures { λ q. ⌜ q ≡ joinedBy k r ⌝ }
 {

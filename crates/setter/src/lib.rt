@@ -2,7 +2,8 @@
 pub mod answer;
 pub mod both;
 pub mod exports;
-pub mod kept;
+mod kept;
 pub mod listing;
 pub mod machine;
-pub mod stops;
+mod marks;
+mod stops;

@@ -3,7 +3,8 @@ use mathlib.Core.Path.{_≡_, refl}
 use mathlib.Core.Bool.{true, false}
 use mathlib.Core.List.{[], _∷_, _++_}
 use Rattle.leaves.specs.declared.sheet.records.Span.{Span}
-use Rattle.leaves.specs.Report.Entries.{Entry, words, flat, _⊕_, listIf, start, after, over, put, fitting, entriesIn}
+use Rattle.leaves.specs.Report.Entries.{Entry, words, flat, _⊕_, listIf, start, after, put, fitting, entriesIn}
+use Rattle.leaves.specs.Text.Lists.{over}
 
 abbrev nowhere : Span
 nowhere = record { flag = 0; start = 0; end = 0 }

@@ -3,18 +3,20 @@ use mathlib.Core.Path.{_≡_, refl, sym, _∙_}
 use mathlib.Core.Bool.{Bool, true, false, not, cond}
 use mathlib.Core.List.{List, [], _∷_, _++_, append-assoc, append-nil}
 use Prim.Native.Nat.{ℕ, zero, suc, min, _+_, _-_, _*_, _^_, _≤_, _<_}
-use native.Mathlib.Nat.{add-assoc, zero-add, sub-zero, le-refl}
+use native.Mathlib.Nat.{zero-add, sub-zero, le-refl}
 use native.Mathlib.Numerals.{add-one}
 use native.Mathlib.Omega.{arith}
 use lib.Dec.{leb}
-use lib.ListN.{length, getD, set, take, drop, length-set, length-append, length-take, length-drop, take-append-drop, drop-of-length-le}
-use lib.Seq.{paste, paste-zero, paste-suc, take-all, take-nil, take-length, take-at, drop-at, drop-drop, take-append-seam, drop-append-seam}
+use lib.ListN.{length, getD, set, take, drop, length-set, length-append, length-drop, take-append-drop, drop-of-length-le}
+use lib.Seq.{paste, paste-zero, paste-suc, take-all, take-nil, take-length, drop-drop, take-append-seam, drop-append-seam}
 use borrow.Author.Needs.{needs}
 use borrow.Author.Tests.{leb-true, leb-false, le-leb, lt-leb, not-true, not-false}
 use borrow.Rule.Slice.PartMut.{putMid}
 use Rattle.leaves.specs.declared.sheet.records.Span.{Span}
-use Rattle.leaves.specs.Report.Entries.{Entry, words, headWords, flat, _⊕_, listIf, cap, capped, start, counted, after, over, put, Lists, fitting, entriesIn}
+use Rattle.leaves.specs.Report.Entries.{Entry, words, headWords, flat, _⊕_, listIf, cap, capped, start, counted, after, put, Lists, fitting, entriesIn}
+use Rattle.leaves.specs.Text.Lists.{over}
 use Rattle.leaves.specs.declared.report.entries.Tally.{Tally}
+use Rattle.leaves.proofs.text.OverLaws.{length-over, over-fits, over-nil, over-not, over-two}
 
 -- ---- joining
 
@@ -54,41 +56,11 @@ lists-then {s} {x = x} {es = es} {fs} a b =
 -- for a function that lists by several calls
 pub ruleset listing = (lists-none, lists-then, needs)
 
--- ---- words written over others
+-- ---- an entry's words
 
 pub length-words : (e : Entry) → length (words e) ≡ headWords + length (e .path)
 unfolding words
 length-words e = omega arith
-
-module _ (w : List ℕ) (at : ℕ) (e : List ℕ) where
-  pub over-fits : at + length e ≤ length w → over w at e ≡ take at w ++ e ++ drop (at + length e) w
-  unfolding over
-  over-fits h = rw (le-leb _ _ h)
-
-  pub over-not : length w < at + length e → over w at e ≡ w
-  unfolding over
-  over-not h = rw (lt-leb _ _ h)
-
-  pub length-over : length (over w at e) ≡ length w
-  unfolding over
-  length-over = go (leb (at + length e) (length w)) refl
-    where
-      go : (b : Bool) → leb (at + length e) (length w) ≡ b → length (over w at e) ≡ length w
-      go true h = rw h (simp (length-append, length-take, length-drop) (omega (arith, leb-true)))
-      go false h = rw h
-
--- words written in two goes, the second behind the first, are written whole
-pub over-two : (w h p : List ℕ) (at : ℕ) → at + (length h + length p) ≤ length w → over (over w at h) (at + length h) p ≡ over w at (h ++ p)
-over-two w h p at fits =
-    let x = over w at h in
-    let is : x ≡ take at w ++ h ++ drop (at + length h) w = over-fits w at h (omega arith) in
-    let l : length x ≡ length w = length-over w at h in
-    let k : length (h ++ p) ≡ length h + length p = length-append h p in
-    let n : length (take at w ++ h) ≡ at + length h = simp (length-append, length-take) (omega arith) in
-    let front : take (at + length h) x ≡ take at w ++ h = rw is (take-at (take at w ++ h) _ _ n) in
-    let back : drop (at + length h) x ≡ drop (at + length h) w = rw is (drop-at (take at w ++ h) _ _ n) in
-    let rest : drop (at + length h + length p) x ≡ drop (at + length h + length p) w = rw (← drop-drop (length p) (at + length h) x, back, drop-drop) in
-    over-fits x (at + length h) p (omega arith) ∙ rw (front, rest) (simp (length-append, append-assoc, add-assoc)) ∙ sym (over-fits w at (h ++ p) (omega arith))
 
 -- ---- the functions of `entries`, one law for each way through
 
@@ -213,13 +185,6 @@ pub put-past : (w : List ℕ) (s : Tally) (es : List Entry) → length w < cap �
 unfolding put
 put-past w s [] c h = refl
 put-past w s (e ∷ es) c h = rw (over-not w (s .words) (words e) (omega (arith, some-words e))) (put-past w (counted s (length (words e))) es c (omega (arith, some-words e)))
-
-pub over-nil : (w : List ℕ) (at : ℕ) → over w at [] ≡ w
-over-nil w at = go (leb (at + 0) (length w)) refl
-  where
-    go : (b : Bool) → leb (at + 0) (length w) ≡ b → over w at [] ≡ w
-    go true l = over-fits w at [] (leb-true _ _ l) ∙ sym (paste-zero w at [])
-    go false l = over-not w at [] (leb-false _ _ l)
 
 fitting-here : (n : ℕ) (e : Entry) (es : List Entry) → length (words e) ≤ n → fitting n (e ∷ es) ≡ e ∷ fitting (n - length (words e)) es
 unfolding fitting

@@ -1,6 +1,6 @@
 -- Sixteen bytes at once, as four times four; and a loop that passes over them.
 use mathlib.Core.Path.{_≡_, refl, sym, ap, _∙_}
-use mathlib.Core.Bool.{Bool, true, false, _&&_, and-assoc, false≢true}
+use mathlib.Core.Bool.{Bool, true, false, _&&_, and-assoc, false≢true, not}
 use mathlib.Core.List.{List, [], _∷_}
 use Prim.Native.Nat.{ℕ, zero, suc, _+_, _-_, _<_, _≤_}
 use native.Mathlib.Omega.{arith}
@@ -8,7 +8,8 @@ use native.Mathlib.Nat.{zero-add, suc-add, sub-self}
 use lib.ListN.{length, drop, getD, length-drop}
 use lib.Seq.{drop-drop}
 use Rattle.leaves.proofs.text.ScanLaws.{At, next}
-use Rattle.leaves.specs.Text.Chunk.{passes, chunk, Past}
+use Rattle.leaves.specs.Text.Chunk.{passes, chunk, Past, isNeither}
+use lib.Dec.{eqb}
 
 and-four : (t u v w : Bool) → (t && u && v && w) ≡ (t && (u && (v && (w && true))))
 and-four true true true true = refl
@@ -96,3 +97,11 @@ module _ (test : ℕ → Bool) where
   leap-to {rest = rest} {s = s} {i = i} {j = j} e inv p =
       let f : i + (j - i) ≡ j = omega (arith, p .forward) in
       record { within = p .within; same = inv .same ∙ passed rest e (j - i) (drop i s) (p .all) ∙ ap rest (drop-drop (j - i) i s) ∙ ap (λ k. rest (drop k s)) f }
+
+-- a byte that is none of two equal ones
+pub neither-same : (x b : ℕ) → isNeither x x b ≡ true → eqb b x ≡ false
+neither-same x b = go (eqb b x)
+  where
+    go : (t : Bool) → (not t && not t) ≡ true → t ≡ false
+    go false e = refl
+    go true e = absurd (false≢true e)

@@ -13,8 +13,8 @@ use borrow.Author.Needs.{needs}
 use borrow.Author.Tests.{ne-eqb, leb-false}
 use Rattle.leaves.specs.Text.Bytes.{lf}
 use Rattle.leaves.specs.Text.Part.{partOf}
-use Rattle.leaves.specs.Report.Entries.{over}
-use Rattle.leaves.proofs.report.EntryLaws.{over-fits, over-nil, length-over, over-two}
+use Rattle.leaves.specs.Text.Lists.{over}
+use Rattle.leaves.proofs.text.OverLaws.{over-fits, over-nil, length-over, over-two}
 use Rattle.leaves.specs.Text.Field.{places, field, readField, numberOf, isNumber}
 use Rattle.leaves.specs.Text.Columns.{fields, line, lineBytes, areFields, isLine, numbers, Writes}
 use Rattle.leaves.specs.declared.text.field.Column.{Column}

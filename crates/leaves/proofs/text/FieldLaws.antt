@@ -15,8 +15,8 @@ use borrow.Author.Tests.{eq-eqb, ne-eqb, leb-true, le-leb, lt-leb, not-true, not
 use Rattle.leaves.specs.Text.Bytes.{space, isDigit}
 use Rattle.leaves.proofs.text.ScanLaws.{At, turn, stop, end}
 use Rattle.leaves.proofs.text.TestLaws.{and-left, and-right}
-use Rattle.leaves.specs.Report.Entries.{over}
-use Rattle.leaves.proofs.report.EntryLaws.{over-fits}
+use Rattle.leaves.specs.Text.Lists.{over}
+use Rattle.leaves.proofs.text.OverLaws.{over-fits}
 use Rattle.leaves.specs.Text.Field.{places, mostNumber, digitZero, digit, lastPlace, front, field, pastSpaces, readDigits, readNumber, readField}
 use Rattle.leaves.specs.declared.text.field.Column.{Column}
 use Rattle.leaves.specs.declared.text.field.Column.the-variants.{Number, Malformed}

@@ -3,7 +3,8 @@ use mathlib.Core.Path.{_≡_, refl}
 use mathlib.Core.Bool.{true, false}
 use mathlib.Core.List.{[], _∷_}
 use Rattle.leaves.specs.Text.Lists.{all, any, firstOr, lastOr}
-use Rattle.leaves.specs.Text.Lines.{lines, longer, isCrOfCrlf, startsWith, isBlank, hasBlankEdgeLine, holdsLineEnding}
+use Rattle.leaves.specs.Text.Lines.{lines, longer, isCrOfCrlf, startsWith, isBlank, holdsLineEnding}
+use Rattle.leaves.specs.Text.Edges.{hasBlankEdgeLine}
 
 -- lines: CRLF is one line ending, CR LF LF and CR CR are two; `a CRLF b`, `a LF`, nothing
 crlf : (lines (97 ∷ 13 ∷ 10 ∷ 98 ∷ []) ≡ (97 ∷ []) ∷ (98 ∷ []) ∷ []) × (lines (97 ∷ 13 ∷ 10 ∷ 10 ∷ []) ≡ (97 ∷ []) ∷ [] ∷ []) × (lines (97 ∷ 13 ∷ 13 ∷ []) ≡ (97 ∷ []) ∷ [] ∷ []) × (lines (97 ∷ 10 ∷ []) ≡ (97 ∷ []) ∷ []) × (lines [] ≡ [])

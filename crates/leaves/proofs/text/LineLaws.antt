@@ -10,8 +10,9 @@ use lib.ListN.{length, getD, drop, drop-of-length-le}
 use borrow.Author.Tests.{eqb-true}
 use Rattle.leaves.specs.Text.Bytes.{tab, lf, cr, space, isBlankByte, isLineEndingByte}
 use Rattle.leaves.specs.Text.Lists.{if_then_else_, all, firstOr, lastOr}
-use Rattle.leaves.specs.Text.Lines.{startsWith, longer, isCrOfCrlf, lines, isBlank, hasBlankEdgeLine}
-use Rattle.leaves.specs.Text.LineScans.{lastBlank, Led, Ended}
+use Rattle.leaves.specs.Text.Lines.{startsWith, longer, isCrOfCrlf, lines, isBlank}
+use Rattle.leaves.specs.Text.Edges.{hasBlankEdgeLine}
+use Rattle.leaves.specs.Text.EdgeScans.{lastBlank, Led, Ended}
 use Rattle.leaves.proofs.text.ScanLaws.{At, next, scan}
 use Rattle.leaves.proofs.text.TestLaws.{and-right, or-left, or-right}
 

@@ -8,6 +8,7 @@ use lib.Dec.{leb}
 use lib.ListN.{length, getD, take, drop}
 use Rattle.leaves.specs.declared.sheet.records.Span.{Span}
 use Rattle.leaves.specs.declared.report.entries.Tally.{Tally}
+use Rattle.leaves.specs.Text.Lists.{over}
 
 -- ---- entries and their words
 
@@ -64,10 +65,6 @@ after s [] = s
 after s (e ∷ es) = after (counted s (length (words e))) es
 
 -- ---- the report
-
--- the report with words e from word `at` on where they fit whole, and as it was where they do not
-unfoldable pub over : List ℕ → ℕ → List ℕ → List ℕ
-over w at e = cond (leb (at + length e) (length w)) (take at w ++ e ++ drop (at + length e) w) w
 
 -- the report once the entries are listed: each is written behind those before it, where it fits whole. Document 01: "Otherwise words past the list stay."
 unfoldable pub put : List ℕ → Tally → List Entry → List ℕ

@@ -14,6 +14,6 @@ isEmpty t = eqb (t .len) 0
 abbrev pub isEmptyText : Rec → Bool
 isEmptyText r = eqb (r .kind) text && isEmpty (r .first)
 
--- what the code reads in place of a text that does not count; no promise to a caller cites it
+-- the text where it counts, and one of no bytes where it does not
 abbrev pub onlyIf : Bool → Text → Text
 onlyIf counts t = if counts then t else record { start = 0; len = 0 }

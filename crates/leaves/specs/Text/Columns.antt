@@ -7,7 +7,7 @@ use mathlib.Core.List.{List, [], _∷_, _++_}
 use lib.Dec.{eqb}
 use lib.ListN.{length, getD, take, drop}
 use Rattle.leaves.specs.Text.Bytes.{lf}
-use Rattle.leaves.specs.Report.Entries.{over}
+use Rattle.leaves.specs.Text.Lists.{over}
 use Rattle.leaves.specs.Text.Field.{places, field, readField, numberOf, isNumber}
 
 -- ---- a line as it is written

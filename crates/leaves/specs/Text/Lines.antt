@@ -1,10 +1,10 @@
 -- Lines and line endings. Rules 27, 29, 31 and 45.
 use Prim.Native.Nat.{ℕ}
-use mathlib.Core.Bool.{Bool, false, _&&_, _||_}
+use mathlib.Core.Bool.{Bool, false, _&&_}
 use mathlib.Core.List.{List, [], _∷_}
 use lib.Dec.{eqb}
 use Rattle.leaves.specs.Text.Bytes.{cr, lf, isBlankByte, isLineEndingByte}
-use Rattle.leaves.specs.Text.Lists.{if_then_else_, all, any, firstOr, lastOr}
+use Rattle.leaves.specs.Text.Lists.{if_then_else_, all, any}
 
 -- Document 01: "A line ending is held where there is a CR or LF."
 unfoldable pub holdsLineEnding : List ℕ → Bool
@@ -35,7 +35,3 @@ lines [] = []
 lines (b ∷ s) =
     let later = lines s in
     if isCrOfCrlf b s then later else if isLineEndingByte b then [] ∷ later else longer b later
-
--- Rule 27 on a value, `validate_code_block` of validate.rs: its first or its last line is blank. A value with no line counts as one blank line.
-unfoldable pub hasBlankEdgeLine : List ℕ → Bool
-hasBlankEdgeLine s = isBlank (firstOr [] (lines s)) || isBlank (lastOr [] (lines s))

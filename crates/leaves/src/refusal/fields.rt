@@ -29,11 +29,11 @@ ghost use Rattle.leaves.specs.Sheet.Kinds.{
 };
 ghost use Rattle.leaves.specs.Refusal.Fields.{mostA, mostB, mostC, hasFirst, hasSecond, badText, badSpan, isSurrogate, badNumber, badField};
 use crate::sheet::kinds;
-use crate::sheet::kinds::pick;
 use crate::sheet::records::Rec;
 use crate::sheet::records::Span;
 use crate::sheet::records::Text;
 use crate::text::bytes::between;
+use crate::text::bytes::pick;
 
 // The most that A may be; 0 where it is not used.
 fn most_a(kind: u32) -> u32
@@ -198,7 +198,7 @@ fn bad_number(r: Rec) -> bool
 }
 
 // Whether a value is out of range or an unused word is not 0.
-pub fn bad_field(r: Rec) -> bool
+pub(crate) fn bad_field(r: Rec) -> bool
     ensures { λ q. ⌜ q ≡ badField r ⌝ }
 {
     bad_number(r)

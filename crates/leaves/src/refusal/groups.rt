@@ -5,11 +5,11 @@ ghost use Rattle.leaves.specs.Sheet.Kinds.{isKind};
 ghost use Rattle.leaves.specs.Refusal.Groups.{parentGroup, childGroup};
 ghost use Rattle.leaves.specs.Refusal.KindGroups.{kindGroups};
 use crate::sheet::kinds;
-use crate::sheet::kinds::pick;
+use crate::text::bytes::pick;
 
-pub const HOLDS_TAGS_AND_BLOCKS: u32 = 7;
+pub(crate) const HOLDS_TAGS_AND_BLOCKS: u32 = 7;
 
-pub const HOLDS_TAGS_AND_INLINES: u32 = 8;
+pub(crate) const HOLDS_TAGS_AND_INLINES: u32 = 8;
 
 // The groups of each kind, from 0 on: as a parent whose A is 0, and as a child.
 const GROUPS: [[u32; 2]; 54] = [
@@ -70,14 +70,14 @@ const GROUPS: [[u32; 2]; 54] = [
 ];
 
 // The groups, made once: what tests a record is lent them.
-pub fn groups() -> [[u32; 2]; 54]
+pub(crate) fn groups() -> [[u32; 2]; 54]
     ensures { λ r. ⌜ r ≡ kindGroups ⌝ }
 {
     GROUPS
 }
 
 // What a record of the kind may hold; an HTML container, inlines where its A is not 0.
-pub fn parent_group(groups: &[[u32; 2]; 54], kind: u32, a: u32) -> u32
+pub(crate) fn parent_group(groups: &[[u32; 2]; 54], kind: u32, a: u32) -> u32
     requires { ⌜ (now groups ≡ kindGroups) × (isKind kind ≡ true) ⌝ }
     ensures { λ r. ⌜ r ≡ parentGroup kind a ⌝ }
 {
@@ -86,7 +86,7 @@ pub fn parent_group(groups: &[[u32; 2]; 54], kind: u32, a: u32) -> u32
     pick(inlines, HOLDS_TAGS_AND_INLINES, groups[k][0])
 }
 
-pub fn child_group(groups: &[[u32; 2]; 54], kind: u32) -> u32
+pub(crate) fn child_group(groups: &[[u32; 2]; 54], kind: u32) -> u32
     requires { ⌜ (now groups ≡ kindGroups) × (isKind kind ≡ true) ⌝ }
     ensures { λ r. ⌜ r ≡ childGroup kind ⌝ }
 {

@@ -34,7 +34,7 @@ pub struct Open {
 }
 
 // The table, made once: what tests a record is lent it.
-pub fn table() -> [[u32; 7]; 10]
+pub(crate) fn table() -> [[u32; 7]; 10]
     ensures { λ r. ⌜ r ≡ places ⌝ }
 {
     PLACES
@@ -63,7 +63,7 @@ fn place_of(table: &[[u32; 7]; 10], groups: &[[u32; 2]; 54], group: u32, kind: u
 }
 
 // Under a parent, before its first child.
-pub fn opened(group: u32) -> Open
+pub(crate) fn opened(group: u32) -> Open
     ensures { λ r. ⌜ r ≡ opened group ⌝ }
 {
     Open {
@@ -74,7 +74,7 @@ pub fn opened(group: u32) -> Open
 }
 
 // The same after one child more.
-pub fn joined(table: &[[u32; 7]; 10], groups: &[[u32; 2]; 54], o: Open, kind: u32) -> Open
+pub(crate) fn joined(table: &[[u32; 7]; 10], groups: &[[u32; 2]; 54], o: Open, kind: u32) -> Open
     requires { ⌜ (now table ≡ places) × (now groups ≡ kindGroups) × (isKind kind ≡ true) × (misplaced o kind ≡ false) ⌝ }
     ensures { λ r. ⌜ r ≡ joined o kind ⌝ }
 {
@@ -95,7 +95,7 @@ pub fn joined(table: &[[u32; 7]; 10], groups: &[[u32; 2]; 54], o: Open, kind: u3
 }
 
 // Not allowed there, out of order, a third HTML tag, or content before the second.
-pub fn misplaced(table: &[[u32; 7]; 10], groups: &[[u32; 2]; 54], o: Open, kind: u32) -> bool
+pub(crate) fn misplaced(table: &[[u32; 7]; 10], groups: &[[u32; 2]; 54], o: Open, kind: u32) -> bool
     requires { ⌜ (now table ≡ places) × (now groups ≡ kindGroups) × (isKind kind ≡ true) ⌝ }
     ensures { λ r. ⌜ r ≡ misplaced o kind ⌝ }
 {

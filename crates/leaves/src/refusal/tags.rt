@@ -33,7 +33,7 @@ fn lacks_tags(sheet: &[u32], n: usize, i: usize) -> bool
 }
 
 // Test 10: the first container that lacks a tag.
-pub fn judge_tags(sheet: &[u32], n: usize) -> Judged
+pub(crate) fn judge_tags(sheet: &[u32], n: usize) -> Judged
     requires { ⌜ Containers (now sheet) n ⌝ }
     ensures { λ j. ⌜ j ≡ tagsFrom (now (sheet .entry)) n n 0 ⌝ }
 {

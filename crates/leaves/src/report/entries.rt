@@ -3,7 +3,8 @@ ghost use mathlib.Core.Path.{_≡_};
 ghost use mathlib.Core.Bool.{cond};
 ghost use Prim.Native.Nat.{_+_, _≤_};
 ghost use lib.ListN.{length};
-ghost use Rattle.leaves.specs.Report.Entries.{words, headWords, listIf, capped, start, counted, over, Lists};
+ghost use Rattle.leaves.specs.Report.Entries.{words, headWords, listIf, capped, start, counted, Lists};
+ghost use Rattle.leaves.specs.Text.Lists.{over};
 use crate::sheet::records::Span;
 
 // What a sum of the tally stops at: no report is as long.

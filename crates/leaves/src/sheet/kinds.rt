@@ -1,6 +1,5 @@
 // Kinds of records, as document 01 numbers them.
 ghost use mathlib.Core.Path.{_≡_};
-ghost use Rattle.leaves.specs.Text.Lists.{if_then_else_};
 ghost use Rattle.leaves.specs.Sheet.Kinds.{isBlock, isInline, isKind};
 use crate::text::bytes::between;
 
@@ -107,14 +106,8 @@ pub fn is_inline(kind: u32) -> bool
 }
 
 // Whether document 01 lists the kind.
-pub fn is_kind(kind: u32) -> bool
+pub(crate) fn is_kind(kind: u32) -> bool
     ensures { λ r. ⌜ r ≡ isKind kind ⌝ }
 {
     is_block(kind) | between(20, 24, kind) | is_inline(kind)
-}
-
-pub fn pick(first: bool, a: u32, b: u32) -> u32
-    ensures { λ r. ⌜ r ≡ (if first then a else b) ⌝ }
-{
-    if first { a } else { b }
 }

@@ -37,7 +37,7 @@ fn word(sheet: &[u32], i: usize, k: usize) -> u32
     sheet[i * RECORD_WORDS + k]
 }
 
-pub fn kind_at(sheet: &[u32], i: usize) -> u32
+pub(crate) fn kind_at(sheet: &[u32], i: usize) -> u32
     requires { ⌜ i * recordWords + recordWords ≤ length (now sheet) ⌝ }
     ensures { λ r. ⌜ r ≡ recordAt (now (sheet .entry)) i .kind ⌝ }
 {

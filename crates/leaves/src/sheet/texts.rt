@@ -12,7 +12,7 @@ pub fn text_of(bytes: &[u8], t: Text) -> &[u8]
     part(bytes, t.start as usize, t.len as usize)
 }
 
-pub fn text_outside(bytes: &[u8], t: Text) -> bool
+pub(crate) fn text_outside(bytes: &[u8], t: Text) -> bool
     ensures { λ r. ⌜ r ≡ textOutside (now (bytes .entry)) t ⌝ }
 {
     let start = t.start as usize;
@@ -21,7 +21,7 @@ pub fn text_outside(bytes: &[u8], t: Text) -> bool
 }
 
 // A text of no bytes is well-formed, and most records have one.
-pub fn text_ill_formed(bytes: &[u8], t: Text) -> bool
+pub(crate) fn text_ill_formed(bytes: &[u8], t: Text) -> bool
     ensures { λ r. ⌜ r ≡ textIllFormed (now (bytes .entry)) t ⌝ }
 {
     if t.len == 0 {

@@ -5,7 +5,7 @@ ghost use Prim.Native.Nat.{_+_, _≤_};
 ghost use lib.ListN.{length, drop};
 ghost use Rattle.leaves.specs.Text.Chunk.{isAscii, isNeither, passes, chunk, Past};
 
-pub const CHUNK: usize = 16;
+pub(crate) const CHUNK: usize = 16;
 
 fn four_ascii(s: &[u8], i: usize) -> bool
     requires { ⌜ i + 4 ≤ length (now s) ⌝ }
@@ -29,7 +29,7 @@ fn is_ascii(s: &[u8], i: usize) -> bool
 
 // Passes over chunks from `from` on as long as all their bytes are ASCII. What is promised is that every byte
 // passed over is ASCII; how far it goes is a matter of speed alone.
-pub fn past_ascii(s: &[u8], from: usize) -> usize
+pub(crate) fn past_ascii(s: &[u8], from: usize) -> usize
     requires { ⌜ from ≤ length (now s) ⌝ }
     ensures { λ r. ⌜ Past isAscii (now (s .entry)) from r ⌝ }
 {
@@ -73,7 +73,7 @@ fn lacks(s: &[u8], i: usize, a: u8, b: u8) -> bool
 }
 
 // The same as long as none of their bytes is `a` or `b`.
-pub fn past(s: &[u8], from: usize, a: u8, b: u8) -> usize
+pub(crate) fn past(s: &[u8], from: usize, a: u8, b: u8) -> usize
     requires { ⌜ from ≤ length (now s) ⌝ }
     ensures { λ r. ⌜ Past (isNeither a b) (now (s .entry)) from r ⌝ }
 {

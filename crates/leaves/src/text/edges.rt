@@ -3,8 +3,8 @@ ghost use mathlib.Core.Path.{_≡_};
 ghost use mathlib.Core.Bool.{true};
 ghost use Prim.Native.Nat.{_<_, _≤_};
 ghost use lib.ListN.{length, drop};
-ghost use Rattle.leaves.specs.Text.Lines.{hasBlankEdgeLine};
-ghost use Rattle.leaves.specs.Text.LineScans.{lastBlank, Led, Ended};
+ghost use Rattle.leaves.specs.Text.Edges.{hasBlankEdgeLine};
+ghost use Rattle.leaves.specs.Text.EdgeScans.{lastBlank, Led, Ended};
 use crate::text::bytes;
 use crate::text::lines::is_cr_of_crlf;
 

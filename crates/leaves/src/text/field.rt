@@ -2,7 +2,7 @@
 ghost use mathlib.Core.Path.{_≡_};
 ghost use Prim.Native.Nat.{_+_, _≤_};
 ghost use lib.ListN.{length};
-ghost use Rattle.leaves.specs.Report.Entries.{over};
+ghost use Rattle.leaves.specs.Text.Lists.{over};
 ghost use Rattle.leaves.specs.Text.Field.{places, field, lastPlace, front, pastSpaces, readDigits, readNumber, readField};
 use crate::text::bytes::SPACE;
 use crate::text::bytes::is_digit;
@@ -17,7 +17,7 @@ const MOST: u64 = 4294967295;
 const ZERO: u8 = 48;
 
 // What stands in a field.
-pub enum Column {
+pub(crate) enum Column {
     Number(u32),
     Malformed,
 }
@@ -77,7 +77,7 @@ fn read_number(s: &[u8]) -> Column
 }
 
 // The number of a field that fills the slice.
-pub fn read_field(s: &[u8]) -> Column
+pub(crate) fn read_field(s: &[u8]) -> Column
     ensures { λ r. ⌜ r ≡ readField (now (s .entry)) ⌝ }
 {
     if s.len() != PLACES {
@@ -110,7 +110,7 @@ fn put_front(cells: &mut [u8], n: u32)
 }
 
 // Writes a number into the 11 places from `at` on.
-pub fn write_field(out: &mut [u8], at: usize, n: u32)
+pub(crate) fn write_field(out: &mut [u8], at: usize, n: u32)
     requires { ⌜ at + places ≤ length (now out) ⌝ }
     ensures { λ _. ⌜ now (out .exit) ≡ over (now (out .entry)) at (field n) ⌝ }
 {

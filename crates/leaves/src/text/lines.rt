@@ -35,7 +35,7 @@ pub fn is_blank(s: &[u8]) -> bool
 }
 
 // Whether the byte at `i` is a CR with its LF after it.
-pub fn is_cr_of_crlf(s: &[u8], i: usize) -> bool
+pub(crate) fn is_cr_of_crlf(s: &[u8], i: usize) -> bool
     requires { ⌜ i < length (now s) ⌝ }
     ensures { λ r. ⌜ r ≡ isCrOfCrlf (getD (now (s .entry)) i 0) (drop (i + 1) (now (s .entry))) ⌝ }
 {

@@ -11,7 +11,7 @@ const STRETCH: usize = 64;
 
 // What is owed of a sequence that has begun: how many bytes, and the range of the next.
 // Those after the next are from 0x80 to 0xBF.
-pub struct Owed {
+pub(crate) struct Owed {
     pub more: u8,
     pub low: u8,
     pub high: u8,
@@ -106,7 +106,7 @@ fn follow_of_four(b: u8) -> Owed
 }
 
 // Whether `b` is not what is owed.
-pub fn breaks(owed: Owed, b: u8) -> bool
+pub(crate) fn breaks(owed: Owed, b: u8) -> bool
     ensures { λ r. ⌜ r ≡ breaks (owedOf owed) b ⌝ }
 {
     if owed.more == 0 {
@@ -116,7 +116,7 @@ pub fn breaks(owed: Owed, b: u8) -> bool
 }
 
 // What is owed after `b`.
-pub fn owed_after(owed: Owed, b: u8) -> Owed
+pub(crate) fn owed_after(owed: Owed, b: u8) -> Owed
     ensures { λ r. ⌜ owedOf r ≡ owedAfter (owedOf owed) b ⌝ }
 {
     if owed.more == 0 {

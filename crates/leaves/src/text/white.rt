@@ -12,7 +12,7 @@ use crate::text::utf8::Owed;
 
 const REPLACEMENT: u32 = 0xFFFD;
 
-pub fn is_white(c: u32) -> bool
+fn is_white(c: u32) -> bool
     ensures { λ r. ⌜ r ≡ isWhite c ⌝ }
 {
     between(0x0009, 0x000D, c)

@@ -26,11 +26,15 @@ use Rattle.leaves.specs.Text.Marker.{writtenMarker}
 use Rattle.blocks.specs.Before.{takesIndentedCode, validateTakenBlock, first, beforeNext}
 use Rattle.blocks.specs.List.{validateList}
 use Rattle.blocks.specs.Number.{itemNumber, validateItemNumber}
-use Rattle.blocks.specs.Prose.{beforeBlocks, validateParagraph, validateDirective}
+use Rattle.blocks.specs.Label.{beforeBlocks, validateDirective}
+use Rattle.blocks.specs.Paragraph.{validateParagraph}
 use Rattle.blocks.specs.Holds
 use Rattle.blocks.specs.Block.{validateLeaf, validateHtml, validateContainer, validateOwn}
 use Rattle.blocks.specs.Walk.{validateBlock, validateItem, validateBlocks, validateItems}
-use Rattle.setter.specs.Machine.{Frame, fresh, withKid, opens, closes, stopOf, openingTests, closingTests, pathOf, blockPath, position, nearest, inLink, behindBreak, behindList, onlyEmpty}
+use Rattle.setter.specs.Steps.{Frame, fresh, withKid, opens, closes}
+use Rattle.setter.specs.Machine.{pathOf, blockPath, position}
+use Rattle.setter.specs.Stops.{stopOf, openingTests, closingTests}
+use Rattle.setter.specs.Seen.{nearest, inLink, behindBreak, behindList, onlyEmpty}
 use Rattle.setter.specs.Agrees.{Begins, beside, named}
 use Rattle.setter.proofs.agrees.Flat.{walk, filled, pile}
 use Rattle.setter.proofs.agrees.Fits.{Sub, sub-left, sub-right, sub-if, Clean, clean-none, clean-append, clean-if, clean-noise, Fits, Fit, fits-none, fits-map, fit-map, still, one-stop, alone, fits-alone, fits-tree, fits-leaf}

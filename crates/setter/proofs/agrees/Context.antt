@@ -11,7 +11,9 @@ use Rattle.leaves.specs.declared.sheet.records.Rec.{Rec}
 use Rattle.leaves.specs.Refusal.Groups.{holdsInlines}
 use Rattle.leaves.specs.Sheet.Empty.{isEmptyText}
 use Rattle.inlines.specs.Content.{allEmpty}
-use Rattle.setter.specs.Machine.{Frame, inPath, pathOf, blockPath, siblings, position, nearest, onlyEmpty}
+use Rattle.setter.specs.Steps.{Frame}
+use Rattle.setter.specs.Machine.{inPath, pathOf, blockPath, position}
+use Rattle.setter.specs.Seen.{siblings, nearest, onlyEmpty}
 use Rattle.setter.specs.Agrees.{Begins}
 use Rattle.setter.proofs.agrees.Flat.{pile, filled}
 use Rattle.setter.proofs.agrees.KindCases.{inliny}

@@ -16,7 +16,10 @@ use Rattle.leaves.specs.declared.refusal.verdict.Judged.the-variants.{Accepted}
 use Rattle.leaves.proofs.refusal.FormedLaws.{accepted}
 use Rattle.blocks.specs.Walk.{validateDocument}
 use Rattle.blocks.specs.Before.{first}
-use Rattle.setter.specs.Machine.{theSheet, Step, stopOf, openAt, recordAtStep, pathOf, blockPath, inLink, Outcome, ended, stopped, outcomeOf, runOf, stepsOf, outcome, run}
+use Rattle.setter.specs.Steps.{theSheet, Step, stepsOf}
+use Rattle.setter.specs.Stops.{stopOf}
+use Rattle.setter.specs.Machine.{openAt, recordAtStep, pathOf, blockPath, Outcome, ended, stopped, outcomeOf, runOf, outcome, run}
+use Rattle.setter.specs.Seen.{inLink}
 use Rattle.setter.specs.Agrees.{Some, Named, Told, Row, stops, besideIn, namedIn, beside, named, Agrees, Demand}
 use Rattle.setter.proofs.agrees.Flat.{walk-of, once-of}
 use Rattle.setter.proofs.agrees.Fits.{sub-all, Unnamed, Clean, Heard, Quiet, Fits, fits-map}

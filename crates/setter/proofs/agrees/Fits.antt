@@ -10,7 +10,9 @@ use Rattle.leaves.specs.Sheet.Forest.{Forest, none, tree, size}
 use Rattle.leaves.specs.declared.sheet.records.Rec.{Rec}
 use Rattle.leaves.specs.declared.sheet.records.Span.{Span}
 use Rattle.leaves.specs.Report.Entries.{Entry, listIf, _⊕_}
-use Rattle.setter.specs.Machine.{Frame, fresh, withKid, Step, opens, closes, stopOf, openAt, blockPath}
+use Rattle.setter.specs.Steps.{Frame, fresh, withKid, Step, opens, closes}
+use Rattle.setter.specs.Machine.{openAt, blockPath}
+use Rattle.setter.specs.Stops.{stopOf}
 use Rattle.setter.specs.Agrees.{Some, Told, Begins, beside, named}
 use Rattle.setter.proofs.agrees.Flat.{walk, filled, pile}
 

@@ -13,7 +13,7 @@ use Rattle.leaves.specs.Sheet.Records.{recordsOf}
 use Rattle.leaves.specs.Sheet.Forest.{Forest, none, tree, forestOf, size, recordsIn}
 use Rattle.leaves.specs.declared.sheet.records.Rec.{Rec}
 use Rattle.leaves.proofs.sheet.ForestLaws.{flat-forest, size-at}
-use Rattle.setter.specs.Machine.{Frame, fresh, withKid, theSheet, Step, opens, closes, closings, stepsFrom, stepsOf}
+use Rattle.setter.specs.Steps.{Frame, fresh, withKid, theSheet, Step, closings, stepsFrom, stepsOf, opens, closes}
 use Rattle.setter.proofs.StepLaws.{Low, open-one, close-one}
 use Rattle.setter.specs.Agrees.{timesOpened, timesClosed}
 

@@ -23,7 +23,10 @@ use Rattle.inlines.specs.Content.{allEmpty}
 use Rattle.inlines.specs.Own.{validateInlineValues}
 use Rattle.inlines.specs.Node.{validateEmphasisContainer, validateInline}
 use Rattle.inlines.specs.Nodes.{validateNode, validateInlineNodesAfter}
-use Rattle.setter.specs.Machine.{Frame, fresh, withKid, opens, closes, stopOf, openingTests, closingTests, pathOf, blockPath, nearest, inLink, behindBreak, onlyEmpty}
+use Rattle.setter.specs.Steps.{Frame, fresh, withKid, opens, closes}
+use Rattle.setter.specs.Machine.{pathOf, blockPath}
+use Rattle.setter.specs.Stops.{stopOf, openingTests, closingTests}
+use Rattle.setter.specs.Seen.{nearest, inLink, behindBreak, onlyEmpty}
 use Rattle.setter.specs.Agrees.{Begins, beside, named}
 use Rattle.setter.proofs.agrees.Flat.{walk, filled, pile}
 use Rattle.setter.proofs.agrees.Fits.{Sub, sub-left, sub-right, sub-if, Clean, clean-none, clean-append, clean-if, clean-noise, Fits, fits-none, fits-map, still, one-stop, two-stops, alone, fits-alone, fits-tree, fits-leaf}

@@ -19,7 +19,7 @@ use Rattle.leaves.specs.Refusal.Groups.{holdsBlocks, holdsItems, holdsRows, hol
 use Rattle.leaves.specs.Refusal.Places.{places, placeOf, opened, joined, misplaced}
 use Rattle.leaves.specs.declared.refusal.places.Open.{Open}
 use Rattle.leaves.proofs.refusal.PlacedLaws.{has-place, in-order, joined-group, opened-group, blocks-only, items-only, rows-only, cells-only, inlines-only, label-only, label-and-blocks-only, tags-and-blocks-only, tags-and-inlines-only, nothing-there}
-use Rattle.setter.specs.Machine.{theSheet}
+use Rattle.setter.specs.Steps.{theSheet}
 use Rattle.leaves.specs.Refusal.Formed.{Formed}
 use Rattle.setter.proofs.agrees.Flat.{Deep}
 use Rattle.setter.proofs.agrees.KindCases.{rank, or-cases, InlineKind, inline-kind, BlockKind, block-kind, Extra, tag, attr}

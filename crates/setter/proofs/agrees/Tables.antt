@@ -16,7 +16,10 @@ use Rattle.leaves.specs.Refusal.Groups.{parentGroup}
 use Rattle.inlines.specs.Depth.{validateOneLine}
 use Rattle.inlines.specs.Nodes.{validateInlineNodes, validateInlines}
 use Rattle.blocks.specs.Table.{validateCell, validateCells, validateRows, headerWidth, validateTable}
-use Rattle.setter.specs.Machine.{Frame, fresh, withKid, stopOf, openingTests, closingTests, pathOf, blockPath, nearest, inLink, columns}
+use Rattle.setter.specs.Steps.{Frame, fresh, withKid}
+use Rattle.setter.specs.Stops.{stopOf, openingTests, closingTests}
+use Rattle.setter.specs.Machine.{pathOf, blockPath}
+use Rattle.setter.specs.Seen.{nearest, inLink, columns}
 use Rattle.setter.specs.Agrees.{Begins, beside}
 use Rattle.setter.proofs.agrees.Flat.{walk, filled, pile}
 use Rattle.setter.proofs.agrees.Fits.{Found, Sub, sub-left, sub-right, sub-if, Clean, clean-none, clean-append, clean-if, Fits, fits-none, fits-map, still, one-stop, alone, fits-alone, fits-tree}

@@ -10,8 +10,9 @@ use lib.ListN.{length, getD, take, drop, length-append, length-take, length-drop
 use lib.Seq.{take-all, take-at, drop-at, drop-drop, getD-drop}
 use borrow.Author.Needs.{needs}
 use borrow.Author.Tests.{leb-true, leb-false}
-use Rattle.leaves.specs.Report.Entries.{Entry, words, headWords, flat, pathLength, over}
-use Rattle.leaves.proofs.report.EntryLaws.{over-fits, over-nil, over-two, length-over}
+use Rattle.leaves.specs.Report.Entries.{Entry, words, headWords, flat, pathLength}
+use Rattle.leaves.specs.Text.Lists.{over}
+use Rattle.leaves.proofs.text.OverLaws.{over-fits, over-nil, over-two, length-over}
 use Rattle.leaves.specs.Text.Field.{places}
 use Rattle.leaves.specs.Text.Columns.{line, lineBytes, Writes}
 use Rattle.leaves.proofs.text.ColumnLaws.{line-long}

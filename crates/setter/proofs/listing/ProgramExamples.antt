@@ -24,7 +24,10 @@ use Rattle.blocks.specs.Holds.{holdsBlocks}
 use Rattle.blocks.specs.Block.{validateContainer, validateLeaf, validateOwn}
 use Rattle.blocks.specs.Walk.{validateBlock, validateBlocks, validateDocument, validateItem, validateItems}
 use Rattle.blocks.specs.Check.{outcome}
-use Rattle.setter.specs.Machine.{closings, remain, stepsFrom, stepsOf, columns, nearest, inLink, behindList, onlyEmpty, openingTests, closingTests, stopOf, position, pathOf, blockPath, outcomeOf, answerStop, answerRecord, outcome as runOutcome, lastMark}
+use Rattle.setter.specs.Steps.{closings, remain, stepsFrom, stepsOf}
+use Rattle.setter.specs.Seen.{columns, nearest, inLink, behindList, onlyEmpty, lastMark}
+use Rattle.setter.specs.Stops.{openingTests, closingTests, stopOf}
+use Rattle.setter.specs.Machine.{position, pathOf, blockPath, outcomeOf, answerStop, answerRecord, outcome as runOutcome}
 use Rattle.leaves.specs.Text.Field.{front, field, pastSpaces, readDigits, readNumber, readField}
 use Rattle.leaves.specs.Text.Columns.{fields, line, areFields, isLine, numbers}
 use Rattle.setter.specs.Listing.Film.{areRecords, sheetOf, filmSheet, textBehind, filmOf}

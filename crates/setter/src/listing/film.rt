@@ -13,15 +13,15 @@ use leaves::text::field::PLACES;
 const COUNT_BYTES: usize = 2 * PLACES + 1;
 
 // The most records of a film, and the most bytes of its text.
-pub const MOST_RECORDS: usize = 512;
+pub(crate) const MOST_RECORDS: usize = 512;
 
 const MOST_BYTES: usize = 16384;
 
 // The words of the largest sheet.
-pub const SHEET_WORDS: usize = 6144;
+pub(crate) const SHEET_WORDS: usize = 6144;
 
 // The text of a film of `n` records: all that stands behind them.
-pub fn text_behind(s: &[u8], n: usize) -> &[u8]
+pub(crate) fn text_behind(s: &[u8], n: usize) -> &[u8]
     requires { ⌜ n ≤ mostRecords ⌝ }
     ensures { λ r. ⌜ now r ≡ textBehind n (now (s .entry)) ⌝ }
 {
@@ -35,7 +35,7 @@ fn size(n: u32) -> usize
 }
 
 // Reads a film's sheet into the words, where the counts are good; answers how many records it has, or why it is refused.
-pub fn read_film(s: &[u8], sheet: &mut [u32; SHEET_WORDS]) -> Film
+pub(crate) fn read_film(s: &[u8], sheet: &mut [u32; SHEET_WORDS]) -> Film
     ensures { λ r. ⌜ Reads (now (s .entry)) (now (sheet .entry)) (now (sheet .exit)) r ⌝ }
 {
     let mut counts = [0u32; 2];

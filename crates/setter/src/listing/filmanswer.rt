@@ -3,14 +3,14 @@ ghost use mathlib.Core.Path.{_≡_};
 ghost use Rattle.setter.specs.Listing.FilmAnswer.{filmNumber, filmRecords};
 
 // A film is refused, or how many records it has.
-pub enum Film {
+pub(crate) enum Film {
     BadColumn,
     BigFilm,
     Ready(usize),
 }
 
 // Document 01's number of a refused film; 0 where it is ready.
-pub fn film_number(f: Film) -> u32
+pub(crate) fn film_number(f: Film) -> u32
     ensures { λ r. ⌜ r ≡ filmNumber f ⌝ }
 {
     match f {
@@ -21,7 +21,7 @@ pub fn film_number(f: Film) -> u32
 }
 
 // How many records a film that is ready has.
-pub fn film_records(f: Film) -> usize
+pub(crate) fn film_records(f: Film) -> usize
     ensures { λ r. ⌜ r ≡ filmRecords f ⌝ }
 {
     match f {

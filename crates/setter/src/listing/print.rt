@@ -10,7 +10,7 @@ ghost use Rattle.setter.specs.Listing.PrintInWords.{linesIn, entryEnd};
 use leaves::text::columns::write_line;
 
 // How many words the program's report has.
-pub const REPORT_WORDS: usize = 4096;
+pub(crate) const REPORT_WORDS: usize = 4096;
 
 // How many bytes the program prints at most.
 pub const OUTPUT_BYTES: usize = 49186;
@@ -58,7 +58,7 @@ fn write_entries(out: &mut [u8], report: &[u32], n: usize) -> usize
 }
 
 // The `n` entries at the report's front, and the last line: how many they are, the stop and the record.
-pub fn write_list(
+pub(crate) fn write_list(
     out: &mut [u8; OUTPUT_BYTES],
     report: &[u32; REPORT_WORDS],
     n: usize,
@@ -74,7 +74,7 @@ pub fn write_list(
 }
 
 // The line of a refusal: its number, and the record.
-pub fn write_refusal(out: &mut [u8; OUTPUT_BYTES], number: u32, at: u32) -> usize
+pub(crate) fn write_refusal(out: &mut [u8; OUTPUT_BYTES], number: u32, at: u32) -> usize
     ensures { λ r. ⌜ Prints (now (out .entry)) (refusalLine number at) (now (out .exit)) r ⌝ }
 {
     let words = [number, at];

@@ -10,10 +10,10 @@ use leaves::text::columns::read_line;
 use leaves::text::field::PLACES;
 
 // How many bytes the line of a record has.
-pub const RECORD_BYTES: usize = RECORD_WORDS * PLACES + 1;
+pub(crate) const RECORD_BYTES: usize = RECORD_WORDS * PLACES + 1;
 
 // What stands behind the first `at` bytes; nothing where there are fewer.
-pub fn behind(s: &[u8], at: usize) -> &[u8]
+pub(crate) fn behind(s: &[u8], at: usize) -> &[u8]
     ensures { λ r. ⌜ now r ≡ drop at (now (s .entry)) ⌝ }
 {
     if s.len() <= at {
@@ -23,7 +23,7 @@ pub fn behind(s: &[u8], at: usize) -> &[u8]
 }
 
 // Reads the lines of `n` records from the front of the slice into the sheet; answers whether they are well-formed.
-pub fn read_records(s: &[u8], n: usize, sheet: &mut [u32]) -> bool
+pub(crate) fn read_records(s: &[u8], n: usize, sheet: &mut [u32]) -> bool
     requires { ⌜ (n ≤ mostRecords) × (n * recordWords ≤ length (now sheet)) ⌝ }
     ensures { λ r. ⌜ (r ≡ areRecords n (now (s .entry))) × (now (sheet .exit) ≡ sheetOf n (now (s .entry)) ++ drop (n * recordWords) (now (sheet .entry))) ⌝ }
 {

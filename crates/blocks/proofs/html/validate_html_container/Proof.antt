@@ -1,7 +1,7 @@
 -- `blocks::html::validate_html_container` meets its contract.
 use Rattle.blocks.proofs.HtmlLaws.{html-none, html-one, html-two}
-use Rattle.inlines.proofs.TreeLaws.{ends-none, ends-some}
-use Rattle.inlines.proofs.WalkLaws.{skip-fits}
+use Rattle.leaves.proofs.sheet.TreeLaws.{ends-none, ends-some}
+use Rattle.leaves.proofs.sheet.SkipLaws.{skip-fits}
 use borrow.Author.Needs.{needs}
 use Rattle.blocks.proofs.html.validate_html_container.Statement.{statement}
 use Rattle.blocks.proofs.html.validate_html_container.Tie as tie

@@ -2,8 +2,8 @@
 use Prim.Native.Nat.{_-_}
 use Rattle.blocks.proofs.ItemLaws.{opening-turn, opening-out, opening-end, opening-found}
 use Rattle.blocks.specs.Item.{opensWithParagraph}
-use Rattle.inlines.proofs.DecideLaws.{Deciding, deciding-start}
-use Rattle.inlines.proofs.WalkLaws.{skip-down}
+use Rattle.leaves.proofs.sheet.DecideLaws.{Deciding, deciding-start}
+use Rattle.leaves.proofs.sheet.SkipLaws.{skip-down}
 use borrow.Author.Needs.{needs}
 use Rattle.blocks.proofs.item.opens_with_paragraph.Statement.{statement}
 use Rattle.blocks.proofs.item.opens_with_paragraph.Tie as tie

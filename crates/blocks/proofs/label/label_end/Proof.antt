@@ -1,7 +1,7 @@
 -- `blocks::label::label_end` meets its contract.
 use Prim.Native.Nat.{_-_}
 use Rattle.blocks.proofs.LabelLaws.{Labelling, labelling-start, labelling-end, labelling-out, labelling-block, labelling-turn}
-use Rattle.inlines.proofs.WalkLaws.{skip-down}
+use Rattle.leaves.proofs.sheet.SkipLaws.{skip-down}
 use borrow.Author.Needs.{needs}
 use Rattle.blocks.proofs.label.label_end.Statement.{statement}
 use Rattle.blocks.proofs.label.label_end.Tie as tie

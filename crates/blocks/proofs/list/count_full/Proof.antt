@@ -1,7 +1,7 @@
 -- `blocks::list::count_full` meets its contract.
 use Prim.Native.Nat.{_-_}
 use Rattle.blocks.proofs.ListLaws.{Filling, filling-start, filling-turn, filling-out, filling-end}
-use Rattle.inlines.proofs.WalkLaws.{skip-down}
+use Rattle.leaves.proofs.sheet.SkipLaws.{skip-down}
 use borrow.Author.Needs.{needs}
 use Rattle.blocks.proofs.list.count_full.Statement.{statement}
 use Rattle.blocks.proofs.list.count_full.Tie as tie

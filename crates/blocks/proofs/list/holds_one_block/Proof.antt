@@ -1,7 +1,7 @@
 -- `blocks::list::holds_one_block` meets its contract.
 use Rattle.blocks.proofs.ListLaws.{holds-none, holds-more, holds-one}
-use Rattle.inlines.proofs.TreeLaws.{ends-none, ends-some}
-use Rattle.inlines.proofs.WalkLaws.{skip-fits}
+use Rattle.leaves.proofs.sheet.TreeLaws.{ends-none, ends-some}
+use Rattle.leaves.proofs.sheet.SkipLaws.{skip-fits}
 use borrow.Author.Needs.{needs}
 use Rattle.blocks.proofs.list.holds_one_block.Statement.{statement}
 use Rattle.blocks.proofs.list.holds_one_block.Tie as tie

@@ -2,8 +2,8 @@
 use Prim.Native.Nat.{_-_}
 use Rattle.blocks.proofs.ParagraphLaws.{emptying-end, emptying-out, emptying-stop, emptying-turn}
 use Rattle.inlines.specs.Nodes.{allEmpty}
-use Rattle.inlines.proofs.DecideLaws.{Deciding, deciding-start}
-use Rattle.inlines.proofs.WalkLaws.{skip-down}
+use Rattle.leaves.proofs.sheet.DecideLaws.{Deciding, deciding-start}
+use Rattle.leaves.proofs.sheet.SkipLaws.{skip-down}
 use borrow.Author.Needs.{needs}
 use Rattle.blocks.proofs.paragraph.all_empty.Statement.{statement}
 use Rattle.blocks.proofs.paragraph.all_empty.Tie as tie

@@ -2,7 +2,8 @@
 use Prim.Native.Nat.{_-_}
 use lib.ListN.{take}
 use Rattle.leaves.specs.Sheet.Forest.{under}
-use Rattle.inlines.proofs.WalkLaws.{done-down, level-of}
+use Rattle.inlines.proofs.WalkLaws.{done-down}
+use Rattle.leaves.proofs.sheet.SkipLaws.{level-of}
 use Rattle.inlines.proofs.PathLaws.{Paced, paced-start, paced-room, paced-front, paced-long, paced-under, paced-call, paced-out, paced-end}
 use Rattle.blocks.specs.Table.{validateRows}
 use Rattle.blocks.proofs.TableLaws.{rows-none, rows-turn}

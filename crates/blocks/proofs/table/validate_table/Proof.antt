@@ -1,6 +1,6 @@
 -- `blocks::table::validate_table` meets its contract.
 use Rattle.inlines.proofs.PathLaws.{begin-front, begin-long, begin-short}
-use Rattle.inlines.proofs.TreeLaws.{ends-some}
+use Rattle.leaves.proofs.sheet.TreeLaws.{ends-some}
 use Rattle.blocks.proofs.TableLaws.{table-empty, table-done}
 use borrow.Author.Needs.{needs}
 use Rattle.blocks.proofs.table.validate_table.Statement.{statement}

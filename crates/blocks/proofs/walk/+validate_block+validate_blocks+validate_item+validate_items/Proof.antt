@@ -7,7 +7,8 @@ use borrow.Author.Needs.{needs}
 use borrow.Fn.Kind.{PK}
 use lib.ListN.{take}
 use Rattle.leaves.specs.Sheet.Forest.{under}
-use Rattle.inlines.proofs.WalkLaws.{done-down, level-of}
+use Rattle.inlines.proofs.WalkLaws.{done-down}
+use Rattle.leaves.proofs.sheet.SkipLaws.{level-of}
 use Rattle.inlines.proofs.PathLaws.{Paced, begin-front, begin-long, begin-short, paced-start, paced-room, paced-place, paced-few, paced-out, paced-end}
 use Rattle.blocks.specs.Walk.{validateBlocks, validateItems}
 use Rattle.blocks.proofs.BlockWalkLaws.{begin-kept, block-blocks, block-items, block-leaf, block-other, blocks-none, blocks-turn, item-done, items-none, items-turn, own-begin, tree-at, tree-falls}
@@ -36,7 +37,7 @@ use Rattle.blocks.proofs.holds.holds_blocks.Reads as holds-blocks-reads
 use Rattle.blocks.proofs.block.validate_own.Reads as validate-own-reads
 use Rattle.leaves.proofs.sheet.kinds.is_block.Reads as is-block-reads
 use Rattle.leaves.proofs.sheet.records.record_at.Reads as record-at-reads
-use Rattle.inlines.proofs.walk.skip.Reads as skip-reads
+use Rattle.leaves.proofs.sheet.forest.skip.Reads as skip-reads
 use Rattle.blocks.proofs.walk.+validate_block+validate_blocks+validate_item+validate_items.{statement}
 use Rattle.blocks.proofs.walk.+validate_block+validate_blocks+validate_item+validate_items.Tie.{close}
 

@@ -1,7 +1,8 @@
 -- `inlines::attribute::validate_directive_attributes` meets its contract.
 use Prim.Native.Nat.{_-_}
 use Rattle.inlines.proofs.AttributeLaws.{attributes-none, attributes-turn}
-use Rattle.inlines.proofs.WalkLaws.{Loop, loop-end, loop-out, loop-start, skip-down}
+use Rattle.inlines.proofs.WalkLaws.{Loop, loop-end, loop-out, loop-start}
+use Rattle.leaves.proofs.sheet.SkipLaws.{skip-down}
 use Rattle.inlines.specs.Attribute.{validateDirectiveAttributes}
 use Rattle.leaves.specs.Sheet.Forest.{under}
 use borrow.Author.Needs.{needs}

@@ -17,9 +17,9 @@ use Rattle.inlines.proofs.nodes.validate_node.Reads as validate-node
 use Rattle.inlines.proofs.nodes.+validate_inline_nodes+validate_node.Lts-validate_node as validate-node-lts
 use Rattle.inlines.proofs.node.validate_inline.Reads as validate-inline-reads
 use Rattle.inlines.proofs.single.validate_siblings.Reads as validate-siblings-reads
-use Rattle.inlines.proofs.walk.skip.Reads as skip-reads
+use Rattle.leaves.proofs.sheet.forest.skip.Reads as skip-reads
 use Rattle.leaves.proofs.sheet.kinds.is_inline.Reads as is-inline-reads
-use Rattle.leaves.proofs.sheet.kinds.pick.Reads as pick-reads
+use Rattle.leaves.proofs.text.bytes.pick.Reads as pick-reads
 use Rattle.leaves.proofs.sheet.records.record_at.Reads as record-at-reads
 use Rattle.inlines.proofs.nodes.+validate_inline_nodes+validate_node.{statement}
 use Rattle.inlines.proofs.nodes.+validate_inline_nodes+validate_node.Tie.{close}

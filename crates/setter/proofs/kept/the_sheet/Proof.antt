@@ -1,6 +1,6 @@
 -- `setter::kept::the_sheet` meets its contract.
 use mathlib.Core.Path.{refl}
-use Rattle.setter.specs.Machine.{columns, nearest, inLink, onlyEmpty, lastMark}
+use Rattle.setter.specs.Seen.{columns, nearest, inLink, onlyEmpty, lastMark}
 use Rattle.setter.specs.Kept.{keptOf, markerBehind}
 use Rattle.setter.proofs.kept.the_sheet.Statement.{statement}
 use Rattle.setter.proofs.kept.the_sheet.Tie as tie

@@ -2,7 +2,7 @@
 use Prim.Native.Nat.{_-_}
 use Rattle.leaves.proofs.text.LineLaws.{line-laws}
 use Rattle.leaves.proofs.text.ScanLaws.{At}
-use Rattle.leaves.specs.Text.LineScans.{lastBlank}
+use Rattle.leaves.specs.Text.EdgeScans.{lastBlank}
 use lib.ListN.{drop, length}
 use mathlib.Core.Bool.{true}
 use Rattle.leaves.proofs.text.edges.last_line_is_blank.Statement.{statement}

@@ -1,7 +1,7 @@
 -- `leaves::text::pipe::has_odd_escaped_pipe` meets its contract.
 use mathlib.Core.Path.{refl}
 use mathlib.Core.Bool.{false}
-use Rattle.leaves.proofs.text.PipeMathLaws.{tests, pipe-leap, not-and}
+use Rattle.leaves.proofs.text.PipeLaws.{pipe-leap, not-and, pipes}
 use Prim.Native.Nat.{_-_}
 use Rattle.leaves.proofs.text.ScanLaws.{At}
 use Rattle.leaves.specs.Text.Pipe.{hasOddEscapedPipe, oddPipeAfter}
@@ -17,11 +17,11 @@ abbrev μ-loop : tie.MeasureT-loop
 
 loop-holds : tie.Need-loop-holds Inv-loop μ-loop
 unfolding hasOddEscapedPipe
-loop-holds c = pipe-leap false refl (record { within = search tests; same = refl }) (c .past .ensures)
+loop-holds c = pipe-leap false refl (record { within = search pipes; same = refl }) (c .past .ensures)
 
 loop-again : tie.Need-loop-again Inv-loop μ-loop
 unfolding oddPipeAfter
-loop-again c = pipe-leap _ (not-and _ _ (c .before .if2 .taken)) (search tests) (c .past2 .ensures)
+loop-again c = pipe-leap _ (not-and _ _ (c .before .if2 .taken)) (search pipes) (c .past2 .ensures)
 
 pub has-odd-escaped-pipe-spec : {M : Type 1} → statement M
 unfolding hasOddEscapedPipe oddPipeAfter
@@ -30,14 +30,14 @@ has-odd-escaped-pipe-spec =
     (tie.spec
     Inv-loop
     μ-loop
-    (λ c κs. search tests)
+    (λ c κs. search pipes)
     loop-holds
-    (λ c. search tests)
-    (λ c. search tests)
-    (λ c. search tests)
-    (λ c κs. search tests)
-    (λ c. search tests)
+    (λ c. search pipes)
+    (λ c. search pipes)
+    (λ c. search pipes)
+    (λ c κs. search pipes)
+    (λ c. search pipes)
     loop-again
-    (λ c. search tests)
-    (λ c. search tests)
-    (λ c. search tests))
+    (λ c. search pipes)
+    (λ c. search pipes)
+    (λ c. search pipes))
