@@ -2,7 +2,7 @@
 use mathlib.Core.Path.{_≡_, refl, sym, _∙_}
 use mathlib.Core.Bool.{Bool, true, false, not}
 use mathlib.Core.List.{List, [], _∷_, _++_}
-use Prim.Native.Nat.{ℕ, _+_, _-_, _*_, _<_, _≤_}
+use Prim.Native.Nat.{ℕ, _+_, _<_, _≤_}
 use native.Mathlib.Omega.{arith}
 use native.Mathlib.Numerals.{add-one}
 use borrow.Author.Tests.{not-true, not-false, eq-eqb, ne-eqb}
@@ -17,7 +17,7 @@ use Rattle.leaves.proofs.sheet.ForestLaws.{under-in}
 use Rattle.leaves.specs.Report.Entries.{Entry, Lists, _⊕_}
 use Rattle.leaves.specs.declared.report.entries.Tally.{Tally}
 use Rattle.leaves.proofs.report.EntryLaws.{join-assoc, join-none, none-join, lists-none, lists-then}
-use Rattle.inlines.specs.Walk.{Begin, Done}
+use Rattle.inlines.specs.Walk.{Begin, Left, Done}
 use Rattle.inlines.specs.declared.walk.Walked.{Walked}
 use Rattle.leaves.proofs.sheet.SkipLaws.{behindKids, level-of, skip-tree}
 use Rattle.inlines.proofs.PathLaws.{Paced, paced-room, paced-own, paced-call, paced-turn, kept-set, kept-below}
@@ -119,13 +119,10 @@ index-most k kind = go (isBlock kind)
     go true = omega arith
     go false = omega arith
 
--- what a call for record i is given, and how it falls
+-- what a call for record i is given
 module _ {es : List Entry} {h : Forest → List Entry} {w p : List ℕ} {n from len level : ℕ} {s : Tally} {x : List ℕ} {i k : ℕ} {t : Tally} {y q : List ℕ} (v : Paced es h w p n from len level s x i k t y q) {r : Rec} (b : i < n) (e : r ≡ recordAt w i) (d : level < r .level) where
   pub tree-at : At w (set q len k) n i (len + 1) (r .level)
   tree-at = record { begin = paced-call v b (level-of w i e) d; is = level-of w i e }
-
-  pub tree-falls : 2 * (64 - r .level) + 1 < 2 * (64 - level)
-  tree-falls = let most : r .level ≤ 64 = rw e (v .begin .start .shallow i b) in omega arith
 
 pub blocks-turn : (bytes : List ℕ) (before : Before) {w p : List ℕ} {n from len level : ℕ} {es : List Entry} {s : Tally} {x : List ℕ} {i k : ℕ} {t : Tally} {y q : List ℕ} → Paced es (validateBlocks bytes (take len p) k before) w p n from len level s x i k t y q → {r : Rec} {f : Walked} {b : Before} {m : ℕ} {z o : List ℕ} → i < n → r ≡ recordAt w i → level < r .level → Done w n (i + 1) (r .level) (blockAt bytes (take (len + 1) (set q len k)) before (recordAt w i) (under w n (i + 1) (r .level))) t y f z → take (len + 1) o ≡ take (len + 1) (set q len k) → b ≡ beforeAt before (r .kind) (r .a) (r .b) → m ≡ indexAt k (r .kind) → length z ≡ length y → length o ≡ length (set q len k) → Paced es (validateBlocks bytes (take len p) m b) w p n from len level s x (f .next) m (f .tally) z o
 blocks-turn bytes before {w} {p} {n} {from} {len} {level} {i = i} {k} {t} {y} {q} v {r} {f} {b} {m} {z} {o} h e d c kept g a same long =
@@ -156,8 +153,8 @@ begin-kept b same kept =
       fits = b .fits;
     }
 
-pub own-begin : {w p : List ℕ} {n i len level : ℕ} → At w p n i len level → {r : Rec} → r ≡ recordAt w i → Begin w p n (i + 1) len (r .level)
-own-begin {w} {i = i} at {r} e =
+pub own-begin : {w p : List ℕ} {n i len level left : ℕ} → At w p n i len level → Left left level → {r : Rec} → r ≡ recordAt w i → Begin w p n (i + 1) len (r .level) × Left left (r .level)
+own-begin {w} {i = i} at enough {r} e =
     let l : r .level ≡ _ = level-of w i e ∙ sym (at .is) in
     let b = at .begin in
-    record { start = b .start; words = b .words; short = rw l (b .short); fits = b .fits }
+    (record { start = b .start; words = b .words; short = rw l (b .short); fits = b .fits }, rw l enough)

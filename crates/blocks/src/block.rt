@@ -5,7 +5,7 @@ ghost use Rattle.leaves.specs.Sheet.Forest.{under};
 ghost use Rattle.leaves.specs.Report.Entries.{Lists, _⊕_};
 ghost use Rattle.blocks.specs.Heads.{validateHeading};
 ghost use Rattle.inlines.specs.Nodes.{validateInlines};
-ghost use Rattle.inlines.specs.Walk.{Start, Begin};
+ghost use Rattle.inlines.specs.Walk.{Start, Begin, Left};
 ghost use Rattle.blocks.specs.Block.{validateLeaf, validateHtml, validateContainer, validateOwn};
 use crate::footnote::validate_footnote_definition;
 use crate::frontmatter::validate_frontmatter;
@@ -30,13 +30,14 @@ fn validate_heading(
     n: usize,
     from: usize,
     r: Rec,
+    left: u32,
     tally: Tally,
 ) -> Tally
-    requires { ⌜ Start (now sheet) (now path) n from ⌝ }
+    requires { ⌜ Start (now sheet) (now path) n from × Left left (r .level) ⌝ }
     ensures { λ q. ⌜ Lists tally q (now (report .entry)) (now (report .exit)) (validateHeading (now (path .entry)) (r .span) (r .a) ⊕ validateInlines (now (bytes .entry)) (now (path .entry)) (under (now (sheet .entry)) n from (r .level))) ⌝ }
 {
     let out = heads::validate_heading(report, path, r.span, r.a, tally);
-    let w = validate_inlines(sheet, bytes, report, path, n, from, r.level, out);
+    let w = validate_inlines(sheet, bytes, report, path, n, from, r.level, left, out);
     w.tally
 }
 
@@ -49,9 +50,10 @@ fn validate_leaf(
     n: usize,
     from: usize,
     r: Rec,
+    left: u32,
     tally: Tally,
 ) -> Tally
-    requires { ⌜ Start (now sheet) (now path) n from ⌝ }
+    requires { ⌜ Start (now sheet) (now path) n from × Left left (r .level) ⌝ }
     ensures { λ q. ⌜ Lists tally q (now (report .entry)) (now (report .exit)) (validateLeaf (now (bytes .entry)) (now (path .entry)) r (under (now (sheet .entry)) n from (r .level))) ⌝ }
 {
     let span = r.span;
@@ -61,9 +63,20 @@ fn validate_leaf(
     let kind = r.kind;
     match kind {
         kinds::PARAGRAPH => {
-            validate_paragraph(sheet, bytes, report, path, n, from, r.level, span, tally)
+            validate_paragraph(
+                sheet,
+                bytes,
+                report,
+                path,
+                n,
+                from,
+                r.level,
+                left,
+                span,
+                tally,
+            )
         }
-        kinds::HEADING => validate_heading(sheet, bytes, report, path, n, from, r, tally),
+        kinds::HEADING => validate_heading(sheet, bytes, report, path, n, from, r, left, tally),
         kinds::CODE_BLOCK => {
             heads::validate_code_block(bytes, report, path, span, a, r.b, first, second, tally)
         }
@@ -83,6 +96,7 @@ fn validate_leaf(
                 n,
                 from,
                 r.level,
+                left,
                 rule,
                 span,
                 first,
@@ -102,16 +116,17 @@ fn validate_html(
     n: usize,
     from: usize,
     r: Rec,
+    left: u32,
     tally: Tally,
 ) -> Tally
-    requires { ⌜ Start (now sheet) (now path) n from ⌝ }
+    requires { ⌜ Start (now sheet) (now path) n from × Left left (r .level) ⌝ }
     ensures { λ q. ⌜ Lists tally q (now (report .entry)) (now (report .exit)) (validateHtml (now (bytes .entry)) (now (path .entry)) (r .span) (r .a) (under (now (sheet .entry)) n from (r .level))) ⌝ }
 {
     let out = validate_html_container(sheet, bytes, report, path, n, from, r.level, r.span, tally);
     if r.a == 0 {
         return out;
     }
-    let w = validate_inlines(sheet, bytes, report, path, n, from, r.level, out);
+    let w = validate_inlines(sheet, bytes, report, path, n, from, r.level, left, out);
     w.tally
 }
 
@@ -124,9 +139,10 @@ fn validate_container(
     n: usize,
     from: usize,
     r: Rec,
+    left: u32,
     tally: Tally,
 ) -> Tally
-    requires { ⌜ Start (now sheet) (now path) n from ⌝ }
+    requires { ⌜ Start (now sheet) (now path) n from × Left left (r .level) ⌝ }
     ensures { λ q. ⌜ Lists tally q (now (report .entry)) (now (report .exit)) (validateContainer (now (bytes .entry)) (now (path .entry)) r (under (now (sheet .entry)) n from (r .level))) ⌝ }
 {
     let span = r.span;
@@ -135,7 +151,7 @@ fn validate_container(
     match kind {
         kinds::ALERT => heads::validate_alert(bytes, report, path, span, r.a, first, tally),
         kinds::LIST => validate_list(sheet, report, path, n, from, r.level, span, r.c, tally),
-        kinds::HTML_CONTAINER => validate_html(sheet, bytes, report, path, n, from, r, tally),
+        kinds::HTML_CONTAINER => validate_html(sheet, bytes, report, path, n, from, r, left, tally),
         kinds::CONTAINER_DIRECTIVE => {
             let rule = rules::BREAK_IN_CONTAINER_LABEL;
             validate_directive(
@@ -146,13 +162,14 @@ fn validate_container(
                 n,
                 from,
                 r.level,
+                left,
                 rule,
                 span,
                 first,
                 tally,
             )
         }
-        _ => validate_leaf(sheet, bytes, report, path, n, from, r, tally),
+        _ => validate_leaf(sheet, bytes, report, path, n, from, r, left, tally),
     }
 }
 
@@ -166,9 +183,10 @@ pub(crate) fn validate_own(
     n: usize,
     from: usize,
     r: Rec,
+    left: u32,
     tally: Tally,
 ) -> Tally
-    requires { ⌜ Begin (now sheet) (now path) n from len (r .level) ⌝ }
+    requires { ⌜ Begin (now sheet) (now path) n from len (r .level) × Left left (r .level) ⌝ }
     ensures { λ q. ⌜ Lists tally q (now (report .entry)) (now (report .exit)) (validateOwn (now (bytes .entry)) (take len (now (path .entry))) r (under (now (sheet .entry)) n from (r .level))) × (take len (now (path .exit)) ≡ take len (now (path .entry))) ⌝ }
 {
     let level = r.level;
@@ -200,11 +218,12 @@ pub(crate) fn validate_own(
                 n,
                 from,
                 level,
+                left,
                 span,
                 r.a,
                 tally,
             )
         }
-        _ => validate_container(sheet, bytes, report, &path[..len], n, from, r, tally),
+        _ => validate_container(sheet, bytes, report, &path[..len], n, from, r, left, tally),
     }
 }

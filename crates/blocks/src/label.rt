@@ -5,7 +5,7 @@ ghost use lib.ListN.{length};
 ghost use Rattle.leaves.specs.Sheet.Records.{recordWords};
 ghost use Rattle.leaves.specs.Sheet.Forest.{under, size};
 ghost use Rattle.leaves.specs.Report.Entries.{Lists};
-ghost use Rattle.inlines.specs.Walk.{Start};
+ghost use Rattle.inlines.specs.Walk.{Start, Left};
 ghost use Rattle.blocks.specs.Label.{beforeBlocks, validateDirective};
 use inlines::attribute::validate_directive_attributes;
 use inlines::depth;
@@ -47,18 +47,19 @@ pub(crate) fn validate_directive(
     n: usize,
     from: usize,
     level: u32,
+    left: u32,
     rule: u32,
     span: Span,
     name: Text,
     tally: Tally,
 ) -> Tally
-    requires { ⌜ Start (now sheet) (now path) n from ⌝ }
+    requires { ⌜ Start (now sheet) (now path) n from × Left left level ⌝ }
     ensures { λ r. ⌜ Lists tally r (now (report .entry)) (now (report .exit)) (validateDirective (now (bytes .entry)) (now (path .entry)) rule span name (under (now (sheet .entry)) n from level)) ⌝ }
 {
     let out = validate_directive_name(bytes, report, path, span, name, tally);
     let end = label_end(sheet, n, from, level);
     let w = validate_directive_attributes(sheet, bytes, report, path, end, from, level, out);
-    let w = validate_inlines(sheet, bytes, report, path, end, from, level, w.tally);
+    let w = validate_inlines(sheet, bytes, report, path, end, from, level, left, w.tally);
     let w = depth::validate_one_line(sheet, report, path, end, from, level, rule, w.tally);
     w.tally
 }

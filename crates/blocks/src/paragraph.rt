@@ -5,7 +5,7 @@ ghost use lib.ListN.{length};
 ghost use Rattle.leaves.specs.Sheet.Records.{recordWords};
 ghost use Rattle.leaves.specs.Sheet.Forest.{under};
 ghost use Rattle.leaves.specs.Report.Entries.{Lists};
-ghost use Rattle.inlines.specs.Walk.{Start};
+ghost use Rattle.inlines.specs.Walk.{Start, Left};
 ghost use Rattle.inlines.specs.Nodes.{allEmpty};
 ghost use Rattle.blocks.specs.Paragraph.{validateParagraph};
 use inlines::nodes::validate_inlines;
@@ -47,14 +47,15 @@ pub(crate) fn validate_paragraph(
     n: usize,
     from: usize,
     level: u32,
+    left: u32,
     span: Span,
     tally: Tally,
 ) -> Tally
-    requires { ⌜ Start (now sheet) (now path) n from ⌝ }
+    requires { ⌜ Start (now sheet) (now path) n from × Left left level ⌝ }
     ensures { λ r. ⌜ Lists tally r (now (report .entry)) (now (report .exit)) (validateParagraph (now (bytes .entry)) (now (path .entry)) span (under (now (sheet .entry)) n from level)) ⌝ }
 {
     let empty = all_empty(sheet, n, from, level);
     let out = list_if(empty, report, rules::EMPTY_PARAGRAPH, span, path, tally);
-    let w = validate_inlines(sheet, bytes, report, path, n, from, level, out);
+    let w = validate_inlines(sheet, bytes, report, path, n, from, level, left, out);
     w.tally
 }

@@ -3,7 +3,7 @@ ghost use mathlib.Core.Path.{_≡_};
 ghost use lib.ListN.{take};
 ghost use Rattle.leaves.specs.Sheet.Forest.{under};
 ghost use Rattle.leaves.specs.Report.Entries.{Lists};
-ghost use Rattle.inlines.specs.Walk.{Start, Begin, Done};
+ghost use Rattle.inlines.specs.Walk.{Start, Begin, Left, Done};
 ghost use Rattle.blocks.specs.Table.{validateCell, validateCells, validateRows, validateTable};
 use inlines::depth;
 use inlines::nodes::validate_inlines;
@@ -26,12 +26,13 @@ fn validate_cell(
     n: usize,
     from: usize,
     level: u32,
+    left: u32,
     tally: Tally,
 ) -> Walked
-    requires { ⌜ Start (now sheet) (now path) n from ⌝ }
+    requires { ⌜ Start (now sheet) (now path) n from × Left left level ⌝ }
     ensures { λ r. ⌜ Done (now (sheet .entry)) n from level (validateCell (now (bytes .entry)) (now (path .entry)) (under (now (sheet .entry)) n from level)) tally (now (report .entry)) r (now (report .exit)) ⌝ }
 {
-    let w = validate_inlines(sheet, bytes, report, path, n, from, level, tally);
+    let w = validate_inlines(sheet, bytes, report, path, n, from, level, left, tally);
     let w = depth::validate_cell_values(sheet, bytes, report, path, n, from, level, w.tally);
     let rule = rules::BREAK_IN_CELL;
     depth::validate_one_line(sheet, report, path, n, from, level, rule, w.tally)
@@ -47,9 +48,10 @@ fn validate_cells(
     n: usize,
     from: usize,
     level: u32,
+    left: u32,
     tally: Tally,
 ) -> Walked
-    requires { ⌜ Begin (now sheet) (now path) n from len level ⌝ }
+    requires { ⌜ Begin (now sheet) (now path) n from len level × Left left level ⌝ }
     ensures { λ r. ⌜ Done (now (sheet .entry)) n from level (validateCells (now (bytes .entry)) (take len (now (path .entry))) 0 (under (now (sheet .entry)) n from level)) tally (now (report .entry)) r (now (report .exit)) × (take len (now (path .exit)) ≡ take len (now (path .entry))) ⌝ }
 {
     let mut out = tally;
@@ -64,7 +66,17 @@ fn validate_cells(
             };
         }
         path[len] = k;
-        let w = validate_cell(sheet, bytes, report, &path[..len + 1], n, i + 1, deep, out);
+        let w = validate_cell(
+            sheet,
+            bytes,
+            report,
+            &path[..len + 1],
+            n,
+            i + 1,
+            deep,
+            left - 1,
+            out,
+        );
         k = k + 1;
         out = w.tally;
         i = w.next;
@@ -85,10 +97,11 @@ fn validate_rows(
     n: usize,
     from: usize,
     level: u32,
+    left: u32,
     width: usize,
     tally: Tally,
 ) -> Walked
-    requires { ⌜ Begin (now sheet) (now path) n from len level ⌝ }
+    requires { ⌜ Begin (now sheet) (now path) n from len level × Left left level ⌝ }
     ensures { λ r. ⌜ Done (now (sheet .entry)) n from level (validateRows (now (bytes .entry)) (take len (now (path .entry))) width 0 (under (now (sheet .entry)) n from level)) tally (now (report .entry)) r (now (report .exit)) × (take len (now (path .exit)) ≡ take len (now (path .entry))) ⌝ }
 {
     let mut out = tally;
@@ -106,7 +119,18 @@ fn validate_rows(
         let other = count(sheet, n, i + 1, r.level) != width;
         let rule = rules::ROW_WIDTH;
         out = list_if(other, report, rule, r.span, &path[..len + 1], out);
-        let w = validate_cells(sheet, bytes, report, path, len + 1, n, i + 1, r.level, out);
+        let w = validate_cells(
+            sheet,
+            bytes,
+            report,
+            path,
+            len + 1,
+            n,
+            i + 1,
+            r.level,
+            left - 1,
+            out,
+        );
         k = k + 1;
         out = w.tally;
         i = w.next;
@@ -127,11 +151,12 @@ pub(crate) fn validate_table(
     n: usize,
     from: usize,
     level: u32,
+    left: u32,
     span: Span,
     a: u32,
     tally: Tally,
 ) -> Tally
-    requires { ⌜ Begin (now sheet) (now path) n from len level ⌝ }
+    requires { ⌜ Begin (now sheet) (now path) n from len level × Left left level ⌝ }
     ensures { λ r. ⌜ Lists tally r (now (report .entry)) (now (report .exit)) (validateTable (now (bytes .entry)) (take len (now (path .entry))) span a (under (now (sheet .entry)) n from level)) × (take len (now (path .exit)) ≡ take len (now (path .entry))) ⌝ }
 {
     if ends(sheet, n, from, level) {
@@ -143,6 +168,18 @@ pub(crate) fn validate_table(
     let out = list_if(width == 0, report, rule, span, &path[..len], tally);
     let rule = rules::ALIGNMENT_COUNT;
     let out = list_if(a as usize != width, report, rule, span, &path[..len], out);
-    let w = validate_rows(sheet, bytes, report, path, len, n, from, level, width, out);
+    let w = validate_rows(
+        sheet,
+        bytes,
+        report,
+        path,
+        len,
+        n,
+        from,
+        level,
+        left,
+        width,
+        out,
+    );
     w.tally
 }

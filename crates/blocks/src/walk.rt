@@ -7,7 +7,7 @@ ghost use Rattle.leaves.specs.Sheet.Records.{recordAt, recordsOf};
 ghost use Rattle.leaves.specs.Sheet.Forest.{under, count, size};
 ghost use Rattle.leaves.specs.Report.Entries.{Lists, start};
 ghost use Rattle.leaves.specs.Refusal.Formed.{Sound};
-ghost use Rattle.inlines.specs.Walk.{Begin, Done};
+ghost use Rattle.inlines.specs.Walk.{Begin, Left, Done};
 ghost use Rattle.blocks.specs.Before.{first};
 ghost use Rattle.blocks.specs.Walk.{validateBlocks, validateItems, validateItem, validateDocument};
 ghost use Rattle.blocks.specs.WalkAt.{At, blockAt};
@@ -27,6 +27,11 @@ use leaves::sheet::forest::skip;
 use leaves::sheet::kinds;
 use leaves::sheet::records::record_at;
 
+// How many levels a sheet has at most: no record is deeper.
+const LEVELS: u32 = 64;
+
+// The block walk (`validate_blocks`, `validate_block`), the list walk (`validate_items`) and the item walk (`validate_item`) call each other. `left`, the levels left, is 64 at the sheet and one less at each call for a deeper record: it is the number that falls, so that the calls end.
+
 // The blocks from record `from` on that are deeper than `level`. The path of what holds them is the first `len` words of `path`.
 fn validate_blocks(
     sheet: &[u32],
@@ -37,9 +42,10 @@ fn validate_blocks(
     n: usize,
     from: usize,
     level: u32,
+    left: u32,
     tally: Tally,
 ) -> Walked
-    requires { ⌜ Begin (now sheet) (now path) n from len level ⌝ }
+    requires { ⌜ Begin (now sheet) (now path) n from len level × Left left level ⌝ }
     ensures { λ q. ⌜ Done (now (sheet .entry)) n from level (validateBlocks (now (bytes .entry)) (take len (now (path .entry))) 0 first (under (now (sheet .entry)) n from level)) tally (now (report .entry)) q (now (report .exit)) × (take len (now (path .exit)) ≡ take len (now (path .entry))) ⌝ }
 {
     let mut before = Before {
@@ -68,6 +74,7 @@ fn validate_blocks(
             n,
             i,
             r.level,
+            left - 1,
             before,
             out,
         );
@@ -92,10 +99,11 @@ fn validate_block(
     n: usize,
     i: usize,
     level: u32,
+    left: u32,
     before: Before,
     tally: Tally,
 ) -> Walked
-    requires { ⌜ At (now sheet) (now path) n i len level ⌝ }
+    requires { ⌜ At (now sheet) (now path) n i len level × Left left level ⌝ }
     ensures { λ q. ⌜ Done (now (sheet .entry)) n (i + 1) level (blockAt (now (bytes .entry)) (take len (now (path .entry))) before (recordAt (now (sheet .entry)) i) (under (now (sheet .entry)) n (i + 1) level)) tally (now (report .entry)) q (now (report .exit)) × (take len (now (path .exit)) ≡ take len (now (path .entry))) ⌝ }
 {
     let r = record_at(sheet, i);
@@ -115,7 +123,7 @@ fn validate_block(
         r.b,
         tally,
     );
-    let out = validate_own(sheet, bytes, report, path, len, n, i + 1, r, out);
+    let out = validate_own(sheet, bytes, report, path, len, n, i + 1, r, left, out);
     if r.kind == kinds::LIST {
         return validate_items(
             sheet,
@@ -126,13 +134,14 @@ fn validate_block(
             n,
             i + 1,
             level,
+            left,
             r.a,
             r.c,
             out,
         );
     }
     if holds_blocks(r.kind, r.a) {
-        return validate_blocks(sheet, bytes, report, path, len, n, i + 1, level, out);
+        return validate_blocks(sheet, bytes, report, path, len, n, i + 1, level, left, out);
     }
     Walked {
         next: skip(sheet, n, i + 1, level),
@@ -150,11 +159,12 @@ fn validate_items(
     n: usize,
     from: usize,
     level: u32,
+    left: u32,
     ordered: u32,
     tight: u32,
     tally: Tally,
 ) -> Walked
-    requires { ⌜ Begin (now sheet) (now path) n from len level ⌝ }
+    requires { ⌜ Begin (now sheet) (now path) n from len level × Left left level ⌝ }
     ensures { λ q. ⌜ Done (now (sheet .entry)) n from level (validateItems (now (bytes .entry)) (take len (now (path .entry))) 0 ordered tight (under (now (sheet .entry)) n from level)) tally (now (report .entry)) q (now (report .exit)) × (take len (now (path .exit)) ≡ take len (now (path .entry))) ⌝ }
 {
     let mut k: u32 = 0;
@@ -178,6 +188,7 @@ fn validate_items(
             n,
             i,
             r.level,
+            left - 1,
             level,
             ordered,
             tight,
@@ -203,12 +214,13 @@ fn validate_item(
     n: usize,
     i: usize,
     level: u32,
+    left: u32,
     outer: u32,
     ordered: u32,
     tight: u32,
     tally: Tally,
 ) -> Walked
-    requires { ⌜ At (now sheet) (now path) n i len level × (outer ≤ level) ⌝ }
+    requires { ⌜ At (now sheet) (now path) n i len level × (outer ≤ level) × Left left level ⌝ }
     ensures { λ q. ⌜ Done (now (sheet .entry)) n (i + 1) level (validateItem (take len (now (path .entry))) ordered tight (eqb (count (under (now (sheet .entry)) n (i + 1 + size (under (now (sheet .entry)) n (i + 1) level)) outer)) 0) (recordAt (now (sheet .entry)) i) (under (now (sheet .entry)) n (i + 1) level) (validateBlocks (now (bytes .entry)) (take len (now (path .entry))) 0 first (under (now (sheet .entry)) n (i + 1) level))) tally (now (report .entry)) q (now (report .exit)) × (take len (now (path .exit)) ≡ take len (now (path .entry))) ⌝ }
 {
     let r = record_at(sheet, i);
@@ -230,7 +242,7 @@ fn validate_item(
     );
     let own = &path[..len];
     let out = item::validate_task_item(sheet, report, own, n, i + 1, level, r.span, r.a, out);
-    validate_blocks(sheet, bytes, report, path, len, n, i + 1, level, out)
+    validate_blocks(sheet, bytes, report, path, len, n, i + 1, level, left, out)
 }
 
 // The whole list of an accepted sheet of n records.
@@ -239,6 +251,17 @@ pub(crate) fn validate_document(sheet: &[u32], bytes: &[u8], report: &mut [u32],
     ensures { λ q. ⌜ Lists start q (now (report .entry)) (now (report .exit)) (validateDocument (now (sheet .entry)) (now (bytes .entry))) ⌝ }
 {
     let mut path = [0u32; 64];
-    let w = validate_blocks(sheet, bytes, report, &mut path, 0, n, 0, 0, entries::none());
+    let w = validate_blocks(
+        sheet,
+        bytes,
+        report,
+        &mut path,
+        0,
+        n,
+        0,
+        0,
+        LEVELS,
+        entries::none(),
+    );
     w.tally
 }

@@ -2,7 +2,7 @@
 use mathlib.Core.Path.{_≡_, refl}
 use mathlib.Core.Bool.{Bool, true, false, not}
 use mathlib.Core.List.{List, []}
-use Prim.Native.Nat.{ℕ, _+_, _-_, _*_, _<_, _≤_}
+use Prim.Native.Nat.{ℕ, _+_, _<_}
 use native.Mathlib.Omega.{arith}
 use borrow.Author.Tests.{not-true, not-false}
 use lib.ListN.{length}
@@ -53,10 +53,6 @@ pub node-here : {es : List Entry} {h : Forest → List Entry} {path w : List ℕ
 node-here v b e =
     let p = v .start in
     record { start = record { whole = p .whole; few = p .few; shallow = p .shallow; inside = omega arith; short = p .short }; is = rw e }
-
--- its level is deeper, and no level is more than 64
-pub node-falls : {es : List Entry} {h : Forest → List Entry} {path w : List ℕ} {n from level : ℕ} {s : Tally} {x : List ℕ} {i : ℕ} {t : Tally} {y : List ℕ} → Loop es h w path n from level s x i t y → {r : Rec} → i < n → r ≡ recordAt w i → level < r .level → 2 * (64 - r .level) + 1 < 2 * (64 - level)
-node-falls {i = i} v {r} b e d = let most : r .level ≤ 64 = rw e (v .start .shallow i b) in omega arith
 
 pub nodes-turn : (bytes : List ℕ) (before : ℕ) {path w : List ℕ} {n from level : ℕ} {es : List Entry} {s : Tally} {x : List ℕ} {i : ℕ} {t : Tally} {y : List ℕ} → Loop es (validateInlineNodesAfter bytes path before) w path n from level s x i t y → {z : List ℕ} {r : Rec} {f : Bool} {b : ℕ} {q : Walked} → i < n → r ≡ recordAt w i → level < r .level → Done w n (i + 1) (r .level) (validateNode bytes path before (recordAt w i) (under w n (i + 1) (r .level)) (underOf bytes path w n i (r .level))) t y q z → f ≡ isInline (r .kind) → b ≡ (if f then r .kind else before) → length z ≡ length y → Loop es (validateInlineNodesAfter bytes path b) w path n from level s x (q .next) (q .tally) z
 nodes-turn bytes before {path} {w} {n} {from} {level} {i = i} v {r = r} {f} {b} {q} h e d k g l o =

@@ -2,7 +2,7 @@
 use mathlib.Core.Path.{_≡_, refl, sym, _∙_}
 use mathlib.Core.Bool.{Bool, true, false}
 use mathlib.Core.List.{List, []}
-use Prim.Native.Nat.{ℕ, _+_, _-_, _<_, _≤_}
+use Prim.Native.Nat.{ℕ, _+_, _-_, _*_, _<_, _≤_}
 use native.Mathlib.Nat.{sub-add-eq}
 use native.Mathlib.Omega.{arith}
 use borrow.Author.Tests.{ltb-true, ltb-false}
@@ -16,7 +16,7 @@ use Rattle.leaves.specs.declared.sheet.records.Rec.{Rec}
 use Rattle.leaves.specs.declared.report.entries.Tally.{Tally}
 use Rattle.leaves.proofs.sheet.ForestLaws.{past-in, past-out, deeper-in, deeper-out, past-at, under-in, under-out, under-end}
 use Rattle.leaves.proofs.report.EntryLaws.{join-assoc, none-join, lists-none, lists-then}
-use Rattle.inlines.specs.Walk.{Start, Done}
+use Rattle.inlines.specs.Walk.{Start, Left, Done}
 use Rattle.inlines.specs.declared.walk.Walked.{Walked}
 use Rattle.leaves.proofs.sheet.SkipLaws.{Skipping, skip-end, skip-out, skip-start}
 
@@ -73,6 +73,16 @@ module _ {w path : List ℕ} {n from level : ℕ} where
 
     pub loop-end : h none ≡ [] → n ≤ i → Done w n from level es s x (record { next = i; tally = t }) y
     loop-end z b = record { next = skip-end w n from level (v .at) b; lists = v .lists t y (rw (under-end w n i level b, z) lists-none) }
+
+-- ---- the levels left. A call for a record of the level m hands on one less: there is one to take, the rest is enough under that record, and the number of the cycle falls (twice the levels left for a loop, one more for a record).
+pub record Falls (left m : ℕ) : Type 0 where
+  pub some : 1 ≤ left
+  pub rest : Left (left - 1) m
+  pub less : 2 * (left - 1) + 1 < 2 * left
+
+-- a loop over the trees deeper than `level` stands at such a record, i, and no record is deeper than 64
+pub levels-fall : {w path : List ℕ} {n from left level : ℕ} → Start w path n from → Left left level → {i m : ℕ} → i < n → m ≡ recordAt w i .level → level < m → Falls left m
+levels-fall start enough {i} b e d = let most = start .shallow i b in record { some = omega arith; rest = record { enough = omega arith }; less = omega arith }
 
 -- ---- what acceptance gives a walk
 pub start-of : {w bytes path : List ℕ} {n from : ℕ} → Sound w bytes → n ≡ recordsOf w → from ≤ n → length path ≤ 64 → Start w path n from

@@ -17,6 +17,14 @@ pub record Start (w path : List ℕ) (n from : ℕ) : Type 0 where
   pub inside : from ≤ n
   pub short : length path ≤ 64
 
+-- how many levels a sheet has at most: no record is deeper. Document 01, refusal 5: "over 64"
+abbrev pub levels : ℕ
+levels = 64
+
+-- the levels left under a record of the level `level`: no record is deeper than 64, so at least as many are left as lie between. Document 01: "remaining levels, at most 64, are the falling number"
+pub record Left (left level : ℕ) : Type 0 where
+  pub enough : levels ≤ left + level
+
 -- the entries are listed, and the walk stands behind the trees deeper than `level`
 pub record Done (w : List ℕ) (n from level : ℕ) (es : List Entry) (s : Tally) (x : List ℕ) (r : Walked) (y : List ℕ) : Type 0 where
   pub next : r .next ≡ from + size (under w n from level)

@@ -3,7 +3,7 @@ ghost use Prim.Native.Nat.{_+_};
 ghost use Rattle.leaves.specs.Sheet.Records.{recordAt};
 ghost use Rattle.leaves.specs.Sheet.Forest.{under};
 ghost use Rattle.inlines.specs.Nodes.{validateInlineNodesAfter, validateInlines, validateNode};
-ghost use Rattle.inlines.specs.Walk.{Start, Done};
+ghost use Rattle.inlines.specs.Walk.{Start, Left, Done};
 ghost use Rattle.inlines.specs.NodesHere.{Here};
 use crate::content::final_break;
 use crate::node::validate_inline;
@@ -15,6 +15,8 @@ use leaves::sheet::kinds;
 use leaves::sheet::records::record_at;
 use leaves::text::bytes::pick;
 
+// `validate_node` and `validate_inline_nodes` call each other. `left`, the levels left under what holds the inlines, is one less at each call for a deeper record: it is the number that falls, so that the calls end.
+
 // Record `i`, of level `level`, behind an inline of the kind `before`: both side by side, then itself, then its children. A record that is no inline is passed over.
 fn validate_node(
     sheet: &[u32],
@@ -24,10 +26,11 @@ fn validate_node(
     n: usize,
     i: usize,
     level: u32,
+    left: u32,
     before: u32,
     tally: Tally,
 ) -> Walked
-    requires { ⌜ Here (now sheet) (now path) n i level ⌝ }
+    requires { ⌜ Here (now sheet) (now path) n i level × Left left level ⌝ }
     ensures { λ q. ⌜ Done (now (sheet .entry)) n (i + 1) level (validateNode (now (bytes .entry)) (now (path .entry)) before (recordAt (now (sheet .entry)) i) (under (now (sheet .entry)) n (i + 1) level) (validateInlineNodesAfter (now (bytes .entry)) (now (path .entry)) 0 (under (now (sheet .entry)) n (i + 1) level))) tally (now (report .entry)) q (now (report .exit)) ⌝ }
 {
     let r = record_at(sheet, i);
@@ -39,10 +42,10 @@ fn validate_node(
     }
     let out = single::validate_siblings(report, path, r.span, before, r.kind, r.a, tally);
     let out = validate_inline(sheet, bytes, report, path, n, i + 1, r, out);
-    validate_inline_nodes(sheet, bytes, report, path, n, i + 1, level, 0, out)
+    validate_inline_nodes(sheet, bytes, report, path, n, i + 1, level, left, 0, out)
 }
 
-// The inlines from record `from` on that are deeper than `level`, behind one of the kind `before` (0 where there is none). Calls go as deep as levels do.
+// The inlines from record `from` on that are deeper than `level`, behind one of the kind `before` (0 where there is none).
 fn validate_inline_nodes(
     sheet: &[u32],
     bytes: &[u8],
@@ -51,10 +54,11 @@ fn validate_inline_nodes(
     n: usize,
     from: usize,
     level: u32,
+    left: u32,
     before: u32,
     tally: Tally,
 ) -> Walked
-    requires { ⌜ Start (now sheet) (now path) n from ⌝ }
+    requires { ⌜ Start (now sheet) (now path) n from × Left left level ⌝ }
     ensures { λ q. ⌜ Done (now (sheet .entry)) n from level (validateInlineNodesAfter (now (bytes .entry)) (now (path .entry)) before (under (now (sheet .entry)) n from level)) tally (now (report .entry)) q (now (report .exit)) ⌝ }
 {
     let mut last = before;
@@ -68,7 +72,18 @@ fn validate_inline_nodes(
                 tally: out,
             };
         }
-        let w = validate_node(sheet, bytes, report, path, n, i, r.level, last, out);
+        let w = validate_node(
+            sheet,
+            bytes,
+            report,
+            path,
+            n,
+            i,
+            r.level,
+            left - 1,
+            last,
+            out,
+        );
         last = pick(kinds::is_inline(r.kind), r.kind, last);
         out = w.tally;
         i = w.next;
@@ -88,11 +103,12 @@ pub fn validate_inlines(
     n: usize,
     from: usize,
     level: u32,
+    left: u32,
     tally: Tally,
 ) -> Walked
-    requires { ⌜ Start (now sheet) (now path) n from ⌝ }
+    requires { ⌜ Start (now sheet) (now path) n from × Left left level ⌝ }
     ensures { λ q. ⌜ Done (now (sheet .entry)) n from level (validateInlines (now (bytes .entry)) (now (path .entry)) (under (now (sheet .entry)) n from level)) tally (now (report .entry)) q (now (report .exit)) ⌝ }
 {
     let out = final_break(sheet, bytes, report, path, n, from, level, tally);
-    validate_inline_nodes(sheet, bytes, report, path, n, from, level, 0, out)
+    validate_inline_nodes(sheet, bytes, report, path, n, from, level, left, 0, out)
 }

@@ -32,7 +32,7 @@ fn listed(words: &[u32], text: &[u8], report: &mut [u32]) -> usize {
     match judge::accept(words, text) {
         Judged::Accepted => {
             let path = [0u32; 1];
-            let w = validate_inlines(words, text, report, &path, n, 1, 1, entries::none());
+            let w = validate_inlines(words, text, report, &path, n, 1, 1, 63, entries::none());
             w.tally.words
         }
         _ => 0,

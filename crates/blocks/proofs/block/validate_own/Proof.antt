@@ -7,19 +7,19 @@ use Rattle.blocks.proofs.block.validate_own.Statement.{statement}
 use Rattle.blocks.proofs.block.validate_own.Tie as tie
 
 validate-footnote-definition-requires : tie.Need-validate-footnote-definition-requires
-validate-footnote-definition-requires c κs = c .before .before .before .before .before .before .before .before .before .pre
+validate-footnote-definition-requires c κs = c .before .before .before .before .before .before .before .before .before .pre .0
 
 validate-table-requires : tie.Need-validate-table-requires
 validate-table-requires c κs = c .before .before .before .before .before .before .before .before .before .pre
 
 slice-reshare-prefix-validate-container : tie.Need-slice-reshare-prefix-validate-container
-slice-reshare-prefix-validate-container c = begin-front (c .before .before .before .before .before .before .before .before .pre)
+slice-reshare-prefix-validate-container c = begin-front (c .before .before .before .before .before .before .before .before .pre .0)
 
 slice-aggregate-validate-container : tie.Need-slice-aggregate-validate-container
-slice-aggregate-validate-container c = begin-long (c .before .before .before .before .before .before .before .before .before .pre)
+slice-aggregate-validate-container c = begin-long (c .before .before .before .before .before .before .before .before .before .pre .0)
 
 validate-container-requires : tie.Need-validate-container-requires
-validate-container-requires c κs = c .before .before .before .before .before .before .before .before .before .pre .start
+validate-container-requires c κs = let p = c .before .before .before .before .before .before .before .before .before .pre in (p .0 .start, p .1)
 
 returns : tie.Need-returns
 unfolding validateOwn

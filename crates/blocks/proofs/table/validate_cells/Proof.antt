@@ -2,7 +2,7 @@
 use Prim.Native.Nat.{_-_}
 use lib.ListN.{take}
 use Rattle.leaves.specs.Sheet.Forest.{under}
-use Rattle.inlines.proofs.WalkLaws.{done-down}
+use Rattle.inlines.proofs.WalkLaws.{done-down, levels-fall}
 use Rattle.inlines.proofs.PathLaws.{Paced, paced-start, paced-room, paced-front, paced-long, paced-under, paced-out, paced-end}
 use Rattle.blocks.specs.Table.{validateCells}
 use Rattle.blocks.proofs.TableLaws.{cells-none, cells-turn}
@@ -11,10 +11,10 @@ use Rattle.blocks.proofs.table.validate_cells.Statement.{statement}
 use Rattle.blocks.proofs.table.validate_cells.Tie as tie
 
 abbrev Inv-loop : tie.InvT-loop
-Inv-loop sheet bytes report₀ path₀ len n from level out₀ k₀ i₀ report path out k i = Paced (validateCells bytes (take len path₀) 0 (under sheet n «from» level)) (validateCells bytes (take len path₀) k) sheet path₀ n «from» len level out₀ report₀ i k out report path
+Inv-loop sheet bytes report₀ path₀ len n from level left out₀ k₀ i₀ report path out k i = Paced (validateCells bytes (take len path₀) 0 (under sheet n «from» level)) (validateCells bytes (take len path₀) k) sheet path₀ n «from» len level out₀ report₀ i k out report path
 
 abbrev μ-loop : tie.MeasureT-loop
-μ-loop sheet bytes report₀ path₀ len n from level out₀ k₀ i₀ report path out k i = n - i
+μ-loop sheet bytes report₀ path₀ len n from level left out₀ k₀ i₀ report path out k i = n - i
 
 loop-holds : tie.Need-loop-holds Inv-loop μ-loop
 loop-holds c = paced-start _ _ _ (search needs)
@@ -37,8 +37,11 @@ slice-reshare-prefix-validate-cell c = paced-front (c .before .before .before .b
 slice-aggregate-validate-cell : tie.Need-slice-aggregate-validate-cell Inv-loop μ-loop
 slice-aggregate-validate-cell c = paced-long (c .before .before .before .before .before .loop .inv) (paced-room (c .before .before .before .before .before .loop .inv) (search needs) (c .before .before .before .level-at .ensures) (c .before .before .if1 .left))
 
+sub-validate-cell : tie.Need-sub-validate-cell Inv-loop μ-loop
+sub-validate-cell c = levels-fall (c .before .before .before .before .before .loop .inv .begin .start) (c .before .before .before .before .before .before .before .before .before .before .pre .1) (search needs) (c .before .before .before .level-at .ensures) (c .before .before .if1 .left) .some
+
 validate-cell-requires : tie.Need-validate-cell-requires Inv-loop μ-loop
-validate-cell-requires c κs = paced-under (c .before .before .before .before .before .loop .inv) (search needs) (c .before .before .before .level-at .ensures) (c .before .before .if1 .left)
+validate-cell-requires c κs = (paced-under (c .before .before .before .before .before .loop .inv) (search needs) (c .before .before .before .level-at .ensures) (c .before .before .if1 .left), levels-fall (c .before .before .before .before .before .loop .inv .begin .start) (c .before .before .before .before .before .before .before .before .before .before .pre .1) (search needs) (c .before .before .before .level-at .ensures) (c .before .before .if1 .left) .rest)
 
 add-k : tie.Need-add-k Inv-loop μ-loop
 add-k c = let f = c .before .before .before .before .before .before .before .before .loop .inv .few in let m = c .before .before .before .before .before .before .before .before .loop .inv .begin .start .few in search needs
@@ -69,6 +72,7 @@ validate-cells-spec =
     slice-reshare-prefix-validate-cell
     slice-aggregate-validate-cell
     (λ c. search needs)
+    sub-validate-cell
     validate-cell-requires
     add-k
     loop-less

@@ -2,7 +2,7 @@
 use Prim.Native.Nat.{_-_}
 use lib.ListN.{take}
 use Rattle.leaves.specs.Sheet.Forest.{under}
-use Rattle.inlines.proofs.WalkLaws.{done-down}
+use Rattle.inlines.proofs.WalkLaws.{done-down, levels-fall}
 use Rattle.leaves.proofs.sheet.SkipLaws.{level-of}
 use Rattle.inlines.proofs.PathLaws.{Paced, paced-start, paced-room, paced-front, paced-long, paced-under, paced-call, paced-out, paced-end}
 use Rattle.blocks.specs.Table.{validateRows}
@@ -12,10 +12,10 @@ use Rattle.blocks.proofs.table.validate_rows.Statement.{statement}
 use Rattle.blocks.proofs.table.validate_rows.Tie as tie
 
 abbrev Inv-loop : tie.InvT-loop
-Inv-loop sheet bytes report₀ path₀ len n from level width out₀ k₀ i₀ report path out k i = Paced (validateRows bytes (take len path₀) width 0 (under sheet n «from» level)) (validateRows bytes (take len path₀) width k) sheet path₀ n «from» len level out₀ report₀ i k out report path
+Inv-loop sheet bytes report₀ path₀ len n from level left width out₀ k₀ i₀ report path out k i = Paced (validateRows bytes (take len path₀) width 0 (under sheet n «from» level)) (validateRows bytes (take len path₀) width k) sheet path₀ n «from» len level out₀ report₀ i k out report path
 
 abbrev μ-loop : tie.MeasureT-loop
-μ-loop sheet bytes report₀ path₀ len n from level width out₀ k₀ i₀ report path out k i = n - i
+μ-loop sheet bytes report₀ path₀ len n from level left width out₀ k₀ i₀ report path out k i = n - i
 
 loop-holds : tie.Need-loop-holds Inv-loop μ-loop
 loop-holds c = paced-start _ _ _ (search needs)
@@ -44,8 +44,11 @@ list-if-requires c κs = paced-under (c .before .before .before .before .before 
 add-validate-cells : tie.Need-add-validate-cells Inv-loop μ-loop
 add-validate-cells c = let r = paced-room (c .before .before .before .before .before .before .before .before .before .before .before .before .loop .inv) (search needs) (level-of _ _ (c .before .before .before .before .before .before .before .before .before .before .record-at .ensures)) (c .before .before .before .before .before .before .before .before .if1 .left) in search needs
 
+sub-validate-cells : tie.Need-sub-validate-cells Inv-loop μ-loop
+sub-validate-cells c = levels-fall (c .before .before .before .before .before .before .before .before .before .before .before .before .loop .inv .begin .start) (c .before .before .before .before .before .before .before .before .before .before .before .before .before .before .before .before .before .pre .1) (search needs) (level-of _ _ (c .before .before .before .before .before .before .before .before .before .before .record-at .ensures)) (c .before .before .before .before .before .before .before .before .if1 .left) .some
+
 validate-cells-requires : tie.Need-validate-cells-requires Inv-loop μ-loop
-validate-cells-requires c κs = paced-call (c .before .before .before .before .before .before .before .before .before .before .before .before .loop .inv) (search needs) (level-of _ _ (c .before .before .before .before .before .before .before .before .before .before .record-at .ensures)) (c .before .before .before .before .before .before .before .before .if1 .left)
+validate-cells-requires c κs = (paced-call (c .before .before .before .before .before .before .before .before .before .before .before .before .loop .inv) (search needs) (level-of _ _ (c .before .before .before .before .before .before .before .before .before .before .record-at .ensures)) (c .before .before .before .before .before .before .before .before .if1 .left), levels-fall (c .before .before .before .before .before .before .before .before .before .before .before .before .loop .inv .begin .start) (c .before .before .before .before .before .before .before .before .before .before .before .before .before .before .before .before .before .pre .1) (search needs) (level-of _ _ (c .before .before .before .before .before .before .before .before .before .before .record-at .ensures)) (c .before .before .before .before .before .before .before .before .if1 .left) .rest)
 
 add-k : tie.Need-add-k Inv-loop μ-loop
 add-k c = let f = c .before .before .before .before .before .before .before .before .before .before .before .before .before .before .before .before .before .loop .inv .few in let m = c .before .before .before .before .before .before .before .before .before .before .before .before .before .before .before .before .before .loop .inv .begin .start .few in search needs
@@ -80,6 +83,7 @@ validate-rows-spec =
     list-if-requires
     add-validate-cells
     (λ c. search needs)
+    sub-validate-cells
     validate-cells-requires
     add-k
     loop-less

@@ -7,13 +7,13 @@ use Rattle.blocks.proofs.table.validate_table.Statement.{statement}
 use Rattle.blocks.proofs.table.validate_table.Tie as tie
 
 slice-reshare-prefix-list-if : tie.Need-slice-reshare-prefix-list-if
-slice-reshare-prefix-list-if c = begin-front (c .before .before .before .before .before .before .before .pre)
+slice-reshare-prefix-list-if c = begin-front (c .before .before .before .before .before .before .before .pre .0)
 
 slice-aggregate-list-if : tie.Need-slice-aggregate-list-if
-slice-aggregate-list-if c = begin-long (c .before .before .before .before .before .before .before .before .pre)
+slice-aggregate-list-if c = begin-long (c .before .before .before .before .before .before .before .before .pre .0)
 
 list-if-requires : tie.Need-list-if-requires
-list-if-requires c κs = begin-short (c .before .before .before .before .before .before .before .before .pre)
+list-if-requires c κs = begin-short (c .before .before .before .before .before .before .before .before .pre .0)
 
 returns : tie.Need-returns
 returns c = (table-empty _ _ _ _ _ _ _ _ (c .before .before .before .before .before .before .ends .ensures) (c .before .before .before .before .before .if1 .taken) (c .before .before .list-if .ensures), search needs)
@@ -28,22 +28,22 @@ count-requires : tie.Need-count-requires
 count-requires c κs = let s = ends-some _ _ _ _ (c .before .before .ends .ensures) (c .before .if1 .left) in search needs
 
 slice-reshare-prefix-list-if-2 : tie.Need-slice-reshare-prefix-list-if-2
-slice-reshare-prefix-list-if-2 c = begin-front (c .before .before .before .before .before .before .before .before .before .pre)
+slice-reshare-prefix-list-if-2 c = begin-front (c .before .before .before .before .before .before .before .before .before .pre .0)
 
 slice-aggregate-list-if-2 : tie.Need-slice-aggregate-list-if-2
-slice-aggregate-list-if-2 c = begin-long (c .before .before .before .before .before .before .before .before .before .before .pre)
+slice-aggregate-list-if-2 c = begin-long (c .before .before .before .before .before .before .before .before .before .before .pre .0)
 
 list-if-requires-2 : tie.Need-list-if-requires-2
-list-if-requires-2 c κs = begin-short (c .before .before .before .before .before .before .before .before .before .before .pre)
+list-if-requires-2 c κs = begin-short (c .before .before .before .before .before .before .before .before .before .before .pre .0)
 
 slice-reshare-prefix-list-if-3 : tie.Need-slice-reshare-prefix-list-if-3
-slice-reshare-prefix-list-if-3 c = begin-front (c .before .before .before .before .before .before .before .before .before .before .before .before .before .before .pre)
+slice-reshare-prefix-list-if-3 c = begin-front (c .before .before .before .before .before .before .before .before .before .before .before .before .before .before .pre .0)
 
 slice-aggregate-list-if-3 : tie.Need-slice-aggregate-list-if-3
-slice-aggregate-list-if-3 c = begin-long (c .before .before .before .before .before .before .before .before .before .before .before .before .before .before .before .pre)
+slice-aggregate-list-if-3 c = begin-long (c .before .before .before .before .before .before .before .before .before .before .before .before .before .before .before .pre .0)
 
 list-if-requires-3 : tie.Need-list-if-requires-3
-list-if-requires-3 c κs = begin-short (c .before .before .before .before .before .before .before .before .before .before .before .before .before .before .before .pre)
+list-if-requires-3 c κs = begin-short (c .before .before .before .before .before .before .before .before .before .before .before .before .before .before .before .pre .0)
 
 validate-rows-requires : tie.Need-validate-rows-requires
 validate-rows-requires c κs = (c .before .before .before .before .before .before .before .before .before .before .before .before .before .before .before .before .before .before .before .before .pre)

@@ -7,11 +7,11 @@ use borrow.Author.Needs.{needs}
 use borrow.Fn.Kind.{PK}
 use lib.ListN.{take}
 use Rattle.leaves.specs.Sheet.Forest.{under}
-use Rattle.inlines.proofs.WalkLaws.{done-down}
+use Rattle.inlines.proofs.WalkLaws.{done-down, levels-fall}
 use Rattle.leaves.proofs.sheet.SkipLaws.{level-of}
 use Rattle.inlines.proofs.PathLaws.{Paced, begin-front, begin-long, begin-short, paced-start, paced-room, paced-place, paced-few, paced-out, paced-end}
 use Rattle.blocks.specs.Walk.{validateBlocks, validateItems}
-use Rattle.blocks.proofs.BlockWalkLaws.{begin-kept, block-blocks, block-items, block-leaf, block-other, blocks-none, blocks-turn, item-done, items-none, items-turn, own-begin, tree-at, tree-falls}
+use Rattle.blocks.proofs.BlockWalkLaws.{begin-kept, block-blocks, block-items, block-leaf, block-other, blocks-none, blocks-turn, item-done, items-none, items-turn, own-begin, tree-at}
 use borrow.Fn.Kinds.{In}
 use borrow.Fn.PlainCycle.{Measures, is, falls, and}
 use Rattle.blocks.proofs.walk.validate_block.Reads as validate-block
@@ -50,16 +50,16 @@ below ps μ pre t = and 4 ps (falls 4 ps _<_ μ t) pre
 
 -- the levels left fall from a loop to the records in it, and a record stands just above the loops over its children
 abbrev μ-validate-block : Measures 4 validate-block-kinds.ps ℕ
-μ-validate-block κs a = 2 * (64 - a .1 .1 .1 .1 .1 .1 .1 .0) + 1
+μ-validate-block κs a = 2 * a .1 .1 .1 .1 .1 .1 .1 .1 .0 + 1
 
 abbrev μ-validate-blocks : Measures 4 validate-blocks-kinds.ps ℕ
-μ-validate-blocks κs a = 2 * (64 - a .1 .1 .1 .1 .1 .1 .1 .0)
+μ-validate-blocks κs a = 2 * a .1 .1 .1 .1 .1 .1 .1 .1 .0
 
 abbrev μ-validate-item : Measures 4 validate-item-kinds.ps ℕ
-μ-validate-item κs a = 2 * (64 - a .1 .1 .1 .1 .1 .1 .1 .0) + 1
+μ-validate-item κs a = 2 * a .1 .1 .1 .1 .1 .1 .1 .1 .0 + 1
 
 abbrev μ-validate-items : Measures 4 validate-items-kinds.ps ℕ
-μ-validate-items κs a = 2 * (64 - a .1 .1 .1 .1 .1 .1 .1 .0)
+μ-validate-items κs a = 2 * a .1 .1 .1 .1 .1 .1 .1 .1 .0
 
 abbrev validate-block-calls : ℕ → validate-block-lts.Claims
 validate-block-calls t = (record-at-reads.Asked, record-at-reads.Learnt, is-block-reads.Asked, is-block-reads.Learnt, skip-reads.Asked, skip-reads.Learnt, validate-taken-block-reads.Asked, validate-taken-block-reads.Learnt, validate-own-reads.Asked, validate-own-reads.Learnt, below validate-items-kinds.ps μ-validate-items validate-items.Pre t, validate-items.Post, holds-blocks-reads.Asked, holds-blocks-reads.Learnt, below validate-blocks-kinds.ps μ-validate-blocks validate-blocks.Pre t, validate-blocks.Post)
@@ -67,38 +67,38 @@ validate-block-calls t = (record-at-reads.Asked, record-at-reads.Learnt, is-bloc
 validate-block-met : (M : Type 1) (t : ℕ) → validate-block-lts.Closed (validate-block-calls t) (at validate-block-kinds.ps μ-validate-block validate-block.Pre t) validate-block.Post M
 validate-block-met M t =
     validate-block-lts.spec (validate-block-calls t) (at validate-block-kinds.ps μ-validate-block validate-block.Pre t) validate-block.Post
-    (λ c κs. let p = c .before .before .before .before .pre .1 .begin .start in search needs)
+    (λ c κs. let p = c .before .before .before .before .pre .1 .0 .begin .start in search needs)
     (λ c κs. search needs)
-    (λ c. let p = c .before .before .before .before .before .before .before .pre .1 .begin .start in search needs)
-    (λ c κs. let p = c .before .before .before .before .before .before .before .pre .1 .begin .start in search needs)
+    (λ c. let p = c .before .before .before .before .before .before .before .pre .1 .0 .begin .start in search needs)
+    (λ c κs. let p = c .before .before .before .before .before .before .before .pre .1 .0 .begin .start in search needs)
     (λ c. (block-other _ _ _ _ _ _ _ (c .before .before .before .record-at .ensures) (c .before .before .is-block .ensures) (c .before .if1 .taken) (c .skip .ensures), search needs))
-    (λ c. begin-front (c .before .before .before .before .before .before .before .before .pre .1 .begin))
-    (λ c. begin-long (c .before .before .before .before .before .before .before .before .before .pre .1 .begin))
-    (λ c κs. begin-short (c .before .before .before .before .before .before .before .before .before .pre .1 .begin))
-    (λ c. let p = c .before .before .before .before .before .before .before .before .before .before .before .before .before .before .pre .1 .begin .start in search needs)
-    (λ c κs. own-begin (c .before .before .before .before .before .before .before .before .before .before .before .before .before .before .pre .1) (c .before .before .before .before .before .before .before .before .before .record-at .ensures))
-    (λ c. let p = c .before .before .before .before .before .before .before .before .before .before .before .before .before .before .before .before .before .before .before .before .before .before .before .pre .1 .begin .start in search needs)
-    (λ c κs. let m = c .before .before .before .before .before .before .before .before .before .before .before .before .before .before .before .before .before .before .before .before .before .before .before .pre .0 in (omega arith, begin-kept (c .before .before .before .before .before .before .before .before .before .before .before .before .before .before .before .before .before .before .before .before .before .before .before .pre .1 .begin) (search needs) (c .before .before .before .before .before .before .before .before .validate-own .ensures .1)))
+    (λ c. begin-front (c .before .before .before .before .before .before .before .before .pre .1 .0 .begin))
+    (λ c. begin-long (c .before .before .before .before .before .before .before .before .before .pre .1 .0 .begin))
+    (λ c κs. begin-short (c .before .before .before .before .before .before .before .before .before .pre .1 .0 .begin))
+    (λ c. let p = c .before .before .before .before .before .before .before .before .before .before .before .before .before .before .pre .1 .0 .begin .start in search needs)
+    (λ c κs. own-begin (c .before .before .before .before .before .before .before .before .before .before .before .before .before .before .pre .1 .0) (c .before .before .before .before .before .before .before .before .before .before .before .before .before .before .pre .1 .1) (c .before .before .before .before .before .before .before .before .before .record-at .ensures))
+    (λ c. let p = c .before .before .before .before .before .before .before .before .before .before .before .before .before .before .before .before .before .before .before .before .before .before .before .pre .1 .0 .begin .start in search needs)
+    (λ c κs. let p = c .before .before .before .before .before .before .before .before .before .before .before .before .before .before .before .before .before .before .before .before .before .before .before .pre in (omega arith, (begin-kept (p .1 .0 .begin) (search needs) (c .before .before .before .before .before .before .before .before .validate-own .ensures .1), p .1 .1)))
     (λ c. search needs)
     (λ c. search needs)
-    (λ c. (block-items _ _ _ _ _ _ _ (c .before .before .before .before .before .before .before .before .before .before .before .before .before .before .before .before .before .before .before .before .before .before .before .record-at .ensures) (c .before .before .before .before .before .before .before .before .before .before .before .before .before .before .before .before .before .before .before .before .before .before .is-block .ensures) (c .before .before .before .before .before .before .before .before .before .before .before .before .before .before .before .before .before .before .before .before .before .if1 .left) (c .before .before .before .before .before .before .before .before .before .before .before .before .before .before .before .before .before .before .before .before .before .before .before .before .before .before .before .before .pre .1 .is) (c .before .before .before .before .before .before .before .before .before .before .before .before .before .before .before .before .before .before .validate-taken-block .ensures) (c .before .before .before .before .before .before .before .before .before .before .before .before .before .validate-own .ensures .0) (c .before .before .before .before .before .before .before .before .before .before .before .before .before .validate-own .ensures .1) (c .before .before .before .before .before .before .before .if2 .taken) (c .before .before .before .before .validate-items .ensures .0), c .before .before .before .before .validate-items .ensures .1 ∙ c .before .before .before .before .before .before .before .before .before .before .before .before .before .validate-own .ensures .1))
+    (λ c. (block-items _ _ _ _ _ _ _ (c .before .before .before .before .before .before .before .before .before .before .before .before .before .before .before .before .before .before .before .before .before .before .before .record-at .ensures) (c .before .before .before .before .before .before .before .before .before .before .before .before .before .before .before .before .before .before .before .before .before .before .is-block .ensures) (c .before .before .before .before .before .before .before .before .before .before .before .before .before .before .before .before .before .before .before .before .before .if1 .left) (c .before .before .before .before .before .before .before .before .before .before .before .before .before .before .before .before .before .before .before .before .before .before .before .before .before .before .before .before .pre .1 .0 .is) (c .before .before .before .before .before .before .before .before .before .before .before .before .before .before .before .before .before .before .validate-taken-block .ensures) (c .before .before .before .before .before .before .before .before .before .before .before .before .before .validate-own .ensures .0) (c .before .before .before .before .before .before .before .before .before .before .before .before .before .validate-own .ensures .1) (c .before .before .before .before .before .before .before .if2 .taken) (c .before .before .before .before .validate-items .ensures .0), c .before .before .before .before .validate-items .ensures .1 ∙ c .before .before .before .before .before .before .before .before .before .before .before .before .before .validate-own .ensures .1))
     (λ c κs. search needs)
-    (λ c. let p = c .before .before .before .before .before .before .before .before .before .before .before .before .before .before .before .before .before .before .before .before .before .before .before .before .before .pre .1 .begin .start in search needs)
-    (λ c κs. let m = c .before .before .before .before .before .before .before .before .before .before .before .before .before .before .before .before .before .before .before .before .before .before .before .before .before .pre .0 in (omega arith, begin-kept (c .before .before .before .before .before .before .before .before .before .before .before .before .before .before .before .before .before .before .before .before .before .before .before .before .before .pre .1 .begin) (search needs) (c .before .before .before .before .before .before .before .before .before .before .validate-own .ensures .1)))
+    (λ c. let p = c .before .before .before .before .before .before .before .before .before .before .before .before .before .before .before .before .before .before .before .before .before .before .before .before .before .pre .1 .0 .begin .start in search needs)
+    (λ c κs. let p = c .before .before .before .before .before .before .before .before .before .before .before .before .before .before .before .before .before .before .before .before .before .before .before .before .before .pre in (omega arith, (begin-kept (p .1 .0 .begin) (search needs) (c .before .before .before .before .before .before .before .before .before .before .validate-own .ensures .1), p .1 .1)))
     (λ c. search needs)
     (λ c. search needs)
-    (λ c. (block-blocks _ _ _ _ _ _ _ (c .before .before .before .before .before .before .before .before .before .before .before .before .before .before .before .before .before .before .before .before .before .before .before .before .before .record-at .ensures) (c .before .before .before .before .before .before .before .before .before .before .before .before .before .before .before .before .before .before .before .before .before .before .before .before .is-block .ensures) (c .before .before .before .before .before .before .before .before .before .before .before .before .before .before .before .before .before .before .before .before .before .before .before .if1 .left) (c .before .before .before .before .before .before .before .before .before .before .before .before .before .before .before .before .before .before .before .before .before .before .before .before .before .before .before .before .before .before .pre .1 .is) (c .before .before .before .before .before .before .before .before .before .before .before .before .before .before .before .before .before .before .before .before .validate-taken-block .ensures) (c .before .before .before .before .before .before .before .before .before .before .before .before .before .before .before .validate-own .ensures .0) (c .before .before .before .before .before .before .before .before .before .before .before .before .before .before .before .validate-own .ensures .1) (c .before .before .before .before .before .before .before .before .before .if2 .left) (c .before .before .before .before .before .before .before .before .holds-blocks .ensures) (c .before .before .before .before .before .before .before .if3 .taken) (c .before .before .before .before .validate-blocks .ensures .0), c .before .before .before .before .validate-blocks .ensures .1 ∙ c .before .before .before .before .before .before .before .before .before .before .before .before .before .before .before .validate-own .ensures .1))
-    (λ c. let p = c .before .before .before .before .before .before .before .before .before .before .before .before .before .before .before .before .before .before .before .before .before .before .before .pre .1 .begin .start in search needs)
-    (λ c κs. let p = c .before .before .before .before .before .before .before .before .before .before .before .before .before .before .before .before .before .before .before .before .before .before .before .pre .1 .begin .start in search needs)
+    (λ c. (block-blocks _ _ _ _ _ _ _ (c .before .before .before .before .before .before .before .before .before .before .before .before .before .before .before .before .before .before .before .before .before .before .before .before .before .record-at .ensures) (c .before .before .before .before .before .before .before .before .before .before .before .before .before .before .before .before .before .before .before .before .before .before .before .before .is-block .ensures) (c .before .before .before .before .before .before .before .before .before .before .before .before .before .before .before .before .before .before .before .before .before .before .before .if1 .left) (c .before .before .before .before .before .before .before .before .before .before .before .before .before .before .before .before .before .before .before .before .before .before .before .before .before .before .before .before .before .before .pre .1 .0 .is) (c .before .before .before .before .before .before .before .before .before .before .before .before .before .before .before .before .before .before .before .before .validate-taken-block .ensures) (c .before .before .before .before .before .before .before .before .before .before .before .before .before .before .before .validate-own .ensures .0) (c .before .before .before .before .before .before .before .before .before .before .before .before .before .before .before .validate-own .ensures .1) (c .before .before .before .before .before .before .before .before .before .if2 .left) (c .before .before .before .before .before .before .before .before .holds-blocks .ensures) (c .before .before .before .before .before .before .before .if3 .taken) (c .before .before .before .before .validate-blocks .ensures .0), c .before .before .before .before .validate-blocks .ensures .1 ∙ c .before .before .before .before .before .before .before .before .before .before .before .before .before .before .before .validate-own .ensures .1))
+    (λ c. let p = c .before .before .before .before .before .before .before .before .before .before .before .before .before .before .before .before .before .before .before .before .before .before .before .pre .1 .0 .begin .start in search needs)
+    (λ c κs. let p = c .before .before .before .before .before .before .before .before .before .before .before .before .before .before .before .before .before .before .before .before .before .before .before .pre .1 .0 .begin .start in search needs)
     (λ c. search needs)
     (λ c. search needs)
-    (λ c. (block-leaf _ _ _ _ _ _ _ (c .before .before .before .before .before .before .before .before .before .before .before .before .before .before .before .before .before .before .before .record-at .ensures) (c .before .before .before .before .before .before .before .before .before .before .before .before .before .before .before .before .before .before .is-block .ensures) (c .before .before .before .before .before .before .before .before .before .before .before .before .before .before .before .before .before .if1 .left) (c .before .before .before .before .before .before .before .before .before .before .before .before .before .before .before .before .before .before .before .before .before .before .before .before .pre .1 .is) (c .before .before .before .before .before .before .before .before .before .before .before .before .before .before .validate-taken-block .ensures) (c .before .before .before .before .before .before .before .before .before .validate-own .ensures .0) (c .before .before .before .before .before .before .before .before .before .validate-own .ensures .1) (c .before .before .before .if2 .left) (c .before .before .holds-blocks .ensures) (c .before .if3 .left) (c .skip2 .ensures), c .before .before .before .before .before .before .before .before .before .validate-own .ensures .1))
+    (λ c. (block-leaf _ _ _ _ _ _ _ (c .before .before .before .before .before .before .before .before .before .before .before .before .before .before .before .before .before .before .before .record-at .ensures) (c .before .before .before .before .before .before .before .before .before .before .before .before .before .before .before .before .before .before .is-block .ensures) (c .before .before .before .before .before .before .before .before .before .before .before .before .before .before .before .before .before .if1 .left) (c .before .before .before .before .before .before .before .before .before .before .before .before .before .before .before .before .before .before .before .before .before .before .before .before .pre .1 .0 .is) (c .before .before .before .before .before .before .before .before .before .before .before .before .before .before .validate-taken-block .ensures) (c .before .before .before .before .before .before .before .before .before .validate-own .ensures .0) (c .before .before .before .before .before .before .before .before .before .validate-own .ensures .1) (c .before .before .before .if2 .left) (c .before .before .holds-blocks .ensures) (c .before .if3 .left) (c .skip2 .ensures), c .before .before .before .before .before .before .before .before .before .validate-own .ensures .1))
 
 abbrev validate-blocks-inv : validate-blocks-lts.InvT-loop
-validate-blocks-inv sheet bytes report₀ path₀ len n from level before₀ k₀ out₀ i₀ report path before k out i = Paced (validateBlocks bytes (take len path₀) 0 before₀ (under sheet n «from» level)) (validateBlocks bytes (take len path₀) k before) sheet path₀ n «from» len level out₀ report₀ i k out report path
+validate-blocks-inv sheet bytes report₀ path₀ len n from level left before₀ k₀ out₀ i₀ report path before k out i = Paced (validateBlocks bytes (take len path₀) 0 before₀ (under sheet n «from» level)) (validateBlocks bytes (take len path₀) k before) sheet path₀ n «from» len level out₀ report₀ i k out report path
 
 abbrev validate-blocks-left : validate-blocks-lts.MeasureT-loop
-validate-blocks-left sheet bytes report₀ path₀ len n from level before₀ k₀ out₀ i₀ report path before k out i = n - i
+validate-blocks-left sheet bytes report₀ path₀ len n from level left before₀ k₀ out₀ i₀ report path before k out i = n - i
 
 abbrev validate-blocks-calls : ℕ → validate-blocks-lts.Claims
 validate-blocks-calls t = (record-at-reads.Asked, record-at-reads.Learnt, below validate-block-kinds.ps μ-validate-block validate-block.Pre t, validate-block.Post, before-at-reads.Asked, before-at-reads.Learnt, index-at-reads.Asked, index-at-reads.Learnt)
@@ -106,7 +106,7 @@ validate-blocks-calls t = (record-at-reads.Asked, record-at-reads.Learnt, below 
 validate-blocks-met : (M : Type 1) (t : ℕ) → validate-blocks-lts.Closed (validate-blocks-calls t) (at validate-blocks-kinds.ps μ-validate-blocks validate-blocks.Pre t) validate-blocks.Post M
 validate-blocks-met M t =
     validate-blocks-lts.spec (validate-blocks-calls t) (at validate-blocks-kinds.ps μ-validate-blocks validate-blocks.Pre t) validate-blocks.Post validate-blocks-inv validate-blocks-left
-    (λ c. paced-start _ _ _ (c .before .before .before .before .pre .1))
+    (λ c. paced-start _ _ _ (c .before .before .before .before .pre .1 .0))
     (λ c κs. search needs)
     (λ c. search needs)
     (λ c. search needs)
@@ -114,7 +114,8 @@ validate-blocks-met M t =
     (λ c. let r = paced-room (c .before .before .before .before .loop .inv) (search needs) (level-of _ _ (c .before .before .record-at .ensures)) (c .if1 .left) in search needs)
     (λ c. paced-place (c .before .before .before .before .loop .inv) (paced-room (c .before .before .before .before .loop .inv) (search needs) (level-of _ _ (c .before .before .record-at .ensures)) (c .if1 .left)))
     (λ c. let r = paced-room (c .before .before .before .before .before .before .loop .inv) (search needs) (level-of _ _ (c .before .before .before .before .record-at .ensures)) (c .before .before .if1 .left) in search needs)
-    (λ c κs. let f = tree-falls (c .before .before .before .before .before .before .loop .inv) (search needs) (c .before .before .before .before .record-at .ensures) (c .before .before .if1 .left) in let m = c .before .before .before .before .before .before .before .before .before .before .before .pre .0 in (omega arith, tree-at (c .before .before .before .before .before .before .loop .inv) (search needs) (c .before .before .before .before .record-at .ensures) (c .before .before .if1 .left)))
+    (λ c. levels-fall (c .before .before .before .before .before .before .loop .inv .begin .start) (c .before .before .before .before .before .before .before .before .before .before .before .pre .1 .1) (search needs) (level-of _ _ (c .before .before .before .before .record-at .ensures)) (c .before .before .if1 .left) .some)
+    (λ c κs. let f = levels-fall (c .before .before .before .before .before .before .loop .inv .begin .start) (c .before .before .before .before .before .before .before .before .before .before .before .pre .1 .1) (search needs) (level-of _ _ (c .before .before .before .before .record-at .ensures)) (c .before .before .if1 .left) in let m = c .before .before .before .before .before .before .before .before .before .before .before .pre .0 in (omega arith, (tree-at (c .before .before .before .before .before .before .loop .inv) (search needs) (c .before .before .before .before .record-at .ensures) (c .before .before .if1 .left), f .rest)))
     (λ c κs. search needs)
     (λ c κs. let f = paced-few (c .before .before .before .before .before .before .before .before .before .before .before .before .loop .inv) (search needs) in search needs)
     (λ c. done-down (search needs) (c .before .before .before .before .before .before .before .validate-block .ensures .0))
@@ -141,16 +142,16 @@ validate-item-met M t =
     (λ c. let p = c .before .before .before .before .before .before .before .before .before .before .before .before .before .before .before .before .before .before .before .before .pre .1 .0 .begin .start in search needs)
     (λ c κs. begin-kept (c .before .before .before .before .before .before .before .before .before .before .before .before .before .before .before .before .before .before .before .before .pre .1 .0 .begin) (search needs) (c .before .before .before .before .before .before .validate-item-blank-lines .ensures .1) .start)
     (λ c. let p = c .before .before .before .before .before .before .before .before .before .before .before .before .before .before .before .before .before .before .before .before .before .before .before .before .before .pre .1 .0 .begin .start in search needs)
-    (λ c κs. let m = c .before .before .before .before .before .before .before .before .before .before .before .before .before .before .before .before .before .before .before .before .before .before .before .before .before .pre .0 in (omega arith, begin-kept (c .before .before .before .before .before .before .before .before .before .before .before .before .before .before .before .before .before .before .before .before .before .before .before .before .before .pre .1 .0 .begin) (search needs) (c .before .before .before .before .before .before .before .before .before .before .before .validate-item-blank-lines .ensures .1)))
+    (λ c κs. let p = c .before .before .before .before .before .before .before .before .before .before .before .before .before .before .before .before .before .before .before .before .before .before .before .before .before .pre in (omega arith, (begin-kept (p .1 .0 .begin) (search needs) (c .before .before .before .before .before .before .before .before .before .before .before .validate-item-blank-lines .ensures .1), p .1 .2)))
     (λ c. let a = c .before .before .before .before .before .before .before .before .before .before .before .before .before .before .before .before .before .before .before .before .before .validate-item-number in let b = c .before .before .before .before .before .before .before .before .before .before .before .before .before .before .before .before .validate-item-blank-lines in let d = c .before .before .before .before .before .before .before .before .before .validate-task-item in search needs)
     (λ c. let a = c .before .before .before .before .before .before .before .before .before .before .before .before .before .before .before .before .before .before .before .before .before .validate-item-number in let b = c .before .before .before .before .before .before .before .before .before .before .before .before .before .before .before .before .validate-item-blank-lines in let d = c .before .before .before .before .before .before .before .before .before .validate-task-item in search needs)
     (λ c. (item-done _ _ _ _ _ _ _ _ _ (c .before .before .before .before .before .before .before .before .before .before .before .before .before .before .before .before .before .before .before .before .before .before .before .before .before .record-at .ensures) (c .before .before .before .before .before .before .before .before .before .before .before .before .before .before .before .before .before .before .before .before .before .before .before .before .item-number .ensures) (c .before .before .before .before .before .before .before .before .before .before .before .before .before .before .before .before .before .before .before .before .before .validate-item-number .ensures) (c .before .before .before .before .before .before .before .before .before .before .before .before .before .before .before .before .validate-item-blank-lines .ensures .0) (c .before .before .before .before .before .before .before .before .before .before .before .before .before .before .before .before .validate-item-blank-lines .ensures .1) (c .before .before .before .before .before .before .before .before .before .validate-task-item .ensures) (c .before .before .before .before .validate-blocks .ensures .0), c .before .before .before .before .validate-blocks .ensures .1 ∙ c .before .before .before .before .before .before .before .before .before .before .before .before .before .before .before .before .validate-item-blank-lines .ensures .1))
 
 abbrev validate-items-inv : validate-items-lts.InvT-loop
-validate-items-inv sheet bytes report₀ path₀ len n from level ordered tight k₀ out₀ i₀ report path k out i = Paced (validateItems bytes (take len path₀) 0 ordered tight (under sheet n «from» level)) (validateItems bytes (take len path₀) k ordered tight) sheet path₀ n «from» len level out₀ report₀ i k out report path
+validate-items-inv sheet bytes report₀ path₀ len n from level left ordered tight k₀ out₀ i₀ report path k out i = Paced (validateItems bytes (take len path₀) 0 ordered tight (under sheet n «from» level)) (validateItems bytes (take len path₀) k ordered tight) sheet path₀ n «from» len level out₀ report₀ i k out report path
 
 abbrev validate-items-left : validate-items-lts.MeasureT-loop
-validate-items-left sheet bytes report₀ path₀ len n from level ordered tight k₀ out₀ i₀ report path k out i = n - i
+validate-items-left sheet bytes report₀ path₀ len n from level left ordered tight k₀ out₀ i₀ report path k out i = n - i
 
 abbrev validate-items-calls : ℕ → validate-items-lts.Claims
 validate-items-calls t = (record-at-reads.Asked, record-at-reads.Learnt, below validate-item-kinds.ps μ-validate-item validate-item.Pre t, validate-item.Post)
@@ -158,7 +159,7 @@ validate-items-calls t = (record-at-reads.Asked, record-at-reads.Learnt, below v
 validate-items-met : (M : Type 1) (t : ℕ) → validate-items-lts.Closed (validate-items-calls t) (at validate-items-kinds.ps μ-validate-items validate-items.Pre t) validate-items.Post M
 validate-items-met M t =
     validate-items-lts.spec (validate-items-calls t) (at validate-items-kinds.ps μ-validate-items validate-items.Pre t) validate-items.Post validate-items-inv validate-items-left
-    (λ c. paced-start _ _ _ (c .before .before .before .before .pre .1))
+    (λ c. paced-start _ _ _ (c .before .before .before .before .pre .1 .0))
     (λ c κs. search needs)
     (λ c. search needs)
     (λ c. search needs)
@@ -166,7 +167,8 @@ validate-items-met M t =
     (λ c. let r = paced-room (c .before .before .before .before .loop .inv) (search needs) (level-of _ _ (c .before .before .record-at .ensures)) (c .if1 .left) in search needs)
     (λ c. paced-place (c .before .before .before .before .loop .inv) (paced-room (c .before .before .before .before .loop .inv) (search needs) (level-of _ _ (c .before .before .record-at .ensures)) (c .if1 .left)))
     (λ c. let r = paced-room (c .before .before .before .before .before .before .loop .inv) (search needs) (level-of _ _ (c .before .before .before .before .record-at .ensures)) (c .before .before .if1 .left) in search needs)
-    (λ c κs. let f = tree-falls (c .before .before .before .before .before .before .loop .inv) (search needs) (c .before .before .before .before .record-at .ensures) (c .before .before .if1 .left) in let m = c .before .before .before .before .before .before .before .before .before .before .before .pre .0 in (omega arith, (tree-at (c .before .before .before .before .before .before .loop .inv) (search needs) (c .before .before .before .before .record-at .ensures) (c .before .before .if1 .left), search needs)))
+    (λ c. levels-fall (c .before .before .before .before .before .before .loop .inv .begin .start) (c .before .before .before .before .before .before .before .before .before .before .before .pre .1 .1) (search needs) (level-of _ _ (c .before .before .before .before .record-at .ensures)) (c .before .before .if1 .left) .some)
+    (λ c κs. let f = levels-fall (c .before .before .before .before .before .before .loop .inv .begin .start) (c .before .before .before .before .before .before .before .before .before .before .before .pre .1 .1) (search needs) (level-of _ _ (c .before .before .before .before .record-at .ensures)) (c .before .before .if1 .left) in let m = c .before .before .before .before .before .before .before .before .before .before .before .pre .0 in (omega arith, (tree-at (c .before .before .before .before .before .before .loop .inv) (search needs) (c .before .before .before .before .record-at .ensures) (c .before .before .if1 .left), search needs, f .rest)))
     (λ c. let f = paced-few (c .before .before .before .before .before .before .before .before .before .before .before .loop .inv) (search needs) in search needs)
     (λ c. done-down (search needs) (c .before .before .before .before .before .validate-item .ensures .0))
     (λ c. items-turn _ _ _ (c .before .before .before .before .before .before .before .before .before .before .before .before .loop .inv) (search needs) (c .before .before .before .before .before .before .before .before .before .before .record-at .ensures) (c .before .before .before .before .before .before .before .before .if1 .left) (c .before .before .before .before .before .validate-item .ensures .0) (c .before .before .before .before .before .validate-item .ensures .1) (search needs) (search needs))

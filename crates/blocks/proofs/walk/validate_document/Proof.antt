@@ -5,7 +5,7 @@ use Rattle.blocks.proofs.walk.validate_document.Statement.{statement}
 use Rattle.blocks.proofs.walk.validate_document.Tie as tie
 
 validate-blocks-requires : tie.Need-validate-blocks-requires
-validate-blocks-requires c κs = document-begin (c .before .before .before .before .before .before .pre .0) (c .before .before .before .before .before .before .pre .1) (search needs)
+validate-blocks-requires c κs = (document-begin (c .before .before .before .before .before .before .pre .0) (c .before .before .before .before .before .before .pre .1) (search needs), search needs)
 
 returns : tie.Need-returns
 returns c = document-done (c .before .before .before .before .before .before .before .before .before .before .before .pre .0) (c .before .before .before .before .before .before .before .before .before .before .before .pre .1) (c .before .before .before .before .before .none .ensures) (c .before .before .before .before .validate-blocks .ensures .0)
