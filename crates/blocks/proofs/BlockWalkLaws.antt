@@ -28,12 +28,12 @@ use Rattle.blocks.specs.Number.{itemNumber, validateItemNumber}
 use Rattle.blocks.specs.declared.number.Number.{Number}
 use Rattle.blocks.specs.Block.{validateOwn}
 use Rattle.blocks.specs.Holds.{holdsBlocks}
-use Rattle.blocks.specs.Walk.{validateBlock, validateBlocks, validateItem, validateItems}
+use Rattle.blocks.specs.Walk.{validateBlock, validateBlocks, validateItem, validateListItems}
 use Rattle.blocks.specs.WalkAt.{At, blockAt}
 
 -- ---- one tree
 abbrev itemsUnder : List ℕ → List ℕ → Rec → Forest → List Entry
-itemsUnder bytes path r kids = validateItems bytes path 0 (r .a) (r .c) kids
+itemsUnder bytes path r kids = validateListItems bytes path 0 (r .a) (r .c) kids
 
 abbrev blocksUnder : List ℕ → List ℕ → Forest → List Entry
 blocksUnder bytes path kids = validateBlocks bytes path 0 first kids
@@ -61,7 +61,7 @@ module _ (bytes path : List ℕ) (before : Before) (w : List ℕ) (n i level : �
   block-other h j = let no : isBlock (recordAt w i .kind) ≡ false = not-true _ (rw (g, e) at h) in record { next = j; lists = rw (at-other bytes path before (recordAt w i) (under w n (i + 1) level) no) lists-none }
 
   module _ {t u : Tally} {y z : List ℕ} (h : not f ≡ false) (is : level ≡ recordAt w i .level) (a : Lists s t x y (validateTakenBlock path (r .span) before (r .kind) (r .a) (r .b))) (b : Lists t u y z (validateOwn bytes path r (under w n (i + 1) (r .level)))) {next : List ℕ} (kept : next ≡ path) where
-    pub block-items : {q : Walked} {o : List ℕ} → r .kind ≡ list → Done w n (i + 1) level (validateItems bytes next 0 (r .a) (r .c) (under w n (i + 1) level)) u z q o → Done w n (i + 1) level (blockAt bytes path before (recordAt w i) (under w n (i + 1) level)) s x q o
+    pub block-items : {q : Walked} {o : List ℕ} → r .kind ≡ list → Done w n (i + 1) level (validateListItems bytes next 0 (r .a) (r .c) (under w n (i + 1) level)) u z q o → Done w n (i + 1) level (blockAt bytes path before (recordAt w i) (under w n (i + 1) level)) s x q o
     block-items {q} {o} k d =
         let own : Lists t u y z (validateOwn bytes path (recordAt w i) (under w n (i + 1) level)) = rw is (rw e at b) in
         let block : isBlock (recordAt w i .kind) ≡ true = not-false _ (rw (g, e) at h) in
@@ -93,8 +93,8 @@ pub blocks-none : (bytes path : List ℕ) (k : ℕ) (before : Before) → valida
 unfolding validateBlocks
 blocks-none bytes path k before = refl
 
-pub items-none : (bytes path : List ℕ) (k ordered tight : ℕ) → validateItems bytes path k ordered tight none ≡ []
-unfolding validateItems
+pub items-none : (bytes path : List ℕ) (k ordered tight : ℕ) → validateListItems bytes path k ordered tight none ≡ []
+unfolding validateListItems
 items-none bytes path k ordered tight = refl
 
 blocks-tree : (bytes path : List ℕ) (k : ℕ) (before : Before) (r : Rec) (kids rest : Forest) (f : Bool) → isBlock (r .kind) ≡ f → validateBlocks bytes path k before (tree r kids rest) ≡ blockAt bytes (path ++ k ∷ []) before r kids ⊕ validateBlocks bytes path (if f then k + 1 else k) (if f then beforeNext before (r .kind) (r .a) (r .b) else before) rest
@@ -107,8 +107,8 @@ module _ (bytes path w : List ℕ) (n i l : ℕ) (h : i < n) (d : l < recordAt w
   unfolding beforeAt indexAt
   blocks-step k before = rw (under-in w n i l h d) (blocks-tree bytes path k before (recordAt w i) _ _ (isBlock (recordAt w i .kind)) refl)
 
-  items-step : (k ordered tight : ℕ) → validateItems bytes path k ordered tight (under w n i l) ≡ validateItem (path ++ k ∷ []) ordered tight (eqb (count (under w n (behindKids w n i) l)) 0) (recordAt w i) (under w n (i + 1) (recordAt w i .level)) (validateBlocks bytes (path ++ k ∷ []) 0 first (under w n (i + 1) (recordAt w i .level))) ⊕ validateItems bytes path (k + 1) ordered tight (under w n (behindKids w n i) l)
-  unfolding validateItems
+  items-step : (k ordered tight : ℕ) → validateListItems bytes path k ordered tight (under w n i l) ≡ validateItem (path ++ k ∷ []) ordered tight (eqb (count (under w n (behindKids w n i) l)) 0) (recordAt w i) (under w n (i + 1) (recordAt w i .level)) (validateBlocks bytes (path ++ k ∷ []) 0 first (under w n (i + 1) (recordAt w i .level))) ⊕ validateListItems bytes path (k + 1) ordered tight (under w n (behindKids w n i) l)
+  unfolding validateListItems
   items-step k ordered tight = rw (under-in w n i l h d, add-one k)
 
 index-most : (k kind : ℕ) → indexAt k kind ≤ k + 1
@@ -135,7 +135,7 @@ blocks-turn bytes before {w} {p} {n} {from} {len} {level} {i = i} {k} {t} {y} {q
     let few′ : indexAt k (recordAt w i .kind) ≤ behindKids w n i = rw (← a′, ← c′ .next) few in
     rw (c′ .next, g′, a′) (paced-turn v (skip-tree w n from level (v .loop .at) h d′) (blocks-step bytes (take len p) w n i level h d′ k before) (c′ .lists) same few′ (long ∙ length-set q len k) (kept-below (set q len k) o len kept ∙ kept-set q len k))
 
-pub items-turn : (bytes : List ℕ) (ordered tight : ℕ) {w p : List ℕ} {n from len level : ℕ} {es : List Entry} {s : Tally} {x : List ℕ} {i k : ℕ} {t : Tally} {y q : List ℕ} → Paced es (validateItems bytes (take len p) k ordered tight) w p n from len level s x i k t y q → {r : Rec} {f : Walked} {z o : List ℕ} → i < n → r ≡ recordAt w i → level < r .level → Done w n (i + 1) (r .level) (validateItem (take (len + 1) (set q len k)) ordered tight (eqb (count (under w n (i + 1 + size (under w n (i + 1) (r .level))) level)) 0) (recordAt w i) (under w n (i + 1) (r .level)) (validateBlocks bytes (take (len + 1) (set q len k)) 0 first (under w n (i + 1) (r .level)))) t y f z → take (len + 1) o ≡ take (len + 1) (set q len k) → length z ≡ length y → length o ≡ length (set q len k) → Paced es (validateItems bytes (take len p) (k + 1) ordered tight) w p n from len level s x (f .next) (k + 1) (f .tally) z o
+pub items-turn : (bytes : List ℕ) (ordered tight : ℕ) {w p : List ℕ} {n from len level : ℕ} {es : List Entry} {s : Tally} {x : List ℕ} {i k : ℕ} {t : Tally} {y q : List ℕ} → Paced es (validateListItems bytes (take len p) k ordered tight) w p n from len level s x i k t y q → {r : Rec} {f : Walked} {z o : List ℕ} → i < n → r ≡ recordAt w i → level < r .level → Done w n (i + 1) (r .level) (validateItem (take (len + 1) (set q len k)) ordered tight (eqb (count (under w n (i + 1 + size (under w n (i + 1) (r .level))) level)) 0) (recordAt w i) (under w n (i + 1) (r .level)) (validateBlocks bytes (take (len + 1) (set q len k)) 0 first (under w n (i + 1) (r .level)))) t y f z → take (len + 1) o ≡ take (len + 1) (set q len k) → length z ≡ length y → length o ≡ length (set q len k) → Paced es (validateListItems bytes (take len p) (k + 1) ordered tight) w p n from len level s x (f .next) (k + 1) (f .tally) z o
 items-turn bytes ordered tight {w} {p} {n} {from} {len} {level} {i = i} {k} {t} {y} {q} v {r} {f} {z} {o} h e d c kept same long =
     let d′ : level < recordAt w i .level = rw e at d in
     let own : take (len + 1) (set q len k) ≡ take len p ++ k ∷ [] = paced-own v (paced-room v h (level-of w i e) d) in

@@ -34,18 +34,18 @@ unfoldable mutual
   pub validateBlocks : List ℕ → List ℕ → ℕ → Before → Forest → List Entry
   validateBlocks bytes path k before none = []
   validateBlocks bytes path k before (tree r kids rest) =
-      let items = validateItems bytes (path ++ k ∷ []) 0 (r .a) (r .c) kids in
+      let items = validateListItems bytes (path ++ k ∷ []) 0 (r .a) (r .c) kids in
       let blocks = validateBlocks bytes (path ++ k ∷ []) 0 first kids in
       let later = validateBlocks bytes path (suc k) (beforeNext before (r .kind) (r .a) (r .b)) rest in
       let passed = validateBlocks bytes path k before rest in
       if isBlock (r .kind) then (validateTakenBlock (path ++ k ∷ []) (r .span) before (r .kind) (r .a) (r .b) ⊕ validateBlock bytes (path ++ k ∷ []) r kids items blocks ⊕ later) else passed
 
   -- the items of a list, the first of them the k-th
-  pub validateItems : List ℕ → List ℕ → ℕ → ℕ → ℕ → Forest → List Entry
-  validateItems bytes path k ordered tight none = []
-  validateItems bytes path k ordered tight (tree r kids rest) =
+  pub validateListItems : List ℕ → List ℕ → ℕ → ℕ → ℕ → Forest → List Entry
+  validateListItems bytes path k ordered tight none = []
+  validateListItems bytes path k ordered tight (tree r kids rest) =
       let blocks = validateBlocks bytes (path ++ k ∷ []) 0 first kids in
-      let later = validateItems bytes path (suc k) ordered tight rest in
+      let later = validateListItems bytes path (suc k) ordered tight rest in
       validateItem (path ++ k ∷ []) ordered tight (eqb (count rest) 0) r kids blocks ⊕ later
 
 -- `validate_document`: the whole list of a sheet and its text

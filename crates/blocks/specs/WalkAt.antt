@@ -11,7 +11,7 @@ use Rattle.leaves.specs.declared.sheet.records.Rec.{Rec}
 use Rattle.inlines.specs.Walk.{Begin}
 use Rattle.blocks.specs.declared.before.Before.{Before}
 use Rattle.blocks.specs.Before.{first, validateTakenBlock}
-use Rattle.blocks.specs.Walk.{validateBlock, validateBlocks, validateItems}
+use Rattle.blocks.specs.Walk.{validateBlock, validateBlocks, validateListItems}
 
 -- a beginning behind record i, whose level is given; the path is its own
 pub record At (w p : List ℕ) (n i len level : ℕ) : Type 0 where
@@ -22,5 +22,5 @@ pub record At (w p : List ℕ) (n i len level : ℕ) : Type 0 where
 unfoldable pub blockAt : List ℕ → List ℕ → Before → Rec → Forest → List Entry
 blockAt bytes path before r kids =
     if isBlock (r .kind)
-    then (validateTakenBlock path (r .span) before (r .kind) (r .a) (r .b) ⊕ validateBlock bytes path r kids (validateItems bytes path 0 (r .a) (r .c) kids) (validateBlocks bytes path 0 first kids))
+    then (validateTakenBlock path (r .span) before (r .kind) (r .a) (r .b) ⊕ validateBlock bytes path r kids (validateListItems bytes path 0 (r .a) (r .c) kids) (validateBlocks bytes path 0 first kids))
     else []

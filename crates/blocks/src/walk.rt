@@ -9,7 +9,7 @@ ghost use Rattle.leaves.specs.Report.Entries.{Lists, start};
 ghost use Rattle.leaves.specs.Refusal.Formed.{Sound};
 ghost use Rattle.inlines.specs.Walk.{Begin, Left, Done};
 ghost use Rattle.blocks.specs.Before.{first};
-ghost use Rattle.blocks.specs.Walk.{validateBlocks, validateItems, validateItem, validateDocument};
+ghost use Rattle.blocks.specs.Walk.{validateBlocks, validateListItems, validateItem, validateDocument};
 ghost use Rattle.blocks.specs.WalkAt.{At, blockAt};
 use crate::before::Before;
 use crate::before::before_at;
@@ -30,7 +30,7 @@ use leaves::sheet::records::record_at;
 // How many levels a sheet has at most: no record is deeper.
 const LEVELS: u32 = 64;
 
-// The block walk (`validate_blocks`, `validate_block`), the list walk (`validate_items`) and the item walk (`validate_item`) call each other. `left`, the levels left, is 64 at the sheet and one less at each call for a deeper record: it is the number that falls, so that the calls end.
+// The block walk (`validate_blocks`, `validate_block`), the list walk (`validate_list_items`) and the item walk (`validate_item`) call each other. `left`, the levels left, is 64 at the sheet and one less at each call for a deeper record: it is the number that falls, so that the calls end.
 
 // The blocks from record `from` on that are deeper than `level`. The path of what holds them is the first `len` words of `path`.
 fn validate_blocks(
@@ -125,7 +125,7 @@ fn validate_block(
     );
     let out = validate_own(sheet, bytes, report, path, len, n, i + 1, r, left, out);
     if r.kind == kinds::LIST {
-        return validate_items(
+        return validate_list_items(
             sheet,
             bytes,
             report,
@@ -150,7 +150,7 @@ fn validate_block(
 }
 
 // The items of a list of the level `level`, ordered where `ordered` is 1 and tight where `tight` is 1.
-fn validate_items(
+fn validate_list_items(
     sheet: &[u32],
     bytes: &[u8],
     report: &mut [u32],
@@ -165,7 +165,7 @@ fn validate_items(
     tally: Tally,
 ) -> Walked
     requires { ⌜ Begin (now sheet) (now path) n from len level × Left left level ⌝ }
-    ensures { λ q. ⌜ Done (now (sheet .entry)) n from level (validateItems (now (bytes .entry)) (take len (now (path .entry))) 0 ordered tight (under (now (sheet .entry)) n from level)) tally (now (report .entry)) q (now (report .exit)) × (take len (now (path .exit)) ≡ take len (now (path .entry))) ⌝ }
+    ensures { λ q. ⌜ Done (now (sheet .entry)) n from level (validateListItems (now (bytes .entry)) (take len (now (path .entry))) 0 ordered tight (under (now (sheet .entry)) n from level)) tally (now (report .entry)) q (now (report .exit)) × (take len (now (path .exit)) ≡ take len (now (path .entry))) ⌝ }
 {
     let mut k: u32 = 0;
     let mut out = tally;

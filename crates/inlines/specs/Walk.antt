@@ -5,6 +5,7 @@ use Prim.Native.Nat.{ℕ, _+_, _*_, _<_, _≤_}
 use lib.ListN.{length, take}
 use Rattle.leaves.specs.Sheet.Records.{recordAt, recordWords}
 use Rattle.leaves.specs.Sheet.Forest.{under, size}
+use Rattle.leaves.specs.Refusal.Limits.{mostLevel}
 use Rattle.leaves.specs.Report.Entries.{Entry, Lists}
 use Rattle.leaves.specs.declared.report.entries.Tally.{Tally}
 use Rattle.inlines.specs.declared.walk.Walked.{Walked}
@@ -17,13 +18,9 @@ pub record Start (w path : List ℕ) (n from : ℕ) : Type 0 where
   pub inside : from ≤ n
   pub short : length path ≤ 64
 
--- how many levels a sheet has at most: no record is deeper. Document 01, refusal 5: "over 64"
-abbrev pub levels : ℕ
-levels = 64
-
--- the levels left under a record of the level `level`: no record is deeper than 64, so at least as many are left as lie between. Document 01: "remaining levels, at most 64, are the falling number"
+-- the levels left under a record of the level `level`: no record is deeper than 64, so at least as many are left as lie below it. Document 01: "remaining levels, at most 64, are the falling number"
 pub record Left (left level : ℕ) : Type 0 where
-  pub enough : levels ≤ left + level
+  pub enough : mostLevel ≤ left + level
 
 -- the entries are listed, and the walk stands behind the trees deeper than `level`
 pub record Done (w : List ℕ) (n from level : ℕ) (es : List Entry) (s : Tally) (x : List ℕ) (r : Walked) (y : List ℕ) : Type 0 where

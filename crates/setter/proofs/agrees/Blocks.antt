@@ -30,7 +30,7 @@ use Rattle.blocks.specs.Label.{beforeBlocks, validateDirective}
 use Rattle.blocks.specs.Paragraph.{validateParagraph}
 use Rattle.blocks.specs.Holds
 use Rattle.blocks.specs.Block.{validateLeaf, validateHtml, validateContainer, validateOwn}
-use Rattle.blocks.specs.Walk.{validateBlock, validateItem, validateBlocks, validateItems}
+use Rattle.blocks.specs.Walk.{validateBlock, validateItem, validateBlocks, validateListItems}
 use Rattle.setter.specs.Steps.{Frame, fresh, withKid, opens, closes}
 use Rattle.setter.specs.Machine.{pathOf, blockPath, position}
 use Rattle.setter.specs.Stops.{stopOf, openingTests, closingTests}
@@ -175,7 +175,7 @@ Blocks bytes ts =
 abbrev pub Items : List ℕ → Forest → Type 0
 Items bytes ts =
     (es : List Entry) (f : Frame) (st : List Frame) (i m k tight : ℕ) → f .of .kind ≡ list → Placed (f .of) m ts → position (f .kids) ≡ k → inLink (f ∷ st) ≡ false
-    → Sub (validateItems bytes (pathOf (f ∷ st)) k (f .of .a) tight ts) es → Fits bytes es (walk f st i ts) (Clean (validateItems bytes (pathOf (f ∷ st)) k (f .of .a) tight ts))
+    → Sub (validateListItems bytes (pathOf (f ∷ st)) k (f .of .a) tight ts) es → Fits bytes es (walk f st i ts) (Clean (validateListItems bytes (pathOf (f ∷ st)) k (f .of .a) tight ts))
 
 -- the blocks of a container, whose path is q
 module _ (bytes : List ℕ) (es : List Entry) (f : Frame) (st : List Frame) (i : ℕ) (kids : Forest) (q : List ℕ) (at-q : pathOf (f ∷ st) ≡ q) (out : inLink (f ∷ st) ≡ false) (new : f .kids ≡ []) (placed : Placed (f .of) 0 kids) (ih : Blocks bytes kids) where
@@ -195,7 +195,7 @@ depth-same a = go (leb 1 a) refl (leb a 6) refl
 abbrev held : List ℕ → List ℕ → Rec → Forest → List Entry
 held bytes q r kids =
     if eqb (r .kind) list
-    then validateItems bytes q 0 (r .a) (r .c) kids
+    then validateListItems bytes q 0 (r .a) (r .c) kids
     else if Holds.holdsBlocks (r .kind) (r .a)
     then validateBlocks bytes q 0 first kids
     else []
@@ -244,7 +244,7 @@ module _ (bytes : List ℕ) (es : List Entry) (f : Frame) (st : List Frame) (i :
   unfolding stopOf openingTests closingTests validateOwn validateContainer validateList inLink position beside named
   block-list ih e =
       let l : Sub (validateList q (r .span) (r .c) kids) es = rw e at s in
-      let u : Sub (validateItems bytes q 0 (r .a) (r .c) kids) es = rw e at t in
+      let u : Sub (validateListItems bytes q 0 (r .a) (r .c) kids) es = rw e at t in
       let m : count kids ≡ length (pile kids []) = omega (arith, length-pile kids []) in
       let n : eqb (count kids) 0 ≡ eqb (length (pile kids [])) 0 = ap (λ (x : ℕ). eqb x 0) m in
       let j : joins b r ≡ behindList (f .kids) r = joins-is b r (rw e) ∙ sym same in
@@ -346,8 +346,8 @@ module _ (bytes : List ℕ) (es : List Entry) (f : Frame) (st : List Frame) (i :
 
 -- an item and the items after it
 module _ (bytes : List ℕ) (es : List Entry) (f : Frame) (st : List Frame) (i m k tight : ℕ) (r : Rec) (kids rest : Forest) (ihb : Blocks bytes kids) (ihr : Items bytes rest) where
-  tree-item : f .of .kind ≡ list → Placed (f .of) m (tree r kids rest) → position (f .kids) ≡ k → inLink (f ∷ st) ≡ false → Sub (validateItems bytes (pathOf (f ∷ st)) k (f .of .a) tight (tree r kids rest)) es → Fits bytes es (walk f st i (tree r kids rest)) (Clean (validateItems bytes (pathOf (f ∷ st)) k (f .of .a) tight (tree r kids rest)))
-  unfolding validateItems validateItem Placed pathOf inLink position stopOf closingTests groupOf parentGroup named
+  tree-item : f .of .kind ≡ list → Placed (f .of) m (tree r kids rest) → position (f .kids) ≡ k → inLink (f ∷ st) ≡ false → Sub (validateListItems bytes (pathOf (f ∷ st)) k (f .of .a) tight (tree r kids rest)) es → Fits bytes es (walk f st i (tree r kids rest)) (Clean (validateListItems bytes (pathOf (f ∷ st)) k (f .of .a) tight (tree r kids rest)))
+  unfolding validateListItems validateItem Placed pathOf inLink position stopOf closingTests groupOf parentGroup named
   tree-item e placed t out s =
       let one : r .kind ≡ item = under-list (f .of) (r .kind) (placed .0) (rw e) in
       let q : List ℕ = pathOf (f ∷ st) ++ k ∷ [] in
@@ -440,7 +440,7 @@ module _ (bytes : List ℕ) (es : List Entry) (f : Frame) (st : List Frame) (i m
   tree-fits (blocked kd) = tree-block kd
 
 pub blocks-fit : (bytes : List ℕ) (ts : Forest) → Blocks bytes ts × Items bytes ts
-unfolding walk validateBlocks validateItems Placed
+unfolding walk validateBlocks validateListItems Placed
 blocks-fit bytes none = (
   λ es f st i m k b c holder placed told out s t. fits-map (λ x. (clean-none, λ h g. label-none bytes _ c none before-none)) fits-none,
   λ es f st i m k tight e placed t out s. fits-map (λ x. clean-none) fits-none,

@@ -22,7 +22,7 @@ use Rattle.blocks.specs.Before.{takesIndentedCode, validateTakenBlock, beforeNe
 use Rattle.leaves.specs.Text.Marker.{writtenMarker}
 use Rattle.blocks.specs.Holds.{holdsBlocks}
 use Rattle.blocks.specs.Block.{validateContainer, validateLeaf, validateOwn}
-use Rattle.blocks.specs.Walk.{validateBlock, validateBlocks, validateDocument, validateItem, validateItems}
+use Rattle.blocks.specs.Walk.{validateBlock, validateBlocks, validateDocument, validateItem, validateListItems}
 use Rattle.blocks.specs.Check.{outcome}
 use Rattle.setter.specs.Steps.{closings, remain, stepsFrom, stepsOf}
 use Rattle.setter.specs.Seen.{columns, nearest, inLink, behindList, onlyEmpty, lastMark}
@@ -36,7 +36,7 @@ use Rattle.setter.specs.Listing.Program.{sheetLines, listing}
 
 -- what is printed; a declaration that unfolds this unfolds all that it computes with
 printed : List ℕ → List ℕ
-unfolding listing sheetLines refusalLine entryLines listLines areRecords sheetOf filmSheet textBehind filmOf front field pastSpaces readDigits readNumber readField fields line areFields isLine numbers outcome runOutcome closings remain stepsFrom stepsOf columns nearest inLink behindList onlyEmpty openingTests closingTests stopOf position pathOf blockPath outcomeOf answerStop answerRecord lastMark recordsFrom validateDocument validateBlocks validateBlock validateItems validateItem beforeNext holdsBlocks validateContainer validateLeaf validateOwn takesIndentedCode validateHeading validateTakenBlock writtenMarker finalBreak finalBreakAfter noInline validateInlineNodes validateInlineNodesAfter validateInlines words flat listIf _⊕_ judgeSheet orElse judgeFrom judgeAt judge judgeTexts levelBefore badLevel tagsFrom lacksTags recordAt deeper past grow forestAt forestOf count countKind misplaced openAt gather opened joined parentGroup otherGroup childGroup places placeOf badField badNumber mostA mostB mostC isSurrogate badSpan hasFirst hasSecond badText textOutside textIllFormed textOf partOf isUtf8 wellFormed follow Rattle.leaves.specs.Text.Utf8.table
+unfolding listing sheetLines refusalLine entryLines listLines areRecords sheetOf filmSheet textBehind filmOf front field pastSpaces readDigits readNumber readField fields line areFields isLine numbers outcome runOutcome closings remain stepsFrom stepsOf columns nearest inLink behindList onlyEmpty openingTests closingTests stopOf position pathOf blockPath outcomeOf answerStop answerRecord lastMark recordsFrom validateDocument validateBlocks validateBlock validateListItems validateItem beforeNext holdsBlocks validateContainer validateLeaf validateOwn takesIndentedCode validateHeading validateTakenBlock writtenMarker finalBreak finalBreakAfter noInline validateInlineNodes validateInlineNodesAfter validateInlines words flat listIf _⊕_ judgeSheet orElse judgeFrom judgeAt judge judgeTexts levelBefore badLevel tagsFrom lacksTags recordAt deeper past grow forestAt forestOf count countKind misplaced openAt gather opened joined parentGroup otherGroup childGroup places placeOf badField badNumber mostA mostB mostC isSurrogate badSpan hasFirst hasSecond badText textOutside textIllFormed textOf partOf isUtf8 wellFormed follow Rattle.leaves.specs.Text.Utf8.table
 printed s = listing s
 
 -- a record with a kind, a level and A

@@ -7,7 +7,8 @@ use borrow.Fn.Kind.{PK}
 use Rattle.leaves.specs.Sheet.Forest.{under}
 use Rattle.inlines.specs.Nodes.{validateInlineNodesAfter}
 use Rattle.inlines.proofs.NodesLaws.{node-done, node-here, node-other, nodes-none, nodes-turn}
-use Rattle.inlines.proofs.WalkLaws.{Loop, done-down, level-of, levels-fall, loop-end, loop-out, loop-start}
+use Rattle.inlines.proofs.WalkLaws.{Loop, done-down, levels-fall, loop-end, loop-out, loop-start}
+use Rattle.leaves.proofs.sheet.SkipLaws.{level-of}
 use borrow.Fn.Kinds.{In}
 use borrow.Fn.PlainCycle.{Measures, is, falls, and}
 use Rattle.inlines.proofs.nodes.validate_inline_nodes.Reads as validate-inline-nodes

@@ -10,22 +10,22 @@ use Rattle.leaves.specs.Sheet.Forest.{under}
 use Rattle.inlines.proofs.WalkLaws.{done-down, levels-fall}
 use Rattle.leaves.proofs.sheet.SkipLaws.{level-of}
 use Rattle.inlines.proofs.PathLaws.{Paced, begin-front, begin-long, begin-short, paced-start, paced-room, paced-place, paced-few, paced-out, paced-end}
-use Rattle.blocks.specs.Walk.{validateBlocks, validateItems}
+use Rattle.blocks.specs.Walk.{validateBlocks, validateListItems}
 use Rattle.blocks.proofs.BlockWalkLaws.{begin-kept, block-blocks, block-items, block-leaf, block-other, blocks-none, blocks-turn, item-done, items-none, items-turn, own-begin, tree-at}
 use borrow.Fn.Kinds.{In}
 use borrow.Fn.PlainCycle.{Measures, is, falls, and}
 use Rattle.blocks.proofs.walk.validate_block.Reads as validate-block
 use Rattle.blocks.proofs.walk.validate_block.Kinds as validate-block-kinds
-use Rattle.blocks.proofs.walk.+validate_block+validate_blocks+validate_item+validate_items.Lts-validate_block as validate-block-lts
+use Rattle.blocks.proofs.walk.+validate_block+validate_blocks+validate_item+validate_list_items.Lts-validate_block as validate-block-lts
 use Rattle.blocks.proofs.walk.validate_blocks.Reads as validate-blocks
 use Rattle.blocks.proofs.walk.validate_blocks.Kinds as validate-blocks-kinds
-use Rattle.blocks.proofs.walk.+validate_block+validate_blocks+validate_item+validate_items.Lts-validate_blocks as validate-blocks-lts
+use Rattle.blocks.proofs.walk.+validate_block+validate_blocks+validate_item+validate_list_items.Lts-validate_blocks as validate-blocks-lts
 use Rattle.blocks.proofs.walk.validate_item.Reads as validate-item
 use Rattle.blocks.proofs.walk.validate_item.Kinds as validate-item-kinds
-use Rattle.blocks.proofs.walk.+validate_block+validate_blocks+validate_item+validate_items.Lts-validate_item as validate-item-lts
-use Rattle.blocks.proofs.walk.validate_items.Reads as validate-items
-use Rattle.blocks.proofs.walk.validate_items.Kinds as validate-items-kinds
-use Rattle.blocks.proofs.walk.+validate_block+validate_blocks+validate_item+validate_items.Lts-validate_items as validate-items-lts
+use Rattle.blocks.proofs.walk.+validate_block+validate_blocks+validate_item+validate_list_items.Lts-validate_item as validate-item-lts
+use Rattle.blocks.proofs.walk.validate_list_items.Reads as validate-list-items
+use Rattle.blocks.proofs.walk.validate_list_items.Kinds as validate-list-items-kinds
+use Rattle.blocks.proofs.walk.+validate_block+validate_blocks+validate_item+validate_list_items.Lts-validate_list_items as validate-list-items-lts
 use Rattle.blocks.proofs.before.before_at.Reads as before-at-reads
 use Rattle.blocks.proofs.before.index_at.Reads as index-at-reads
 use Rattle.blocks.proofs.number.item_number.Reads as item-number-reads
@@ -38,8 +38,8 @@ use Rattle.blocks.proofs.block.validate_own.Reads as validate-own-reads
 use Rattle.leaves.proofs.sheet.kinds.is_block.Reads as is-block-reads
 use Rattle.leaves.proofs.sheet.records.record_at.Reads as record-at-reads
 use Rattle.leaves.proofs.sheet.forest.skip.Reads as skip-reads
-use Rattle.blocks.proofs.walk.+validate_block+validate_blocks+validate_item+validate_items.{statement}
-use Rattle.blocks.proofs.walk.+validate_block+validate_blocks+validate_item+validate_items.Tie.{close}
+use Rattle.blocks.proofs.walk.+validate_block+validate_blocks+validate_item+validate_list_items.{statement}
+use Rattle.blocks.proofs.walk.+validate_block+validate_blocks+validate_item+validate_list_items.Tie.{close}
 
 -- what a function is given at the measure t, and what a call of one asks below t
 abbrev at : (ps : List (PK 4)) → Measures 4 ps ℕ → In 4 ps → ℕ → In 4 ps
@@ -58,11 +58,11 @@ abbrev μ-validate-blocks : Measures 4 validate-blocks-kinds.ps ℕ
 abbrev μ-validate-item : Measures 4 validate-item-kinds.ps ℕ
 μ-validate-item κs a = 2 * a .1 .1 .1 .1 .1 .1 .1 .1 .0 + 1
 
-abbrev μ-validate-items : Measures 4 validate-items-kinds.ps ℕ
-μ-validate-items κs a = 2 * a .1 .1 .1 .1 .1 .1 .1 .1 .0
+abbrev μ-validate-list-items : Measures 4 validate-list-items-kinds.ps ℕ
+μ-validate-list-items κs a = 2 * a .1 .1 .1 .1 .1 .1 .1 .1 .0
 
 abbrev validate-block-calls : ℕ → validate-block-lts.Claims
-validate-block-calls t = (record-at-reads.Asked, record-at-reads.Learnt, is-block-reads.Asked, is-block-reads.Learnt, skip-reads.Asked, skip-reads.Learnt, validate-taken-block-reads.Asked, validate-taken-block-reads.Learnt, validate-own-reads.Asked, validate-own-reads.Learnt, below validate-items-kinds.ps μ-validate-items validate-items.Pre t, validate-items.Post, holds-blocks-reads.Asked, holds-blocks-reads.Learnt, below validate-blocks-kinds.ps μ-validate-blocks validate-blocks.Pre t, validate-blocks.Post)
+validate-block-calls t = (record-at-reads.Asked, record-at-reads.Learnt, is-block-reads.Asked, is-block-reads.Learnt, skip-reads.Asked, skip-reads.Learnt, validate-taken-block-reads.Asked, validate-taken-block-reads.Learnt, validate-own-reads.Asked, validate-own-reads.Learnt, below validate-list-items-kinds.ps μ-validate-list-items validate-list-items.Pre t, validate-list-items.Post, holds-blocks-reads.Asked, holds-blocks-reads.Learnt, below validate-blocks-kinds.ps μ-validate-blocks validate-blocks.Pre t, validate-blocks.Post)
 
 validate-block-met : (M : Type 1) (t : ℕ) → validate-block-lts.Closed (validate-block-calls t) (at validate-block-kinds.ps μ-validate-block validate-block.Pre t) validate-block.Post M
 validate-block-met M t =
@@ -81,7 +81,7 @@ validate-block-met M t =
     (λ c κs. let p = c .before .before .before .before .before .before .before .before .before .before .before .before .before .before .before .before .before .before .before .before .before .before .before .pre in (omega arith, (begin-kept (p .1 .0 .begin) (search needs) (c .before .before .before .before .before .before .before .before .validate-own .ensures .1), p .1 .1)))
     (λ c. search needs)
     (λ c. search needs)
-    (λ c. (block-items _ _ _ _ _ _ _ (c .before .before .before .before .before .before .before .before .before .before .before .before .before .before .before .before .before .before .before .before .before .before .before .record-at .ensures) (c .before .before .before .before .before .before .before .before .before .before .before .before .before .before .before .before .before .before .before .before .before .before .is-block .ensures) (c .before .before .before .before .before .before .before .before .before .before .before .before .before .before .before .before .before .before .before .before .before .if1 .left) (c .before .before .before .before .before .before .before .before .before .before .before .before .before .before .before .before .before .before .before .before .before .before .before .before .before .before .before .before .pre .1 .0 .is) (c .before .before .before .before .before .before .before .before .before .before .before .before .before .before .before .before .before .before .validate-taken-block .ensures) (c .before .before .before .before .before .before .before .before .before .before .before .before .before .validate-own .ensures .0) (c .before .before .before .before .before .before .before .before .before .before .before .before .before .validate-own .ensures .1) (c .before .before .before .before .before .before .before .if2 .taken) (c .before .before .before .before .validate-items .ensures .0), c .before .before .before .before .validate-items .ensures .1 ∙ c .before .before .before .before .before .before .before .before .before .before .before .before .before .validate-own .ensures .1))
+    (λ c. (block-items _ _ _ _ _ _ _ (c .before .before .before .before .before .before .before .before .before .before .before .before .before .before .before .before .before .before .before .before .before .before .before .record-at .ensures) (c .before .before .before .before .before .before .before .before .before .before .before .before .before .before .before .before .before .before .before .before .before .before .is-block .ensures) (c .before .before .before .before .before .before .before .before .before .before .before .before .before .before .before .before .before .before .before .before .before .if1 .left) (c .before .before .before .before .before .before .before .before .before .before .before .before .before .before .before .before .before .before .before .before .before .before .before .before .before .before .before .before .pre .1 .0 .is) (c .before .before .before .before .before .before .before .before .before .before .before .before .before .before .before .before .before .before .validate-taken-block .ensures) (c .before .before .before .before .before .before .before .before .before .before .before .before .before .validate-own .ensures .0) (c .before .before .before .before .before .before .before .before .before .before .before .before .before .validate-own .ensures .1) (c .before .before .before .before .before .before .before .if2 .taken) (c .before .before .before .before .validate-list-items .ensures .0), c .before .before .before .before .validate-list-items .ensures .1 ∙ c .before .before .before .before .before .before .before .before .before .before .before .before .before .validate-own .ensures .1))
     (λ c κs. search needs)
     (λ c. let p = c .before .before .before .before .before .before .before .before .before .before .before .before .before .before .before .before .before .before .before .before .before .before .before .before .before .pre .1 .0 .begin .start in search needs)
     (λ c κs. let p = c .before .before .before .before .before .before .before .before .before .before .before .before .before .before .before .before .before .before .before .before .before .before .before .before .before .pre in (omega arith, (begin-kept (p .1 .0 .begin) (search needs) (c .before .before .before .before .before .before .before .before .before .before .validate-own .ensures .1), p .1 .1)))
@@ -147,18 +147,18 @@ validate-item-met M t =
     (λ c. let a = c .before .before .before .before .before .before .before .before .before .before .before .before .before .before .before .before .before .before .before .before .before .validate-item-number in let b = c .before .before .before .before .before .before .before .before .before .before .before .before .before .before .before .before .validate-item-blank-lines in let d = c .before .before .before .before .before .before .before .before .before .validate-task-item in search needs)
     (λ c. (item-done _ _ _ _ _ _ _ _ _ (c .before .before .before .before .before .before .before .before .before .before .before .before .before .before .before .before .before .before .before .before .before .before .before .before .before .record-at .ensures) (c .before .before .before .before .before .before .before .before .before .before .before .before .before .before .before .before .before .before .before .before .before .before .before .before .item-number .ensures) (c .before .before .before .before .before .before .before .before .before .before .before .before .before .before .before .before .before .before .before .before .before .validate-item-number .ensures) (c .before .before .before .before .before .before .before .before .before .before .before .before .before .before .before .before .validate-item-blank-lines .ensures .0) (c .before .before .before .before .before .before .before .before .before .before .before .before .before .before .before .before .validate-item-blank-lines .ensures .1) (c .before .before .before .before .before .before .before .before .before .validate-task-item .ensures) (c .before .before .before .before .validate-blocks .ensures .0), c .before .before .before .before .validate-blocks .ensures .1 ∙ c .before .before .before .before .before .before .before .before .before .before .before .before .before .before .before .before .validate-item-blank-lines .ensures .1))
 
-abbrev validate-items-inv : validate-items-lts.InvT-loop
-validate-items-inv sheet bytes report₀ path₀ len n from level left ordered tight k₀ out₀ i₀ report path k out i = Paced (validateItems bytes (take len path₀) 0 ordered tight (under sheet n «from» level)) (validateItems bytes (take len path₀) k ordered tight) sheet path₀ n «from» len level out₀ report₀ i k out report path
+abbrev validate-list-items-inv : validate-list-items-lts.InvT-loop
+validate-list-items-inv sheet bytes report₀ path₀ len n from level left ordered tight k₀ out₀ i₀ report path k out i = Paced (validateListItems bytes (take len path₀) 0 ordered tight (under sheet n «from» level)) (validateListItems bytes (take len path₀) k ordered tight) sheet path₀ n «from» len level out₀ report₀ i k out report path
 
-abbrev validate-items-left : validate-items-lts.MeasureT-loop
-validate-items-left sheet bytes report₀ path₀ len n from level left ordered tight k₀ out₀ i₀ report path k out i = n - i
+abbrev validate-list-items-left : validate-list-items-lts.MeasureT-loop
+validate-list-items-left sheet bytes report₀ path₀ len n from level left ordered tight k₀ out₀ i₀ report path k out i = n - i
 
-abbrev validate-items-calls : ℕ → validate-items-lts.Claims
-validate-items-calls t = (record-at-reads.Asked, record-at-reads.Learnt, below validate-item-kinds.ps μ-validate-item validate-item.Pre t, validate-item.Post)
+abbrev validate-list-items-calls : ℕ → validate-list-items-lts.Claims
+validate-list-items-calls t = (record-at-reads.Asked, record-at-reads.Learnt, below validate-item-kinds.ps μ-validate-item validate-item.Pre t, validate-item.Post)
 
-validate-items-met : (M : Type 1) (t : ℕ) → validate-items-lts.Closed (validate-items-calls t) (at validate-items-kinds.ps μ-validate-items validate-items.Pre t) validate-items.Post M
-validate-items-met M t =
-    validate-items-lts.spec (validate-items-calls t) (at validate-items-kinds.ps μ-validate-items validate-items.Pre t) validate-items.Post validate-items-inv validate-items-left
+validate-list-items-met : (M : Type 1) (t : ℕ) → validate-list-items-lts.Closed (validate-list-items-calls t) (at validate-list-items-kinds.ps μ-validate-list-items validate-list-items.Pre t) validate-list-items.Post M
+validate-list-items-met M t =
+    validate-list-items-lts.spec (validate-list-items-calls t) (at validate-list-items-kinds.ps μ-validate-list-items validate-list-items.Pre t) validate-list-items.Post validate-list-items-inv validate-list-items-left
     (λ c. paced-start _ _ _ (c .before .before .before .before .pre .1 .0))
     (λ c κs. search needs)
     (λ c. search needs)
@@ -176,14 +176,14 @@ validate-items-met M t =
     (λ c. search needs)
     (λ c. paced-end (c .before .loop .inv) (items-none _ _ _ _ _) (search needs))
 
-pub +validate-block+validate-blocks+validate-item+validate-items-spec : {M : Type 1} → statement M
-+validate-block+validate-blocks+validate-item+validate-items-spec {M} =
+pub +validate-block+validate-blocks+validate-item+validate-list-items-spec : {M : Type 1} → statement M
++validate-block+validate-blocks+validate-item+validate-list-items-spec {M} =
     close
     μ-validate-block
     μ-validate-blocks
     μ-validate-item
-    μ-validate-items
+    μ-validate-list-items
     (validate-block-met M)
     (validate-blocks-met M)
     (validate-item-met M)
-    (validate-items-met M)
+    (validate-list-items-met M)
