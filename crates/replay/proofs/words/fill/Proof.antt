@@ -1,0 +1,37 @@
+-- `replay::words::fill` meets its contract.
+use Prim.Native.Nat.{_-_}
+use borrow.Author.Needs.{needs}
+use lib.ListN.{length, length-set}
+use mathlib.Core.Path.{_≡_}
+use native.Mathlib.Omega.{arith}
+use Rattle.replay.proofs.words.fill.Statement.{statement}
+use Rattle.replay.proofs.words.fill.Tie as tie
+
+abbrev Inv-loop : tie.InvT-loop
+Inv-loop words₀ s k₀ words k = length words ≡ length words₀
+
+abbrev μ-loop : tie.MeasureT-loop
+μ-loop words₀ s k₀ words k = length words - k
+
+loop-less : tie.Need-loop-less Inv-loop μ-loop
+loop-less c = simp length-set (omega arith)
+
+loop-again : tie.Need-loop-again Inv-loop μ-loop
+loop-again c = simp length-set (search needs)
+
+pub fill-spec : {M : Type 1} → statement M
+fill-spec =
+    tie.close
+    (tie.spec
+    Inv-loop
+    μ-loop
+    (λ c. search needs)
+    (λ c. search needs)
+    (λ c κs. search needs)
+    (λ c. search needs)
+    (λ c. search needs)
+    (λ c. search needs)
+    loop-less
+    loop-again
+    (λ c. search needs)
+    (λ c. search needs))
