@@ -54,7 +54,7 @@ fn replay_next(
 }
 
 // A file that does not end counts as a difference.
-fn replay_all(fd: i32, format: Format, sheet: &[u32], text: &[u8]) -> Tally {
+fn replay_opened(fd: i32, format: Format, sheet: &[u32], text: &[u8]) -> Tally {
     let mut buffer = room();
     let mut tally = Tally::none();
     let mut k: usize = 0;
@@ -69,21 +69,26 @@ fn replay_all(fd: i32, format: Format, sheet: &[u32], text: &[u8]) -> Tally {
     tally.differs()
 }
 
-// A file that cannot be opened counts as a difference.
-fn found_in(name: &[u8], format: Format, sheet: &[u32], text: &[u8]) -> Tally {
+// What is found in a file. One that is not opened counts as a difference. The sheet and the text are the long ones of calls.
+pub fn replay(fd: i32, format: Format, sheet: &[u32], text: &[u8]) -> Tally {
+    if fd < 0 {
+        return Tally::none().differs();
+    }
+    replay_opened(fd, format, sheet, text)
+}
+
+// A file is opened; where it cannot be, a line of standard error says why.
+pub fn open(name: &[u8]) -> i32 {
     let fd = os::open_read(name);
     if fd < 0 {
         os::fail(name);
-        return Tally::none().differs();
     }
-    let found = replay_all(fd, format, sheet, text);
-    libc::close(fd);
-    found
+    fd
 }
 
-// Writes the line of a file, and adds what was found to the total. The sheet and the text are the long ones of calls.
-pub fn replay(name: &[u8], format: Format, sheet: &[u32], text: &[u8], total: Tally) -> Tally {
-    let found = found_in(name, format, sheet, text);
+// A file is closed, its line written, and what was found added to the total.
+pub fn close(fd: i32, name: &[u8], found: Tally, total: Tally) -> Tally {
+    libc::close(fd);
     write_line(name, found);
     total.with(found)
 }

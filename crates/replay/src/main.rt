@@ -24,7 +24,9 @@ use libc::STDOUT_FILENO;
 const QUARTER: i64 = 0x60_0000;
 
 fn replay(name: &[u8], format: Format, total: Tally) -> Tally {
-    file::replay(name, format, &[0u32; 1], b"", total)
+    let fd = file::open(name);
+    let found = file::replay(fd, format, &[0u32; 1], b"");
+    file::close(fd, name, found, total)
 }
 
 // The long sheet and the long text are on the stack.
@@ -32,7 +34,9 @@ fn replay_long(name: &[u8], total: Tally) -> Tally {
     let mut sheet = long::sheet();
     let text = long::text();
     long::breaks(&mut sheet);
-    file::replay(name, Format::Calls, &sheet, &text, total)
+    let fd = file::open(name);
+    let found = file::replay(fd, Format::Calls, &sheet, &text);
+    file::close(fd, name, found, total)
 }
 
 // The files whose records are short.
