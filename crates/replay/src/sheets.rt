@@ -37,6 +37,6 @@ pub fn replay_record(r: &[u8], tally: Tally) -> Tally {
     let record = verdict::record_of(answer);
     tally
         .record()
-        .compare(fits & (number == bytes::size(bytes::byte(r, 4))))
+        .compare(fits & (number == bytes::small(r, 4)))
         .compare(fits & (record == bytes::pair(r, 5)))
 }

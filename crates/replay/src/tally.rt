@@ -1,4 +1,7 @@
 // How many records were read, how many answers were compared and how many differ.
+ghost use mathlib.Core.Path.{_≡_};
+ghost use Rattle.replay.specs.Tally.{sumOf, nothing, recorded, differing, comparing, together};
+
 const MOST: u64 = 0x1000_0000_0000_0000;
 
 pub struct Tally {
@@ -8,7 +11,9 @@ pub struct Tally {
 }
 
 // Sums that stay far below the largest number: no file comes near them.
-fn sum(a: u64, b: u64) -> u64 {
+fn sum(a: u64, b: u64) -> u64
+    ensures { λ r. ⌜ r ≡ sumOf a b ⌝ }
+{
     if MOST <= a {
         return MOST;
     }
@@ -19,7 +24,9 @@ fn sum(a: u64, b: u64) -> u64 {
 }
 
 impl Tally {
-    pub fn none() -> Self {
+    pub fn none() -> Self
+        ensures { λ r. ⌜ r ≡ nothing ⌝ }
+    {
         Tally {
             records: 0,
             compared: 0,
@@ -27,7 +34,9 @@ impl Tally {
         }
     }
 
-    pub fn record(self) -> Self {
+    pub fn record(self) -> Self
+        ensures { λ r. ⌜ r ≡ recorded self ⌝ }
+    {
         Tally {
             records: sum(self.records, 1),
             compared: self.compared,
@@ -35,7 +44,9 @@ impl Tally {
         }
     }
 
-    pub fn differs(self) -> Self {
+    pub fn differs(self) -> Self
+        ensures { λ r. ⌜ r ≡ differing self ⌝ }
+    {
         Tally {
             records: self.records,
             compared: self.compared,
@@ -43,7 +54,9 @@ impl Tally {
         }
     }
 
-    pub fn compare(self, same: bool) -> Self {
+    pub fn compare(self, same: bool) -> Self
+        ensures { λ r. ⌜ r ≡ comparing same self ⌝ }
+    {
         if same {
             return Tally {
                 records: self.records,
@@ -58,7 +71,9 @@ impl Tally {
         }
     }
 
-    pub fn with(self, other: Tally) -> Self {
+    pub fn with(self, other: Tally) -> Self
+        ensures { λ r. ⌜ r ≡ together self other ⌝ }
+    {
         Tally {
             records: sum(self.records, other.records),
             compared: sum(self.compared, other.compared),

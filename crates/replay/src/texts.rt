@@ -1,5 +1,8 @@
 // Texts with the answers of each function that takes one.
+ghost use mathlib.Core.Path.{_≡_};
 ghost use Prim.Native.Nat.{_<_, _≤_};
+ghost use Rattle.replay.specs.Bytes.{byteAt};
+ghost use Rattle.replay.specs.Texts.{isSet, comparedBit, firstSeven, lastSeven, textReplayed};
 use crate::bytes;
 use crate::tally::Tally;
 use leaves::text::edges::has_blank_edge_line;
@@ -21,6 +24,7 @@ use leaves::text::white::starts_with_white;
 // Whether the bit of this weight is set.
 fn bit(bits: u32, weight: u32) -> bool
     requires { ⌜ 0 < weight ⌝ }
+    ensures { λ r. ⌜ r ≡ isSet bits weight ⌝ }
 {
     bits / weight % 2 == 1
 }
@@ -28,6 +32,7 @@ fn bit(bits: u32, weight: u32) -> bool
 // An answer is compared with its bit where its bit is set in `mask`.
 fn compare_bit(mask: u32, bits: u32, weight: u32, answer: bool, tally: Tally) -> Tally
     requires { ⌜ 0 < weight ⌝ }
+    ensures { λ r. ⌜ r ≡ comparedBit mask bits weight answer tally ⌝ }
 {
     if bit(mask, weight) {
         return tally.compare(answer == bit(bits, weight));
@@ -36,7 +41,9 @@ fn compare_bit(mask: u32, bits: u32, weight: u32, answer: bool, tally: Tally) ->
 }
 
 // The answers of the first seven functions: the lowest bits.
-fn first_seven(s: &[u8], mask: u32, bits: u32, tally: Tally) -> Tally {
+fn first_seven(s: &[u8], mask: u32, bits: u32, tally: Tally) -> Tally
+    ensures { λ r. ⌜ r ≡ firstSeven (now (s .entry)) mask bits tally ⌝ }
+{
     let t = compare_bit(mask, bits, 0x1, is_utf8(s), tally);
     let t = compare_bit(mask, bits, 0x2, starts_with_white(s), t);
     let t = compare_bit(mask, bits, 0x4, ends_with_white(s), t);
@@ -48,7 +55,9 @@ fn first_seven(s: &[u8], mask: u32, bits: u32, tally: Tally) -> Tally {
 }
 
 // The answers of the last seven.
-fn last_seven(s: &[u8], mask: u32, bits: u32, tally: Tally) -> Tally {
+fn last_seven(s: &[u8], mask: u32, bits: u32, tally: Tally) -> Tally
+    ensures { λ r. ⌜ r ≡ lastSeven (now (s .entry)) mask bits tally ⌝ }
+{
     let toml = holds_fence_line(s, FrontmatterKind::Toml);
     let t = compare_bit(mask, bits, 0x80, toml, tally);
     let t = compare_bit(mask, bits, 0x100, is_alert_title(s), t);
@@ -63,13 +72,15 @@ fn last_seven(s: &[u8], mask: u32, bits: u32, tally: Tally) -> Tally {
 pub const HEAD: usize = 5;
 
 pub fn behind(r: &[u8]) -> usize
-    ensures { λ n. ⌜ n ≤ 255 ⌝ }
+    ensures { λ n. ⌜ (n ≡ byteAt (now (r .entry)) 0) × (n ≤ 255) ⌝ }
 {
-    bytes::size(bytes::byte(r, 0))
+    bytes::small(r, 0)
 }
 
 // The answers whose bit is set in the mask are compared.
-pub fn replay_record(r: &[u8], tally: Tally) -> Tally {
+pub fn replay_record(r: &[u8], tally: Tally) -> Tally
+    ensures { λ t. ⌜ t ≡ textReplayed (now (r .entry)) tally ⌝ }
+{
     let both = bytes::number(r, 1);
     let mask = both % 0x1_0000;
     let bits = both / 0x1_0000;

@@ -1,5 +1,8 @@
 // Pairs of texts, scalar values, and parts of a text.
+ghost use mathlib.Core.Path.{_≡_};
 ghost use Prim.Native.Nat.{_≤_};
+ghost use Rattle.replay.specs.Bytes.{byteAt};
+ghost use Rattle.replay.specs.Values.{pairReplayed, punctuationReplayed, partReplayed};
 use crate::bytes;
 use crate::tally::Tally;
 use leaves::text::part::part;
@@ -12,13 +15,15 @@ pub const PAIR: usize = 3;
 pub fn behind_pair(r: &[u8]) -> usize
     ensures { λ n. ⌜ n ≤ 510 ⌝ }
 {
-    bytes::size(bytes::byte(r, 0)) + bytes::size(bytes::byte(r, 1))
+    bytes::small(r, 0) + bytes::small(r, 1)
 }
 
 // Whether the two texts are the same is compared.
-pub fn replay_pair(r: &[u8], tally: Tally) -> Tally {
-    let n = bytes::size(bytes::byte(r, 0));
-    let m = bytes::size(bytes::byte(r, 1));
+pub fn replay_pair(r: &[u8], tally: Tally) -> Tally
+    ensures { λ t. ⌜ t ≡ pairReplayed (now (r .entry)) tally ⌝ }
+{
+    let n = bytes::small(r, 0);
+    let m = bytes::small(r, 1);
     let same = same_bytes(part(r, PAIR, n), part(r, PAIR + n, m));
     tally.record().compare(same == (bytes::byte(r, 2) == 1))
 }
@@ -27,7 +32,9 @@ pub fn replay_pair(r: &[u8], tally: Tally) -> Tally {
 pub const PUNCTUATION: usize = 5;
 
 // Whether the scalar value is ASCII punctuation is compared.
-pub fn replay_punctuation(r: &[u8], tally: Tally) -> Tally {
+pub fn replay_punctuation(r: &[u8], tally: Tally) -> Tally
+    ensures { λ t. ⌜ t ≡ punctuationReplayed (now (r .entry)) tally ⌝ }
+{
     let found = is_ascii_punctuation(bytes::number(r, 0));
     tally.record().compare(found == (bytes::byte(r, 4) == 1))
 }
@@ -36,13 +43,15 @@ pub fn replay_punctuation(r: &[u8], tally: Tally) -> Tally {
 pub const PART: usize = 17;
 
 pub fn behind_part(r: &[u8]) -> usize
-    ensures { λ n. ⌜ n ≤ 255 ⌝ }
+    ensures { λ n. ⌜ (n ≡ byteAt (now (r .entry)) 16) × (n ≤ 255) ⌝ }
 {
-    bytes::size(bytes::byte(r, 16))
+    bytes::small(r, 16)
 }
 
 // A part of the text 0, 1, .. 15 is compared.
-pub fn replay_part(r: &[u8], tally: Tally) -> Tally {
+pub fn replay_part(r: &[u8], tally: Tally) -> Tally
+    ensures { λ t. ⌜ t ≡ partReplayed (now (r .entry)) tally ⌝ }
+{
     let text = [0u8, 1, 2, 3, 4, 5, 6, 7, 8, 9, 10, 11, 12, 13, 14, 15];
     let found = part(&text, bytes::long_number(r, 0), bytes::long_number(r, 8));
     let expected = part(r, PART, behind_part(r));

@@ -1,6 +1,6 @@
 -- `replay::words::first` meets its contract.
-use borrow.Author.Needs.{needs}
 use lib.ListN.{length-take}
+use Rattle.replay.proofs.WordLaws.{words}
 use native.Mathlib.Omega.{arith}
 use Rattle.replay.proofs.words.first.Statement.{statement}
 use Rattle.replay.proofs.words.first.Tie as tie
@@ -12,7 +12,7 @@ pub first-spec : {M : Type 1} → statement M
 first-spec =
     tie.close
     (tie.spec
-    (λ c. search needs)
-    (λ c. search needs)
+    (λ c. search words)
+    (λ c. search words)
     slice-aggregate-result-2
-    (λ c. search needs))
+    (λ c. search words))

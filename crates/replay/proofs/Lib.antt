@@ -1,0 +1,5 @@
+pub mod ByteLaws
+pub mod TallyLaws
+pub mod TextLaws
+pub mod ValueLaws
+pub mod WordLaws

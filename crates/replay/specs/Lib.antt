@@ -1,0 +1,5 @@
+pub mod Bytes
+pub mod Tally
+pub mod Texts
+pub mod Values
+pub mod Words
