@@ -1,4 +1,8 @@
 pub mod ByteLaws
+pub mod CheckLaws
+pub mod FrontLaws
+pub mod ListLaws
+pub mod SheetLaws
 pub mod TallyLaws
 pub mod TextLaws
 pub mod ValueLaws

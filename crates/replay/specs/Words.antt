@@ -1,6 +1,7 @@
 -- The words of a stored file.
 use Prim.Native.Nat.{ℕ, zero, suc, _*_}
 use mathlib.Core.Bool.{Bool, true, _&&_}
+use mathlib.Core.Path.{_≡_}
 use mathlib.Core.List.{List, [], _∷_, _++_}
 use lib.Dec.{eqb, leb, ltb}
 use lib.ListN.{length, take}
@@ -36,3 +37,8 @@ wordOr s rest at = if ltb at (length s) then numberAt s at else rest
 -- every word is that of the bytes at its place, and `rest` behind them
 unfoldable pub sameWords : List ℕ → List ℕ → ℕ → Bool
 sameWords w s rest = agrees (λ k. wordOr s rest (k * 4)) 0 w
+
+-- a call answers the first of a pair, and leaves the second of the words that it is lent
+pub record Gives (both : ℕ × List ℕ) (answer : ℕ) (left : List ℕ) : Type 0 where
+  pub first : answer ≡ both .0
+  pub second : left ≡ both .1

@@ -1,5 +1,7 @@
 // A stored check and setting: a head of six counts (words of the sheet, bytes of the text, words of the list, words of the report, marks that are written, marks) and two answers (the check's, the setting machine's); behind it the sheet, the text, the list and the marks that are written.
+ghost use mathlib.Core.Path.{_≡_};
 ghost use Prim.Native.Nat.{_≤_};
+ghost use Rattle.replay.specs.Checks.{fitsOf, checkReplayed, setReplayed, checksReplayed};
 use crate::bytes;
 use crate::front;
 use crate::tally::Tally;
@@ -29,7 +31,9 @@ pub fn behind(r: &[u8]) -> usize
 }
 
 // Whether the sheet, the list in its report and the marks written among the marks are within their limits.
-fn fits(r: &[u8]) -> bool {
+fn fits(r: &[u8]) -> bool
+    ensures { λ b. ⌜ b ≡ fitsOf (now (r .entry)) ⌝ }
+{
     let report = bytes::pair(r, 6);
     let marks = bytes::pair(r, 10);
     (bytes::pair(r, 0) <= SHEET)
@@ -40,7 +44,9 @@ fn fits(r: &[u8]) -> bool {
 }
 
 // The check's answer is compared, and each word of the report: behind the list it stays as it was, past the report's end too.
-fn replay_check(r: &[u8], sheet: &[u32], text: &[u8], list: &[u8], tally: Tally) -> Tally {
+fn replay_check(r: &[u8], sheet: &[u32], text: &[u8], list: &[u8], tally: Tally) -> Tally
+    ensures { λ t. ⌜ t ≡ checkReplayed (now (r .entry)) (now (sheet .entry)) (now (text .entry)) (now (list .entry)) tally ⌝ }
+{
     let mut report = [BEFORE; REPORT];
     let found = front::answer(front::CHECK, sheet, text, &mut report, bytes::pair(r, 6));
     tally
@@ -49,7 +55,9 @@ fn replay_check(r: &[u8], sheet: &[u32], text: &[u8], list: &[u8], tally: Tally)
 }
 
 // The machine's answer is compared, and each mark: those of records that it does not open stay as they were, and so does what is past them.
-fn replay_set(r: &[u8], sheet: &[u32], text: &[u8], written: &[u8], tally: Tally) -> Tally {
+fn replay_set(r: &[u8], sheet: &[u32], text: &[u8], written: &[u8], tally: Tally) -> Tally
+    ensures { λ t. ⌜ t ≡ setReplayed (now (r .entry)) (now (sheet .entry)) (now (text .entry)) (now (written .entry)) tally ⌝ }
+{
     let mut marks = [BEFORE; MARKS];
     let found = front::answer(front::SET, sheet, text, &mut marks, bytes::pair(r, 10));
     tally
@@ -58,7 +66,9 @@ fn replay_set(r: &[u8], sheet: &[u32], text: &[u8], written: &[u8], tally: Tally
 }
 
 // Both calls, with the same sheet and text.
-pub fn replay_record(r: &[u8], tally: Tally) -> Tally {
+pub fn replay_record(r: &[u8], tally: Tally) -> Tally
+    ensures { λ t. ⌜ t ≡ checksReplayed (now (r .entry)) tally ⌝ }
+{
     let mut sheet = [0u32; SHEET];
     let n = bytes::pair(r, 0);
     let bytes = bytes::pair(r, 2);

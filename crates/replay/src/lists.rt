@@ -1,11 +1,14 @@
 // Sheets of one paragraph with what the Rust lists of its inlines.
+ghost use mathlib.Core.Path.{_≡_};
 ghost use Prim.Native.Nat.{_≤_};
+ghost use Rattle.replay.specs.Lists.{listedOf, listReplayed};
+ghost use Rattle.replay.specs.Words.{Gives};
 use crate::bytes;
 use crate::tally::Tally;
 use crate::words;
 use inlines::nodes::validate_inlines;
 use leaves::refusal::judge::accept;
-use leaves::refusal::verdict::Judged;
+use leaves::refusal::verdict::is_accepted;
 use leaves::report::entries;
 use leaves::sheet::records::RECORD_WORDS;
 use leaves::text::part::part;
@@ -23,23 +26,25 @@ pub fn behind(r: &[u8]) -> usize
 }
 
 // How many words the list of the first block's inlines has, which is written into the report; none where the sheet is refused.
-fn listed(sheet: &[u32], text: &[u8], report: &mut [u32]) -> usize {
+fn listed(sheet: &[u32], text: &[u8], report: &mut [u32]) -> usize
+    ensures { λ r. ⌜ Gives (listedOf (now (sheet .entry)) (now (text .entry)) (now (report .entry))) r (now (report .exit)) ⌝ }
+{
     let n = sheet.len() / RECORD_WORDS;
     if n < 1 {
         return 0;
     }
-    match accept(sheet, text) {
-        Judged::Accepted => {
-            let path = [0u32; 1];
-            let w = validate_inlines(sheet, text, report, &path, n, 1, 1, entries::none());
-            w.tally.words
-        }
-        _ => 0,
+    if !is_accepted(accept(sheet, text)) {
+        return 0;
     }
+    let path = [0u32; 1];
+    let w = validate_inlines(sheet, text, report, &path, n, 1, 1, entries::none());
+    w.tally.words
 }
 
 // The length of the list is compared, and each word of the report: behind the list it stays 0.
-pub fn replay_record(r: &[u8], tally: Tally) -> Tally {
+pub fn replay_record(r: &[u8], tally: Tally) -> Tally
+    ensures { λ t. ⌜ t ≡ listReplayed (now (r .entry)) tally ⌝ }
+{
     let mut sheet = [0u32; MOST];
     let mut report = [0u32; MOST];
     let n = bytes::pair(r, 0);

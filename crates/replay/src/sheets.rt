@@ -1,5 +1,7 @@
 // Sheets with the refusal that a plain reading of document 01 gives each.
+ghost use mathlib.Core.Path.{_≡_};
 ghost use Prim.Native.Nat.{_≤_};
+ghost use Rattle.replay.specs.Sheets.{judgedOf, sheetReplayed};
 use crate::bytes;
 use crate::tally::Tally;
 use crate::words;
@@ -21,7 +23,9 @@ pub fn behind(r: &[u8]) -> usize
 }
 
 // The answer for a stored sheet; as for a sheet of no words where there are more than may be.
-fn judged(r: &[u8]) -> Judged {
+fn judged(r: &[u8]) -> Judged
+    ensures { λ j. ⌜ j ≡ judgedOf (now (r .entry)) ⌝ }
+{
     let mut sheet = [0u32; MOST];
     let n = bytes::pair(r, 0);
     words::fill(&mut sheet, part(r, HEAD, n * 4));
@@ -30,7 +34,9 @@ fn judged(r: &[u8]) -> Judged {
 }
 
 // Both the number and the record of the answer are compared.
-pub fn replay_record(r: &[u8], tally: Tally) -> Tally {
+pub fn replay_record(r: &[u8], tally: Tally) -> Tally
+    ensures { λ t. ⌜ t ≡ sheetReplayed (now (r .entry)) tally ⌝ }
+{
     let fits = bytes::pair(r, 0) <= MOST;
     let answer = judged(r);
     let number = verdict::number_of(answer) as usize;

@@ -1,6 +1,6 @@
 -- `replay::front::answer` meets its contract.
-use borrow.Author.Needs.{needs}
 use lib.ListN.{length-take}
+use Rattle.replay.proofs.FrontLaws.{fronts}
 use native.Mathlib.Omega.{arith}
 use Rattle.replay.proofs.front.answer.Statement.{statement}
 use Rattle.replay.proofs.front.answer.Tie as tie
@@ -12,9 +12,9 @@ pub answer-spec : {M : Type 1} → statement M
 answer-spec =
     tie.close
     (tie.spec
-    (λ c. search needs)
-    (λ c. search needs)
+    (λ c. search fronts)
+    (λ c. search fronts)
     slice-aggregate-call
-    (λ c κs. search needs)
-    (λ c. search needs)
-    (λ c. search needs))
+    (λ c κs. search fronts)
+    (λ c. search fronts)
+    (λ c. search fronts))
