@@ -1,7 +1,9 @@
 pub mod ByteLaws
 pub mod CheckLaws
+pub mod FilmLaws
 pub mod FrontLaws
 pub mod ListLaws
+pub mod LongLaws
 pub mod SheetLaws
 pub mod TallyLaws
 pub mod TextLaws

@@ -1,6 +1,7 @@
 pub mod Bytes
 pub mod Checks
 pub mod Films
+pub mod Format
 pub mod Front
 pub mod Lists
 pub mod Long

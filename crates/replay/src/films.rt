@@ -1,5 +1,8 @@
 // A stored film: how many bytes it has and how many are printed for it (4 bytes each), the film, what is printed.
+ghost use mathlib.Core.Path.{_≡_};
 ghost use Prim.Native.Nat.{_<_, _^_};
+ghost use lib.ListN.{getD};
+ghost use Rattle.replay.specs.Films.{before, untouched, samePrinted, filmReplayed};
 use crate::bytes;
 use crate::tally::Tally;
 use leaves::text::part::part;
@@ -21,12 +24,16 @@ pub fn behind(r: &[u8]) -> usize
     bytes::large(r, 0) + bytes::large(r, 4)
 }
 
-// No contract gives the length of this, so that no proof computes it.
-fn output() -> [u8; OUTPUT_BYTES] {
+// The output before a film is listed. Its definition stays shut where the function is called, so that no proof computes it there.
+fn output() -> [u8; OUTPUT_BYTES]
+    ensures { λ r. ⌜ r ≡ untouched ⌝ }
+{
     [BEFORE; OUTPUT_BYTES]
 }
 
-fn wanted_byte(wanted: &[u8], at: usize) -> u8 {
+fn wanted_byte(wanted: &[u8], at: usize) -> u8
+    ensures { λ r. ⌜ r ≡ getD (now (wanted .entry)) at before ⌝ }
+{
     if at < wanted.len() {
         wanted[at]
     } else {
@@ -35,9 +42,11 @@ fn wanted_byte(wanted: &[u8], at: usize) -> u8 {
 }
 
 // Whether the bytes are those wanted, and as before behind them.
-fn same(bytes: &[u8; OUTPUT_BYTES], wanted: &[u8]) -> bool {
+fn same(bytes: &[u8], wanted: &[u8]) -> bool
+    ensures { λ r. ⌜ r ≡ samePrinted (now (bytes .entry)) (now (wanted .entry)) ⌝ }
+{
     let mut k: usize = 0;
-    while k < OUTPUT_BYTES {
+    while k < bytes.len() {
         if bytes[k] != wanted_byte(wanted, k) {
             return false;
         }
@@ -46,8 +55,17 @@ fn same(bytes: &[u8; OUTPUT_BYTES], wanted: &[u8]) -> bool {
     true
 }
 
+// The same of the whole output.
+fn same_output(bytes: &[u8; OUTPUT_BYTES], wanted: &[u8]) -> bool
+    ensures { λ r. ⌜ r ≡ samePrinted (now (bytes .entry)) (now (wanted .entry)) ⌝ }
+{
+    same(bytes, wanted)
+}
+
 // The number of bytes printed is compared, and each byte of the output: behind what is printed it stays as it was.
-pub fn replay_film(r: &[u8], tally: Tally) -> Tally {
+pub fn replay_film(r: &[u8], tally: Tally) -> Tally
+    ensures { λ t. ⌜ t ≡ filmReplayed (now (r .entry)) tally ⌝ }
+{
     let n = bytes::large(r, 0);
     let m = bytes::large(r, 4);
     let wanted = part(r, HEAD + n, m);
@@ -56,5 +74,5 @@ pub fn replay_film(r: &[u8], tally: Tally) -> Tally {
     tally
         .record()
         .compare(printed == m)
-        .compare(same(&bytes, wanted))
+        .compare(same_output(&bytes, wanted))
 }

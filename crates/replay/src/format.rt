@@ -1,5 +1,7 @@
 // The formats of the files, and a record by its format.
+ghost use mathlib.Core.Path.{_≡_};
 ghost use Prim.Native.Nat.{_≤_, _<_, _^_};
+ghost use Rattle.replay.specs.Format.{replayed};
 use crate::checks;
 use crate::films;
 use crate::lists;
@@ -56,7 +58,9 @@ pub fn behind(format: Format, r: &[u8]) -> usize
 }
 
 // A record is replayed. The sheet and the text are the long ones of calls.
-pub fn replay_record(format: Format, r: &[u8], sheet: &[u32], text: &[u8], tally: Tally) -> Tally {
+pub fn replay_record(format: Format, r: &[u8], sheet: &[u32], text: &[u8], tally: Tally) -> Tally
+    ensures { λ t. ⌜ t ≡ replayed format (now (r .entry)) (now (sheet .entry)) (now (text .entry)) tally ⌝ }
+{
     match format {
         Format::Texts => texts::replay_record(r, tally),
         Format::Pairs => values::replay_pair(r, tally),

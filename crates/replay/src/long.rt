@@ -1,4 +1,7 @@
 // A stored call with a long sheet or a long text: the function, the words of the sheet, the bytes of the text, the words lent to be written into, how many bytes of those are 0 behind the call (4 bytes each); the answer (8 bytes). The sheet is of thematic breaks, the text of zeros.
+ghost use mathlib.Core.Path.{_≡_};
+ghost use lib.ListN.{length};
+ghost use Rattle.replay.specs.Long.{breakWord, breaksOf, untouched, callReplayed};
 use crate::bytes;
 use crate::front;
 use crate::tally::Tally;
@@ -20,7 +23,7 @@ const LENT: usize = 65544;
 // Every word that is lent to be written into, before the call.
 const BEFORE: u32 = 0xA5A5_A5A5;
 
-// No contract gives the lengths of these three, so that no proof computes them.
+// No contract says what these two hold, so that no proof computes them.
 pub fn sheet() -> [u32; SHEET] {
     [0u32; SHEET]
 }
@@ -29,12 +32,17 @@ pub fn text() -> [u8; TEXT] {
     [0u8; TEXT]
 }
 
-fn lent() -> [u32; LENT] {
+// What is lent, before the call. Its definition stays shut where the function is called, so that no proof computes it there.
+fn lent() -> [u32; LENT]
+    ensures { λ r. ⌜ r ≡ untouched ⌝ }
+{
     [BEFORE; LENT]
 }
 
 // A word of a thematic break at level 1: kind 3, level 1, and 0.
-fn word(field: usize) -> u32 {
+fn word(field: usize) -> u32
+    ensures { λ r. ⌜ r ≡ breakWord field ⌝ }
+{
     if field == 0 {
         return 3;
     }
@@ -45,7 +53,9 @@ fn word(field: usize) -> u32 {
 }
 
 // Thematic breaks at level 1, one after another.
-pub fn breaks(words: &mut [u32]) {
+pub fn breaks(words: &mut [u32])
+    ensures { λ _. ⌜ now (words .exit) ≡ breaksOf (length (now (words .entry))) ⌝ }
+{
     let mut k: usize = 0;
     while k < words.len() {
         words[k] = word(k % 12);
@@ -54,7 +64,9 @@ pub fn breaks(words: &mut [u32]) {
 }
 
 // The answer is compared, and each word that is lent, past the end of what the function sees too.
-pub fn replay_call(r: &[u8], sheet: &[u32], text: &[u8], tally: Tally) -> Tally {
+pub fn replay_call(r: &[u8], sheet: &[u32], text: &[u8], tally: Tally) -> Tally
+    ensures { λ t. ⌜ t ≡ callReplayed (now (r .entry)) (now (sheet .entry)) (now (text .entry)) tally ⌝ }
+{
     let mut lent = lent();
     let n = bytes::large(r, 4);
     let seen = part(text, 0, bytes::large(r, 8));

@@ -1,14 +1,15 @@
 -- `replay::long::breaks` meets its contract.
-use Prim.Native.Nat.{_-_}
-use borrow.Author.Needs.{needs}
+use Prim.Native.Nat.{_-_, _%_}
 use lib.ListN.{length, length-set}
-use mathlib.Core.Path.{_≡_}
+use Rattle.replay.specs.Long.{breakWord, breaksOf}
+use Rattle.replay.proofs.WordLaws.{Filling}
+use Rattle.replay.proofs.WordLaws.{words}
 use native.Mathlib.Omega.{arith}
 use Rattle.replay.proofs.long.breaks.Statement.{statement}
 use Rattle.replay.proofs.long.breaks.Tie as tie
 
 abbrev Inv-loop : tie.InvT-loop
-Inv-loop words₀ k₀ words k = length words ≡ length words₀
+Inv-loop words₀ k₀ words k = Filling (λ j. breakWord (j % 12)) words₀ words k
 
 abbrev μ-loop : tie.MeasureT-loop
 μ-loop words₀ k₀ words k = length words - k
@@ -16,8 +17,9 @@ abbrev μ-loop : tie.MeasureT-loop
 loop-less : tie.Need-loop-less Inv-loop μ-loop
 loop-less c = simp length-set (omega arith)
 
-loop-again : tie.Need-loop-again Inv-loop μ-loop
-loop-again c = simp length-set (search needs)
+returns : tie.Need-returns Inv-loop μ-loop
+unfolding breaksOf
+returns c = search words
 
 pub breaks-spec : {M : Type 1} → statement M
 breaks-spec =
@@ -25,12 +27,12 @@ breaks-spec =
     (tie.spec
     Inv-loop
     μ-loop
-    (λ c. search needs)
-    (λ c κs. search needs)
-    (λ c. search needs)
-    (λ c. search needs)
-    (λ c. search needs)
+    (λ c. search words)
+    (λ c κs. search words)
+    (λ c. search words)
+    (λ c. search words)
+    (λ c. search words)
     loop-less
-    loop-again
-    (λ c. search needs)
-    (λ c. search needs))
+    (λ c. search words)
+    (λ c. search words)
+    returns)
