@@ -1,53 +1,48 @@
 // Sheets with the refusal that a plain reading of document 01 gives each.
+ghost use mathlib.Core.Path.{_≡_};
 ghost use Prim.Native.Nat.{_≤_};
+ghost use Rattle.replay.specs.Sheets.{judgedOf, sheetReplayed};
+use crate::bytes;
+use crate::tally::Tally;
+use crate::words;
+use leaves::refusal::judge::accept;
 use leaves::refusal::verdict;
 use leaves::refusal::verdict::Judged;
-use stored::read;
-use stored::tally::Tally;
-use stored::words::fill;
+use leaves::text::part::part;
 
 // How many bytes stand before a record's words: two counts, the number, and its record.
 pub const HEAD: usize = 7;
 
-fn words_of(r: &[u8]) -> usize
-    ensures { λ n. ⌜ n ≤ 65535 ⌝ }
-{
-    read::pair(r, 0)
-}
-
-fn text_bytes_of(r: &[u8]) -> usize
-    ensures { λ n. ⌜ n ≤ 65535 ⌝ }
-{
-    read::pair(r, 2)
-}
+// The most words of a sheet.
+const MOST: usize = 800;
 
 pub fn behind(r: &[u8]) -> usize
     ensures { λ n. ⌜ n ≤ 327675 ⌝ }
 {
-    words_of(r) * 4 + text_bytes_of(r)
+    bytes::pair(r, 0) * 4 + bytes::pair(r, 2)
 }
 
-// The answer for a stored sheet, whose words are brought to `words`; none where they do not fit.
-fn judged(words: &mut [u32], r: &[u8]) -> Judged {
-    let n = words_of(r);
-    fill(words, leaves::text::part::part(r, HEAD, n * 4));
-    let text = leaves::text::part::part(r, HEAD + n * 4, text_bytes_of(r));
-    if words.len() < n {
-        return Judged::Accepted;
-    }
-    leaves::refusal::judge::accept(&words[..n], text)
+// The answer for a stored sheet; as for a sheet of no words where there are more than may be.
+fn judged(r: &[u8]) -> Judged
+    ensures { λ j. ⌜ j ≡ judgedOf (now (r .entry)) ⌝ }
+{
+    let mut sheet = [0u32; MOST];
+    let n = bytes::pair(r, 0);
+    words::fill(&mut sheet, part(r, HEAD, n * 4));
+    let text = part(r, HEAD + n * 4, bytes::pair(r, 2));
+    accept(words::first(&sheet, n), text)
 }
 
 // Both the number and the record of the answer are compared.
-pub fn replay_record(r: &[u8], tally: Tally) -> Tally {
-    let mut words = [0u32; 800];
-    let answer = judged(&mut words, r);
+pub fn replay_record(r: &[u8], tally: Tally) -> Tally
+    ensures { λ t. ⌜ t ≡ sheetReplayed (now (r .entry)) tally ⌝ }
+{
+    let fits = bytes::pair(r, 0) <= MOST;
+    let answer = judged(r);
     let number = verdict::number_of(answer) as usize;
     let record = verdict::record_of(answer);
-    let fits = words_of(r) <= 800;
-    let expected = read::size(read::byte(r, 4));
     tally
         .record()
-        .compare(fits & (number == expected))
-        .compare(fits & (record == read::pair(r, 5)))
+        .compare(fits & (number == bytes::small(r, 4)))
+        .compare(fits & (record == bytes::pair(r, 5)))
 }

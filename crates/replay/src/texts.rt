@@ -1,91 +1,94 @@
 // Texts with the answers of each function that takes one.
+ghost use mathlib.Core.Path.{_≡_};
+ghost use Prim.Native.Nat.{_<_, _≤_};
+ghost use Rattle.replay.specs.Bytes.{byteAt};
+ghost use Rattle.replay.specs.Texts.{isSet, comparedBit, firstSeven, lastSeven, textReplayed};
+use crate::bytes;
+use crate::tally::Tally;
+use leaves::text::edges::has_blank_edge_line;
 use leaves::text::fence::FrontmatterKind;
-use stored::read;
-use stored::tally::Tally;
-ghost use Prim.Native.Nat.{_≤_};
+use leaves::text::fence::holds_fence_line;
+use leaves::text::lines::holds_line_ending;
+use leaves::text::lines::is_blank;
+use leaves::text::math::holds_backtick_dollar;
+use leaves::text::name::is_attribute_name;
+use leaves::text::name::is_blank_identifier;
+use leaves::text::name::is_directive_name;
+use leaves::text::part::part;
+use leaves::text::pipe::has_odd_escaped_pipe;
+use leaves::text::title::is_alert_title;
+use leaves::text::utf8::is_utf8;
+use leaves::text::white::ends_with_white;
+use leaves::text::white::starts_with_white;
 
-fn flag(yes: bool, weight: u32) -> u32
-    ensures { λ r. ⌜ r ≤ weight ⌝ }
+// Whether the bit of this weight is set.
+fn bit(bits: u32, weight: u32) -> bool
+    requires { ⌜ 0 < weight ⌝ }
+    ensures { λ r. ⌜ r ≡ isSet bits weight ⌝ }
 {
-    if yes { weight } else { 0 }
+    bits / weight % 2 == 1
 }
 
-fn first_seven(s: &[u8]) -> u32
-    ensures { λ r. ⌜ r ≤ 0x7F ⌝ }
+// An answer is compared with its bit where its bit is set in `mask`.
+fn compare_bit(mask: u32, bits: u32, weight: u32, answer: bool, tally: Tally) -> Tally
+    requires { ⌜ 0 < weight ⌝ }
+    ensures { λ r. ⌜ r ≡ comparedBit mask bits weight answer tally ⌝ }
 {
-    flag(leaves::text::utf8::is_utf8(s), 0x01)
-        + flag(leaves::text::white::starts_with_white(s), 0x02)
-        + flag(leaves::text::white::ends_with_white(s), 0x04)
-        + flag(leaves::text::lines::holds_line_ending(s), 0x08)
-        + flag(leaves::text::lines::is_blank(s), 0x10)
-        + flag(leaves::text::edges::has_blank_edge_line(s), 0x20)
-        + flag(
-            leaves::text::fence::holds_fence_line(s, FrontmatterKind::Yaml),
-            0x40,
-        )
-}
-
-fn last_seven(s: &[u8]) -> u32
-    ensures { λ r. ⌜ r ≤ 0x7F ⌝ }
-{
-    flag(
-        leaves::text::fence::holds_fence_line(s, FrontmatterKind::Toml),
-        0x01,
-    )
-        + flag(leaves::text::title::is_alert_title(s), 0x02)
-        + flag(leaves::text::pipe::has_odd_escaped_pipe(s), 0x04)
-        + flag(leaves::text::name::is_directive_name(s), 0x08)
-        + flag(leaves::text::name::is_attribute_name(s), 0x10)
-        + flag(leaves::text::name::is_blank_identifier(s), 0x20)
-        + flag(leaves::text::math::holds_backtick_dollar(s), 0x40)
-}
-
-// The answers of the fourteen functions, the first as the lowest bit.
-fn answers(s: &[u8]) -> u32 {
-    first_seven(s) + last_seven(s) * 0x80
-}
-
-// The answers whose bit is set in `mask` are compared.
-fn compare(mask: u32, expected: u32, found: u32, tally: Tally) -> Tally {
-    let mut t = tally;
-    let mut m = mask;
-    let mut e = expected;
-    let mut f = found;
-    let mut k: u32 = 0;
-    while k < 14 {
-        t = compare_bit(m % 2 == 1, e % 2 == f % 2, t);
-        m = m / 2;
-        e = e / 2;
-        f = f / 2;
-        k = k + 1;
-    }
-    t
-}
-
-fn compare_bit(wanted: bool, same: bool, tally: Tally) -> Tally {
-    if wanted {
-        return tally.compare(same);
+    if bit(mask, weight) {
+        return tally.compare(answer == bit(bits, weight));
     }
     tally
+}
+
+// The answers of the first seven functions: the lowest bits.
+fn first_seven(s: &[u8], mask: u32, bits: u32, tally: Tally) -> Tally
+    ensures { λ r. ⌜ r ≡ firstSeven (now (s .entry)) mask bits tally ⌝ }
+{
+    let t = compare_bit(mask, bits, 0x1, is_utf8(s), tally);
+    let t = compare_bit(mask, bits, 0x2, starts_with_white(s), t);
+    let t = compare_bit(mask, bits, 0x4, ends_with_white(s), t);
+    let t = compare_bit(mask, bits, 0x8, holds_line_ending(s), t);
+    let t = compare_bit(mask, bits, 0x10, is_blank(s), t);
+    let t = compare_bit(mask, bits, 0x20, has_blank_edge_line(s), t);
+    let yaml = holds_fence_line(s, FrontmatterKind::Yaml);
+    compare_bit(mask, bits, 0x40, yaml, t)
+}
+
+// The answers of the last seven.
+fn last_seven(s: &[u8], mask: u32, bits: u32, tally: Tally) -> Tally
+    ensures { λ r. ⌜ r ≡ lastSeven (now (s .entry)) mask bits tally ⌝ }
+{
+    let toml = holds_fence_line(s, FrontmatterKind::Toml);
+    let t = compare_bit(mask, bits, 0x80, toml, tally);
+    let t = compare_bit(mask, bits, 0x100, is_alert_title(s), t);
+    let t = compare_bit(mask, bits, 0x200, has_odd_escaped_pipe(s), t);
+    let t = compare_bit(mask, bits, 0x400, is_directive_name(s), t);
+    let t = compare_bit(mask, bits, 0x800, is_attribute_name(s), t);
+    let t = compare_bit(mask, bits, 0x1000, is_blank_identifier(s), t);
+    compare_bit(mask, bits, 0x2000, holds_backtick_dollar(s), t)
 }
 
 // How many bytes stand before a record's text: its length, the mask, the answers.
 pub const HEAD: usize = 5;
 
 pub fn behind(r: &[u8]) -> usize
-    ensures { λ n. ⌜ n ≤ 255 ⌝ }
+    ensures { λ n. ⌜ (n ≡ byteAt (now (r .entry)) 0) × (n ≤ 255) ⌝ }
 {
-    read::size(read::byte(r, 0))
+    bytes::small(r, 0)
 }
 
-pub fn replay_record(r: &[u8], tally: Tally) -> Tally {
-    let n = read::size(read::byte(r, 0));
-    let both = read::number(r, 1);
-    let text = leaves::text::part::part(r, HEAD, n);
-    compare(
-        both % 0x1_0000,
-        both / 0x1_0000,
-        answers(text),
-        tally.record(),
+// The answers whose bit is set in the mask are compared.
+pub fn replay_record(r: &[u8], tally: Tally) -> Tally
+    ensures { λ t. ⌜ t ≡ textReplayed (now (r .entry)) tally ⌝ }
+{
+    let both = bytes::number(r, 1);
+    let mask = both % 0x1_0000;
+    let bits = both / 0x1_0000;
+    let text = part(r, HEAD, behind(r));
+    last_seven(
+        text,
+        mask,
+        bits,
+        first_seven(text, mask, bits, tally.record()),
     )
 }

@@ -1,8 +1,8 @@
 //! Writes the stored answers of the Rust reference for the text leaves, the
 //! inline walk and whole checks, and of a plain reading of document 01 for the
 //! refusals, the setting machine and the listing program, of Reedsander, the checker of grade notes:
-//! `vectors CRATES`. Each file goes to the data of the program in that folder
-//! that replays it.
+//! `vectors CRATES`. The files go to the data of the program in that folder
+//! that replays them.
 //!
 //! The text files `utf8`, `white`, `lines`, `names` and `pipes` hold records
 //! of a length n (1 byte), a mask (2 bytes), answers (2 bytes) and n bytes of
@@ -65,13 +65,16 @@ fn main() -> ExitCode {
     }
 }
 
-/// Writes every file into the data of its program, and prints a line for each, and under it
+/// The program that replays the files.
+const PROGRAM: &str = "replay";
+
+/// Writes every file into the data of the program, and prints a line for each, and under it
 /// a line for each rule of its reports.
 fn write(crates: &Path) -> std::io::Result<()> {
+    let folder = crates.join(PROGRAM).join("data");
+    fs::create_dir_all(&folder)?;
     for file in files::all() {
         assert!(file.bytes.len() <= file.longest(), "{} is long", file.name);
-        let folder = crates.join(program(file.name)).join("data");
-        fs::create_dir_all(&folder)?;
         fs::write(folder.join(file.name), &file.bytes)?;
         println!(
             "{:<12} {:>7} records {:>8} bytes",
@@ -84,13 +87,4 @@ fn write(crates: &Path) -> std::io::Result<()> {
         }
     }
     Ok(())
-}
-
-/// The program that replays a file.
-fn program(file: &str) -> &'static str {
-    match file {
-        "checks" | "long_checks" | "long_sets" => "recheck",
-        "films" => "relist",
-        _ => "replay",
-    }
 }

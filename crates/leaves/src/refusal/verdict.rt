@@ -55,7 +55,7 @@ pub fn record_of(j: Judged) -> usize
 }
 
 // Whether nothing is refused.
-pub(crate) fn is_accepted(j: Judged) -> bool
+pub fn is_accepted(j: Judged) -> bool
     ensures { λ r. ⌜ r ≡ isAccepted j ⌝ }
 {
     number_of(j) == 0

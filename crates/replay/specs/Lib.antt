@@ -1,0 +1,12 @@
+pub mod Bytes
+pub mod Checks
+pub mod Films
+pub mod Format
+pub mod Front
+pub mod Lists
+pub mod Long
+pub mod Sheets
+pub mod Tally
+pub mod Texts
+pub mod Values
+pub mod Words

@@ -1,0 +1,31 @@
+-- Sheets with the refusal of each.
+use Prim.Native.Nat.{ℕ, _+_, _*_}
+use mathlib.Core.Bool.{Bool, _&&_}
+use mathlib.Core.List.{List}
+use lib.Dec.{eqb, leb}
+use Rattle.leaves.specs.Text.Part.{partOf}
+use Rattle.leaves.specs.Refusal.Judge.{judgeSheet}
+use Rattle.leaves.specs.Refusal.Verdict.{numberOf, recordOf}
+use Rattle.leaves.specs.declared.refusal.verdict.Judged.{Judged}
+use Rattle.replay.specs.declared.tally.Tally.{Tally}
+use Rattle.replay.specs.Bytes.{byteAt, pairAt}
+use Rattle.replay.specs.Tally.{recorded, comparing}
+use Rattle.replay.specs.Words.{wordsOf, firstOf}
+
+-- the sheet that stands in a record from `at` on, n words of at most `room`: no words where it has more
+unfoldable pub sheetIn : List ℕ → ℕ → ℕ → ℕ → List ℕ
+sheetIn r at n room = firstOf (wordsOf room (partOf r at (n * 4))) n
+
+-- a sheet has at most 800 words
+abbrev pub fewWords : List ℕ → Bool
+fewWords r = leb (pairAt r 0) 800
+
+-- the answer for the sheet and the text of a record
+unfoldable pub judgedOf : List ℕ → Judged
+judgedOf r = judgeSheet (sheetIn r 7 (pairAt r 0) 800) (partOf r (7 + pairAt r 0 * 4) (pairAt r 2))
+
+-- the number and the record of the answer, and those that are stored
+unfoldable pub sheetReplayed : List ℕ → Tally → Tally
+sheetReplayed r t =
+    comparing (fewWords r && eqb (recordOf (judgedOf r)) (pairAt r 5))
+    (comparing (fewWords r && eqb (numberOf (judgedOf r)) (byteAt r 4)) (recorded t))

@@ -1,0 +1,34 @@
+-- What is counted: records, answers that are compared, and those that differ.
+use Prim.Native.Nat.{ℕ, _+_}
+use mathlib.Core.Bool.{Bool}
+use lib.Dec.{leb}
+use Rattle.leaves.specs.Text.Lists.{if_then_else_}
+use Rattle.replay.specs.declared.tally.Tally.{Tally}
+
+-- where sums stop: no file comes near
+abbrev pub most : ℕ
+most = 0x1000000000000000
+
+-- a sum of two counts
+unfoldable pub sumOf : ℕ → ℕ → ℕ
+sumOf a b = if leb most a then most else if leb most b then most else a + b
+
+-- nothing is counted yet
+abbrev pub nothing : Tally
+nothing = record { records = 0; compared = 0; differ = 0 }
+
+-- one record more
+unfoldable pub recorded : Tally → Tally
+recorded t = record { records = sumOf (t .records) 1; compared = t .compared; differ = t .differ }
+
+-- one difference more, without a comparison
+unfoldable pub differing : Tally → Tally
+differing t = record { records = t .records; compared = t .compared; differ = sumOf (t .differ) 1 }
+
+-- one comparison more: a difference more exactly where the two are not the same
+unfoldable pub comparing : Bool → Tally → Tally
+comparing same t = record { records = t .records; compared = sumOf (t .compared) 1; differ = if same then t .differ else sumOf (t .differ) 1 }
+
+-- both tallies
+unfoldable pub together : Tally → Tally → Tally
+together t u = record { records = sumOf (t .records) (u .records); compared = sumOf (t .compared) (u .compared); differ = sumOf (t .differ) (u .differ) }

@@ -1,0 +1,75 @@
+// The formats of the files, and a record by its format.
+ghost use mathlib.Core.Path.{_≡_};
+ghost use Prim.Native.Nat.{_≤_, _<_, _^_};
+ghost use Rattle.replay.specs.Format.{replayed};
+use crate::checks;
+use crate::films;
+use crate::lists;
+use crate::long;
+use crate::sheets;
+use crate::tally::Tally;
+use crate::texts;
+use crate::values;
+
+pub enum Format {
+    Texts,
+    Pairs,
+    Punctuation,
+    Parts,
+    Sheets,
+    Lists,
+    Checks,
+    Films,
+    Calls,
+}
+
+// How many bytes of a record say how long it is.
+pub fn head_of(format: Format) -> usize
+    ensures { λ n. ⌜ n ≤ 28 ⌝ }
+{
+    match format {
+        Format::Texts => texts::HEAD,
+        Format::Pairs => values::PAIR,
+        Format::Punctuation => values::PUNCTUATION,
+        Format::Parts => values::PART,
+        Format::Sheets => sheets::HEAD,
+        Format::Lists => lists::HEAD,
+        Format::Checks => checks::HEAD,
+        Format::Films => films::HEAD,
+        Format::Calls => long::BYTES,
+    }
+}
+
+// How many bytes stand behind them.
+pub fn behind(format: Format, r: &[u8]) -> usize
+    ensures { λ n. ⌜ n < 2 ^ 33 ⌝ }
+{
+    match format {
+        Format::Texts => texts::behind(r),
+        Format::Pairs => values::behind_pair(r),
+        Format::Punctuation => 0,
+        Format::Parts => values::behind_part(r),
+        Format::Sheets => sheets::behind(r),
+        Format::Lists => lists::behind(r),
+        Format::Checks => checks::behind(r),
+        Format::Films => films::behind(r),
+        Format::Calls => 0,
+    }
+}
+
+// A record is replayed. The sheet and the text are the long ones of calls.
+pub fn replay_record(format: Format, r: &[u8], sheet: &[u32], text: &[u8], tally: Tally) -> Tally
+    ensures { λ t. ⌜ t ≡ replayed format (now (r .entry)) (now (sheet .entry)) (now (text .entry)) tally ⌝ }
+{
+    match format {
+        Format::Texts => texts::replay_record(r, tally),
+        Format::Pairs => values::replay_pair(r, tally),
+        Format::Punctuation => values::replay_punctuation(r, tally),
+        Format::Parts => values::replay_part(r, tally),
+        Format::Sheets => sheets::replay_record(r, tally),
+        Format::Lists => lists::replay_record(r, tally),
+        Format::Checks => checks::replay_record(r, tally),
+        Format::Films => films::replay_film(r, tally),
+        Format::Calls => long::replay_call(r, sheet, text, tally),
+    }
+}

@@ -1,0 +1,81 @@
+// A stored call with a long sheet or a long text: the function, the words of the sheet, the bytes of the text, the words lent to be written into, how many bytes of those are 0 behind the call (4 bytes each); the answer (8 bytes). The sheet is of thematic breaks, the text of zeros.
+ghost use mathlib.Core.Path.{_≡_};
+ghost use lib.ListN.{length};
+ghost use Rattle.replay.specs.Long.{breakWord, breaksOf, untouched, callReplayed};
+use crate::bytes;
+use crate::front;
+use crate::tally::Tally;
+use crate::words;
+use leaves::text::part::part;
+
+// How many bytes a stored call has.
+pub const BYTES: usize = 28;
+
+// The words of 65,537 records: two records more than a sheet may have.
+const SHEET: usize = 786444;
+
+// One byte more than a text may have.
+const TEXT: usize = 16777217;
+
+// A few words more than a mark for each record.
+const LENT: usize = 65544;
+
+// Every word that is lent to be written into, before the call.
+const BEFORE: u32 = 0xA5A5_A5A5;
+
+// No contract says what these two hold, so that no proof computes them.
+pub fn sheet() -> [u32; SHEET] {
+    [0u32; SHEET]
+}
+
+pub fn text() -> [u8; TEXT] {
+    [0u8; TEXT]
+}
+
+// What is lent, before the call. Its definition stays shut where the function is called, so that no proof computes it there.
+fn lent() -> [u32; LENT]
+    ensures { λ r. ⌜ r ≡ untouched ⌝ }
+{
+    [BEFORE; LENT]
+}
+
+// A word of a thematic break at level 1: kind 3, level 1, and 0.
+fn word(field: usize) -> u32
+    ensures { λ r. ⌜ r ≡ breakWord field ⌝ }
+{
+    if field == 0 {
+        return 3;
+    }
+    if field == 1 {
+        return 1;
+    }
+    0
+}
+
+// Thematic breaks at level 1, one after another.
+pub fn breaks(words: &mut [u32])
+    ensures { λ _. ⌜ now (words .exit) ≡ breaksOf (length (now (words .entry))) ⌝ }
+{
+    let mut k: usize = 0;
+    while k < words.len() {
+        words[k] = word(k % 12);
+        k = k + 1;
+    }
+}
+
+// The answer is compared, and each word that is lent, past the end of what the function sees too.
+pub fn replay_call(r: &[u8], sheet: &[u32], text: &[u8], tally: Tally) -> Tally
+    ensures { λ t. ⌜ t ≡ callReplayed (now (r .entry)) (now (sheet .entry)) (now (text .entry)) tally ⌝ }
+{
+    let mut lent = lent();
+    let n = bytes::large(r, 4);
+    let seen = part(text, 0, bytes::large(r, 8));
+    let function = bytes::large(r, 0);
+    let m = bytes::large(r, 12);
+    let found = front::answer(function, words::first(sheet, n), seen, &mut lent, m);
+    let zeros = part(text, 0, bytes::large(r, 16));
+    tally
+        .record()
+        .compare((n <= sheet.len()) & (found == bytes::long_number(r, 20) as u64))
+        .compare(words::same(&lent, zeros, BEFORE))
+}

@@ -1,0 +1,42 @@
+// A file read piece by piece.
+use crate::tally::Tally;
+
+// What was read: all that was asked for, nothing, or less.
+pub enum Got {
+    All,
+    Nothing,
+    Less,
+}
+
+// Reads `n` bytes into the buffer from `at` on; less, too, where they do not fit.
+pub fn read_at(fd: i32, buffer: &mut [u8], at: usize, n: usize) -> Got {
+    if buffer.len() < at {
+        return Got::Less;
+    }
+    if buffer.len() - at < n {
+        return Got::Less;
+    }
+    let end = at + n;
+    let got = io::read_full(fd, &mut buffer[at..end]);
+    if got == n {
+        return Got::All;
+    }
+    if got == 0 {
+        return Got::Nothing;
+    }
+    Got::Less
+}
+
+// The tally behind a record, and whether another may follow.
+pub struct Step {
+    pub more: bool,
+    pub tally: Tally,
+}
+
+pub fn next(tally: Tally) -> Step {
+    Step { more: true, tally }
+}
+
+pub fn last(tally: Tally) -> Step {
+    Step { more: false, tally }
+}
