@@ -1,4 +1,5 @@
 -- `replay::lists::listed` meets its contract.
+use borrow.Author.Needs.{needs}
 use Rattle.replay.proofs.ListLaws.{lists}
 use Rattle.replay.proofs.lists.listed.Statement.{statement}
 use Rattle.replay.proofs.lists.listed.Tie as tie
@@ -13,6 +14,6 @@ listed-spec =
     (λ c. search lists)
     (λ c. search lists)
     (λ c κs. search lists)
-    (λ c κs. search lists)
+    (λ c κs. (search lists, search needs))
     (λ c. search lists)
     (λ c. search lists))
