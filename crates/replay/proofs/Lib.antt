@@ -1,5 +1,6 @@
 pub mod ByteLaws
 pub mod CheckLaws
+pub mod FileLaws
 pub mod FilmLaws
 pub mod FrontLaws
 pub mod ListLaws

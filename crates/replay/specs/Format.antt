@@ -13,7 +13,7 @@ use Rattle.replay.specs.Texts.{textReplayed}
 use Rattle.replay.specs.Values.{pairReplayed, punctuationReplayed, partReplayed}
 
 -- the tally behind a record; the sheet and the text are the long ones of calls
-abbrev pub replayed : Format → List ℕ → List ℕ → List ℕ → Tally → Tally
+unfoldable pub replayed : Format → List ℕ → List ℕ → List ℕ → Tally → Tally
 replayed Texts r sheet text t = textReplayed r t
 replayed Pairs r sheet text t = pairReplayed r t
 replayed Punctuation r sheet text t = punctuationReplayed r t

@@ -1,5 +1,6 @@
 pub mod Bytes
 pub mod Checks
+pub mod File
 pub mod Films
 pub mod Format
 pub mod Front

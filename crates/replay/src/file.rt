@@ -1,4 +1,7 @@
 // A file of stored answers, replayed record by record.
+ghost use mathlib.Core.Path.{_≡_};
+ghost use Rattle.replay.specs.File.{Stepped, Found};
+ghost use Rattle.replay.specs.Tally.{together};
 use crate::films;
 use crate::format::Format;
 use crate::format::behind;
@@ -29,7 +32,9 @@ fn replay_behind(
     sheet: &[u32],
     text: &[u8],
     tally: Tally,
-) -> Step {
+) -> Step
+    ensures { λ s. ⌜ Stepped format (now (sheet .entry)) (now (text .entry)) tally s ⌝ }
+{
     let head = head_of(format);
     let n = behind(format, buffer);
     match read_at(fd, buffer, head, n) {
@@ -45,7 +50,9 @@ fn replay_next(
     sheet: &[u32],
     text: &[u8],
     tally: Tally,
-) -> Step {
+) -> Step
+    ensures { λ s. ⌜ Stepped format (now (sheet .entry)) (now (text .entry)) tally s ⌝ }
+{
     match read_at(fd, buffer, 0, head_of(format)) {
         Got::All => replay_behind(fd, format, buffer, sheet, text, tally),
         Got::Nothing => last(tally),
@@ -54,7 +61,9 @@ fn replay_next(
 }
 
 // A file that does not end counts as a difference.
-fn replay_opened(fd: i32, format: Format, sheet: &[u32], text: &[u8]) -> Tally {
+fn replay_opened(fd: i32, format: Format, sheet: &[u32], text: &[u8]) -> Tally
+    ensures { λ t. ⌜ Found format (now (sheet .entry)) (now (text .entry)) t ⌝ }
+{
     let mut buffer = room();
     let mut tally = Tally::none();
     let mut k: usize = 0;
@@ -70,7 +79,9 @@ fn replay_opened(fd: i32, format: Format, sheet: &[u32], text: &[u8]) -> Tally {
 }
 
 // What is found in a file. One that is not opened counts as a difference. The sheet and the text are the long ones of calls.
-pub fn replay(fd: i32, format: Format, sheet: &[u32], text: &[u8]) -> Tally {
+pub fn replay(fd: i32, format: Format, sheet: &[u32], text: &[u8]) -> Tally
+    ensures { λ t. ⌜ Found format (now (sheet .entry)) (now (text .entry)) t ⌝ }
+{
     if fd < 0 {
         return Tally::none().differs();
     }
@@ -87,7 +98,9 @@ pub fn open(name: &[u8]) -> i32 {
 }
 
 // A file is closed, its line written, and what was found added to the total.
-pub fn close(fd: i32, name: &[u8], found: Tally, total: Tally) -> Tally {
+pub fn close(fd: i32, name: &[u8], found: Tally, total: Tally) -> Tally
+    ensures { λ t. ⌜ t ≡ together total found ⌝ }
+{
     libc::close(fd);
     write_line(name, found);
     total.with(found)

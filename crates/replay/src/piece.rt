@@ -1,4 +1,6 @@
 // A file read piece by piece.
+ghost use mathlib.Core.Bool.{true, false};
+ghost use mathlib.Core.Path.{_≡_};
 use crate::tally::Tally;
 
 // What was read: all that was asked for, nothing, or less.
@@ -33,10 +35,14 @@ pub struct Step {
     pub tally: Tally,
 }
 
-pub fn next(tally: Tally) -> Step {
+pub fn next(tally: Tally) -> Step
+    ensures { λ s. ⌜ (s .more ≡ true) × (s .tally ≡ tally) ⌝ }
+{
     Step { more: true, tally }
 }
 
-pub fn last(tally: Tally) -> Step {
+pub fn last(tally: Tally) -> Step
+    ensures { λ s. ⌜ (s .more ≡ false) × (s .tally ≡ tally) ⌝ }
+{
     Step { more: false, tally }
 }

@@ -1,6 +1,6 @@
 // How many records were read, how many answers were compared and how many differ.
 ghost use mathlib.Core.Path.{_≡_};
-ghost use Rattle.replay.specs.Tally.{sumOf, nothing, recorded, differing, comparing, together};
+ghost use Rattle.replay.specs.Tally.{sumOf, differencesOf, nothing, recorded, differing, comparing, together};
 
 const MOST: u64 = 0x1000_0000_0000_0000;
 
@@ -21,6 +21,13 @@ fn sum(a: u64, b: u64) -> u64
         return MOST;
     }
     a + b
+}
+
+// How many differences a comparison adds.
+fn differences(same: bool) -> u64
+    ensures { λ r. ⌜ r ≡ differencesOf same ⌝ }
+{
+    if same { 0 } else { 1 }
 }
 
 impl Tally {
@@ -57,17 +64,10 @@ impl Tally {
     pub fn compare(self, same: bool) -> Self
         ensures { λ r. ⌜ r ≡ comparing same self ⌝ }
     {
-        if same {
-            return Tally {
-                records: self.records,
-                compared: sum(self.compared, 1),
-                differ: self.differ,
-            };
-        }
         Tally {
             records: self.records,
             compared: sum(self.compared, 1),
-            differ: sum(self.differ, 1),
+            differ: sum(self.differ, differences(same)),
         }
     }
 
