@@ -6,7 +6,7 @@ use mathlib.Core.List.{List}
 use Rattle.replay.specs.declared.format.Format.{Format}
 use Rattle.replay.specs.declared.piece.Step.{Step}
 use Rattle.replay.specs.declared.tally.Tally.{Tally}
-use Rattle.replay.specs.Tally.{nothing, differing}
+use Rattle.replay.specs.Tally.{nothing, differing, together}
 use Rattle.replay.specs.Format.{replayed}
 
 -- a step: some record is replayed, and another may follow; or the file is at its end; or it ends with a difference
@@ -24,3 +24,7 @@ pub data Reached (f : Format) (sheet text : List ℕ) : Tally → Type 0 where
 pub data Found (f : Format) (sheet text : List ℕ) (t : Tally) : Type 0 where
   whole : Reached f sheet text t → Found f sheet text t
   broken : (u : Tally) → Reached f sheet text u → t ≡ differing u → Found f sheet text t
+
+-- the total with what is found in a file
+pub data Adds (f : Format) (sheet text : List ℕ) (total t : Tally) : Type 0 where
+  adds : (found : Tally) → Found f sheet text found → t ≡ together total found → Adds f sheet text total t

@@ -21,6 +21,18 @@ breakWord field = if eqb field 0 then 3 else if eqb field 1 then 1 else 0
 unfoldable pub breaksOf : ℕ → List ℕ
 breaksOf n = upTo n (λ k. breakWord (k % 12))
 
+-- the words of 65,537 records: two records more than a sheet may have
+abbrev pub longWords : ℕ
+longWords = 786444
+
+-- the long sheet before it is filled
+unfoldable pub unfilled : List ℕ
+unfilled = replicate longWords 0
+
+-- the long text: one byte more than a text may have
+unfoldable pub zeros : List ℕ
+zeros = replicate 16777217 0
+
 -- every word that is lent before the call: a few more than a mark for each record that a sheet may have
 unfoldable pub untouched : List ℕ
 untouched = replicate 65544 before

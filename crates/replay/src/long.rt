@@ -1,7 +1,7 @@
 // A stored call with a long sheet or a long text: the function, the words of the sheet, the bytes of the text, the words lent to be written into, how many bytes of those are 0 behind the call (4 bytes each); the answer (8 bytes). The sheet is of thematic breaks, the text of zeros.
 ghost use mathlib.Core.Path.{_≡_};
 ghost use lib.ListN.{length};
-ghost use Rattle.replay.specs.Long.{breakWord, breaksOf, untouched, callReplayed};
+ghost use Rattle.replay.specs.Long.{breakWord, breaksOf, unfilled, zeros, untouched, callReplayed};
 use crate::bytes;
 use crate::front;
 use crate::tally::Tally;
@@ -23,16 +23,19 @@ const LENT: usize = 65544;
 // Every word that is lent to be written into, before the call.
 const BEFORE: u32 = 0xA5A5_A5A5;
 
-// No contract says what these two hold, so that no proof computes them.
-pub fn sheet() -> [u32; SHEET] {
+// The long sheet before it is filled, the long text, and what is lent before a call. Their definitions stay shut where these are called, so that no proof computes them.
+pub fn sheet() -> [u32; SHEET]
+    ensures { λ r. ⌜ r ≡ unfilled ⌝ }
+{
     [0u32; SHEET]
 }
 
-pub fn text() -> [u8; TEXT] {
+pub fn text() -> [u8; TEXT]
+    ensures { λ r. ⌜ r ≡ zeros ⌝ }
+{
     [0u8; TEXT]
 }
 
-// What is lent, before the call. Its definition stays shut where the function is called, so that no proof computes it there.
 fn lent() -> [u32; LENT]
     ensures { λ r. ⌜ r ≡ untouched ⌝ }
 {

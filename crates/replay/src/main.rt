@@ -15,6 +15,9 @@ mod texts;
 mod values;
 mod words;
 
+ghost use mathlib.Core.List.{[], _∷_};
+ghost use Rattle.replay.specs.File.{Adds};
+ghost use Rattle.replay.specs.Long.{longWords, breaksOf, zeros};
 use crate::format::Format;
 use crate::line::write_line;
 use crate::tally::Tally;
@@ -23,14 +26,18 @@ use libc::STDOUT_FILENO;
 // For ARG_MAX the C library answers a quarter of what the stack may have, and no more than this.
 const QUARTER: i64 = 0x60_0000;
 
-fn replay(name: &[u8], format: Format, total: Tally) -> Tally {
+fn replay(name: &[u8], format: Format, total: Tally) -> Tally
+    ensures { λ t. ⌜ Adds format (0 ∷ []) [] total t ⌝ }
+{
     let fd = file::open(name);
     let found = file::replay(fd, format, &[0u32; 1], b"");
     file::close(fd, name, found, total)
 }
 
 // The long sheet and the long text are on the stack.
-fn replay_long(name: &[u8], total: Tally) -> Tally {
+fn replay_long(name: &[u8], total: Tally) -> Tally
+    ensures { λ t. ⌜ Adds Format.Calls (breaksOf longWords) zeros total t ⌝ }
+{
     let mut sheet = long::sheet();
     let text = long::text();
     long::breaks(&mut sheet);
