@@ -19,6 +19,9 @@ pub const HEAD: usize = 6;
 // The most words of a sheet, and of a list.
 const MOST: usize = 800;
 
+// The levels left under a paragraph of level 1.
+const LEFT: u32 = 63;
+
 pub fn behind(r: &[u8]) -> usize
     ensures { λ n. ⌜ n ≤ 589815 ⌝ }
 {
@@ -37,7 +40,7 @@ fn listed(sheet: &[u32], text: &[u8], report: &mut [u32]) -> usize
         return 0;
     }
     let path = [0u32; 1];
-    let w = validate_inlines(sheet, text, report, &path, n, 1, 1, 63, entries::none());
+    let w = validate_inlines(sheet, text, report, &path, n, 1, 1, LEFT, entries::none());
     w.tally.words
 }
 
