@@ -16,7 +16,7 @@ use Rattle.leaves.proofs.text.TestLaws.{and-left, and-right, or-left, or-right}
 use Rattle.leaves.specs.Text.Marker.{writtenMarker}
 use Rattle.setter.specs.Steps.{Frame, fresh, withKid}
 use Rattle.setter.specs.Seen.{columns, nearest, inLink, behindList, onlyEmpty, lastMark, Seen, seen}
-use Rattle.setter.specs.Stops.{Test, lowest, openingTests}
+use Rattle.setter.specs.Stops.{Moment, opening, sameMoment, Row, stops, lowest, stopAt}
 use Rattle.setter.specs.Kept.{markerBehind, keptOf, seenBy, openedIn, joinedBy}
 
 -- a list's written marker is never 0
@@ -42,9 +42,9 @@ joins-kept (s ∷ ss) r = go (eqb (s .kind) blankLine) (eqb (s .kind) list) (joi
     go false true e = refl
     go false false e = some-marker (r .a) (r .b)
 
-pub seen-kept : (r : Rec) (f : Frame) (st : List Frame) → seenBy r (keptOf f st) ≡ seen r (f ∷ st)
+pub seen-kept : (f g : Frame) (st : List Frame) → seenBy (f .of) (keptOf g st) (length (f .kids)) (onlyEmpty (f .kids)) ≡ seen f (g ∷ st)
 unfolding keptOf
-seen-kept r f st = rw (joins-kept (f .kids) r)
+seen-kept f g st = rw (joins-kept (g .kids) (f .of))
 
 pub opened-kept : (i : ℕ) (r : Rec) (f : Frame) (st : List Frame) → openedIn i r (keptOf f st) ≡ keptOf (fresh i r) (f ∷ st)
 unfolding keptOf openedIn columns nearest inLink onlyEmpty lastMark markerBehind
@@ -55,23 +55,24 @@ unfolding keptOf joinedBy columns nearest inLink onlyEmpty lastMark markerBehind
 joined-kept r f st = rw (add-one (length (f .kids)))
 
 -- ---- an item that opens has a small number, or none
--- where the lowest of the tests that hold is none, none holds
-Silent : List Test → Type 0
-Silent [] = Unit {0}
-Silent (t ∷ ts) = (t .holds ≡ false) × Silent ts
+-- where the lowest of the stops is none, no row of that moment holds
+module _ (m : Moment) (bytes : List ℕ) (r : Rec) (s : Seen) where
+  Silent : List Row → Type 0
+  Silent [] = Unit {0}
+  Silent (t ∷ ts) = ((sameMoment m (t .moment) && t .holds bytes r s) ≡ false) × Silent ts
 
-numbered : List Test → Bool
-numbered [] = true
-numbered (t ∷ ts) = ltb 0 (t .stop) && numbered ts
+  numbered : List Row → Bool
+  numbered [] = true
+  numbered (t ∷ ts) = ltb 0 (t .stop) && numbered ts
 
-silent : (ts : List Test) → numbered ts ≡ true → lowest ts ≡ 0 → Silent ts
-unfolding Silent numbered
-silent [] n h = tt
-silent (t ∷ ts) n h = go (t .holds) refl (silent ts (and-right (ltb 0 (t .stop)) (numbered ts) n))
-  where
-    go : (b : Bool) → t .holds ≡ b → (lowest ts ≡ 0 → Silent ts) → Silent (t ∷ ts)
-    go true e later = let p = ltb-true 0 (t .stop) (and-left (ltb 0 (t .stop)) (numbered ts) n) in absurd (omega (arith, rw e at h))
-    go false e later = (e, later (rw e at h))
+  silent : (ts : List Row) → numbered ts ≡ true → lowest m bytes r s ts ≡ 0 → Silent ts
+  unfolding Silent numbered
+  silent [] n h = tt
+  silent (t ∷ ts) n h = go (sameMoment m (t .moment) && t .holds bytes r s) refl (silent ts (and-right (ltb 0 (t .stop)) (numbered ts) n))
+    where
+      go : (b : Bool) → (sameMoment m (t .moment) && t .holds bytes r s) ≡ b → (lowest m bytes r s ts ≡ 0 → Silent ts) → Silent (t ∷ ts)
+      go true e later = let p = ltb-true 0 (t .stop) (and-left (ltb 0 (t .stop)) (numbered ts) n) in absurd (omega (arith, rw e at h))
+      go false e later = (e, later (rw e at h))
 
 -- a record that is no item has a C of at most 1
 plain-small : (r : Rec) → badField r ≡ false → eqb (r .kind) item ≡ false → r .c ≤ 1
@@ -86,12 +87,12 @@ plain-small r bad e =
     go false h = omega arith
 
 -- where it opens without a stop
-pub small-number : (bytes : List ℕ) (r : Rec) (s : Seen) → lowest (openingTests bytes r s) ≡ 0 → badField r ≡ false → r .b ≡ 1 → r .c ≤ 999999999
-unfolding openingTests Silent numbered
+pub small-number : (bytes : List ℕ) (r : Rec) (s : Seen) → stopAt opening bytes r s ≡ 0 → badField r ≡ false → r .b ≡ 1 → r .c ≤ 999999999
+unfolding stopAt Silent numbered
 small-number bytes r s h bad e =
-    let q = silent (openingTests bytes r s) refl h in
-    let large : (eqb (r .kind) item && s .ordered && eqb (r .b) 1 && ltb 999999999 (r .c)) ≡ false = q .1 .1 .1 .1 .0 in
-    let bullet : (eqb (r .kind) item && not (s .ordered) && eqb (r .b) 1) ≡ false = q .1 .1 .1 .1 .1 .0 in
+    let q = silent opening bytes r s stops refl h in
+    let large : (eqb (r .kind) item && s .ordered && eqb (r .b) 1 && ltb 999999999 (r .c)) ≡ false = q .1 .1 .1 .1 .1 .1 .0 in
+    let bullet : (eqb (r .kind) item && not (s .ordered) && eqb (r .b) 1) ≡ false = q .1 .1 .1 .1 .1 .1 .1 .0 in
     let n : eqb (r .b) 1 ≡ true = eq-eqb (r .b) 1 e in
     go (eqb (r .kind) item) refl (s .ordered) refl (rw n at large) (rw n at bullet)
   where

@@ -9,8 +9,7 @@ use lib.Dec.{ltb}
 use Rattle.leaves.specs.Sheet.Records.{recordsOf}
 use Rattle.leaves.specs.Refusal.Verdict.{isAccepted}
 use Rattle.leaves.specs.Refusal.Judge.{judgeSheet}
-use Rattle.setter.specs.Machine as Machine
-use Rattle.setter.specs.Machine.{Outcome, ended, stopped}
+use Rattle.setter.specs.Machine.{End, reached, stopped, run}
 use Rattle.setter.specs.Setting.{answerOf, afterRun, settingOf}
 use Rattle.setter.specs.declared.answer.Setting.{Setting}
 use Rattle.blocks.specs.Check.{answerNumber, answerValue, outcome}
@@ -43,14 +42,14 @@ pub refused-small : (w bytes x : List ℕ) {s : Setting} {y : List ℕ} → (s, 
 unfolding settingOf afterRun answerOf
 refused-small w bytes x {s} {y} e = let o : s ≡ settingOf w bytes x .0 = ap (λ (p : Setting × List ℕ). p .0) e in rw o (go (isAccepted (judgeSheet w bytes)) refl (ltb (length x) (recordsOf w)) refl)
   where
-    ran : (n : ℕ) (o : Outcome) → refusedAt (answerOf n o) ≤ 65535
-    ran n ended = omega arith
-    ran n (stopped stop i path) = omega arith
+    ran : (n : ℕ) (o : End) → refusedAt (answerOf n o) ≤ 65535
+    ran n reached = omega arith
+    ran n (stopped stop s) = omega arith
 
     go : (b : Bool) → isAccepted (judgeSheet w bytes) ≡ b → (c : Bool) → ltb (length x) (recordsOf w) ≡ c → refusedAt (settingOf w bytes x .0) ≤ 65535
     go false a c f = rw a (judged-record w bytes)
     go true a true f = rw (a, f) (omega arith)
-    go true a false f = rw (a, f) (ran (recordsOf w) (Machine.outcome w bytes))
+    go true a false f = rw (a, f) (ran (recordsOf w) (run w bytes .end))
 
 pub setting-packed : (w bytes x : List ℕ) {s : Setting} {y : List ℕ} {r : ℕ} → (s, y) ≡ settingOf w bytes x → r ≡ packedSetting s → (r ≡ packedSetting (settingOf w bytes x .0)) × (y ≡ settingOf w bytes x .1)
 setting-packed w bytes x e f = (f ∙ ap (λ (p : Setting × List ℕ). packedSetting (p .0)) e, ap (λ (p : Setting × List ℕ). p .1) e)

@@ -21,10 +21,10 @@ use Rattle.leaves.proofs.text.TestLaws.{or-left, or-right}
 use Rattle.leaves.proofs.refusal.PassLaws.{Deep, deep}
 use Rattle.leaves.proofs.refusal.FormedLaws.{each-passed, accepted}
 use Rattle.setter.specs.Steps.{Frame, fresh, withKid, theSheet, Step, closings, stepsFrom, stepsOf, opens, closes}
-use Rattle.setter.specs.Machine.{outcomeOf, runOf, outcome, run}
+use Rattle.setter.specs.Machine.{runOf, run}
 use Rattle.setter.specs.Marks.{markOf, marksOf}
-use Rattle.setter.specs.Stops.{lowest, openingTests, closingTests, stopOf}
-use Rattle.setter.specs.Seen.{lastMark, itemMark, seen}
+use Rattle.setter.specs.Stops.{opening, closing, stopAt, stopOf}
+use Rattle.setter.specs.Seen.{onlyEmpty, lastMark, itemMark, seen}
 use Rattle.setter.proofs.StepLaws.{Low, open-one, close-one, goes-on, stops-here}
 use Rattle.setter.specs.Kept.{keptOf, seenBy, openedIn, joinedBy}
 use Rattle.setter.specs.declared.kept.Kept.{Kept}
@@ -101,11 +101,11 @@ pub record Running (w bytes old : List ℕ) (n : ℕ) (new : List ℕ) (os : Lis
   pub around : List Frame
   pub deep : length around ≡ depth
   pub held : Held w n i 0 os (top ∷ around)
-  pub ends : outcome w bytes ≡ outcomeOf bytes (stepsFrom (record { top = top; around = around }) i (recordsFrom w (n - i) i))
-  pub marked : marksOf (run w bytes) old ≡ marksOf (runOf bytes (stepsFrom (record { top = top; around = around }) i (recordsFrom w (n - i) i))) new
+  pub ends : run w bytes .end ≡ runOf bytes (stepsFrom (record { top = top; around = around }) i (recordsFrom w (n - i) i)) .end
+  pub marked : marksOf (run w bytes .steps) old ≡ marksOf (runOf bytes (stepsFrom (record { top = top; around = around }) i (recordsFrom w (n - i) i)) .steps) new
 
 pub run-start : (w bytes marks : List ℕ) (n : ℕ) {k : Kept} → k ≡ keptOf theSheet [] → judgeSheet w bytes ≡ Accepted → n ≡ recordsOf w → n ≤ length marks → Running w bytes marks n marks (replicate 65 k) 0 0
-unfolding Held lastMark outcome run stepsOf
+unfolding Held lastMark run stepsOf
 run-start w bytes marks n e ok all room =
     record {
       ok = ok;
@@ -139,7 +139,7 @@ left-none w n i h = let e : n - i ≡ 0 = omega arith in rw e
 
 -- after the last record nothing is open
 pub run-end : (w bytes old : List ℕ) (n : ℕ) (new : List ℕ) (os : List Kept) (depth i : ℕ) → Running w bytes old n new os depth i → (ltb i n || ltb 0 depth) ≡ false → _≡_ {A = Setting × List ℕ} (Ended n, new) (afterRun w bytes old)
-unfolding afterRun answerOf stepsFrom closings outcomeOf runOf marksOf
+unfolding afterRun answerOf stepsFrom closings runOf marksOf
 run-end w bytes old n new os depth i v h = go (v .around) refl
   where
     out : n ≤ i
@@ -163,8 +163,8 @@ pub record Closing (w bytes old : List ℕ) (n : ℕ) (new : List ℕ) (os : Lis
   pub deep : length around + 1 ≡ depth
   pub low : i < n → recordAt w i .level ≤ depth
   pub held : Held w n i 0 os (top ∷ under ∷ around)
-  pub ends : outcome w bytes ≡ outcomeOf bytes (closes top (under ∷ around) ∷ stepsFrom (record { top = withKid (top .of) under; around = around }) i (recordsFrom w (n - i) i))
-  pub marked : marksOf (run w bytes) old ≡ marksOf (runOf bytes (closes top (under ∷ around) ∷ stepsFrom (record { top = withKid (top .of) under; around = around }) i (recordsFrom w (n - i) i))) new
+  pub ends : run w bytes .end ≡ runOf bytes (closes top (under ∷ around) ∷ stepsFrom (record { top = withKid (top .of) under; around = around }) i (recordsFrom w (n - i) i)) .end
+  pub marked : marksOf (run w bytes .steps) old ≡ marksOf (runOf bytes (closes top (under ∷ around) ∷ stepsFrom (record { top = withKid (top .of) under; around = around }) i (recordsFrom w (n - i) i)) .steps) new
 
 module _ (w bytes old : List ℕ) (n : ℕ) (new : List ℕ) (os : List Kept) (depth i : ℕ) (v : Running w bytes old n new os depth i) where
   -- no record has the level 0, and after the last every level closes
@@ -248,20 +248,20 @@ module _ (w bytes old : List ℕ) (n : ℕ) (new : List ℕ) (os : List Kept) (d
       let few = z .running .few in
       rw under-kept (omega (arith, z .held .1 .0 .few, z .running .within, z .running .all), omega (arith, z .held .1 .0 .small, z .held .1 .0 .few, z .running .within, z .running .all))
 
-  module _ {r : Rec} {s : ℕ} (er : r ≡ recordAt w (getD os depth unkept .at)) (es : s ≡ lowest (closingTests r (getD os depth unkept .kids) (getD os depth unkept .empty) (getD os (depth - 1) unkept .columns))) where
+  module _ {r : Rec} {s : ℕ} (er : r ≡ recordAt w (getD os depth unkept .at)) (es : (t : List ℕ) → s ≡ stopAt closing t r (seenBy r (getD os (depth - 1) unkept) (getD os depth unkept .kids) (getD os depth unkept .empty))) where
     closes-of : r ≡ z .top .of
     unfolding Held
     closes-of = er ∙ rw top-at (sym (z .held .0 .from (omega arith) .1))
 
     closes-stop : s ≡ stopOf bytes (closes (z .top) (z .under ∷ z .around))
     unfolding stopOf keptOf
-    closes-stop = es ∙ rw (top-kept, under-kept, closes-of)
+    closes-stop = es bytes ∙ rw (top-kept, under-kept, closes-of) (ap (stopAt closing bytes (z .top .of)) (seen-kept (z .top) (z .under) (z .around)))
 
     pub close-stop : (s ≡ 0 → ⊥) → _≡_ {A = Setting × List ℕ} (Stopped s (getD os depth unkept .at), new) (afterRun w bytes old)
     unfolding afterRun answerOf marksOf
     close-stop h =
         let here = stops-here bytes (closes (z .top) (z .under ∷ z .around)) after-close (rw closes-stop at h) in
-        rw (z .ends, z .marked, here .0, here .1, top-at, closes-stop)
+        rw (z .ends, z .marked, here, top-at, closes-stop)
 
     pub close-turn : {q : Kept} → s ≡ 0 → q ≡ joinedBy (getD os (depth - 1) unkept) r → Running w bytes old n new (set os (depth - 1) q) (depth - 1) i
     unfolding Held marksOf lastMark
@@ -284,8 +284,8 @@ module _ (w bytes old : List ℕ) (n : ℕ) (new : List ℕ) (os : List Kept) (d
           around = z .around;
           deep = d;
           held = (record { level = o .level; kept = rw d (getD-set-same os (depth - 1) q unkept (omega (arith, z .running .long, z .running .shallow)) ∙ e); from = o .from; few = omega (arith, o .few); small = mark-small (z .top .of) (lastMark (z .under .kids)) (length (z .under .kids)) (z .held .0 .own) (o .small); own = o .own }, held-set w n os (depth - 1) q i i (z .around) (omega arith) (omega arith) (z .held .1 .1));
-          ends = z .ends ∙ on .0;
-          marked = z .marked ∙ rw (on .1) refl;
+          ends = z .ends ∙ rw on;
+          marked = z .marked ∙ rw on refl;
         }
 
 -- ---- a turn that opens the next record
@@ -319,8 +319,8 @@ module _ (w bytes old : List ℕ) (n : ℕ) (new : List ℕ) (os : List Kept) (d
   abbrev around : List Frame
   around = z .running .around
 
-  abbrev opening : Step
-  opening = opens (fresh i (recordAt w i)) (top ∷ around)
+  abbrev open-step : Step
+  open-step = opens (fresh i (recordAt w i)) (top ∷ around)
 
   abbrev after-open : List Step
   after-open = stepsFrom (record { top = fresh i (recordAt w i); around = top ∷ around }) (i + 1) (recordsFrom w (n - (i + 1)) (i + 1))
@@ -329,7 +329,7 @@ module _ (w bytes old : List ℕ) (n : ℕ) (new : List ℕ) (os : List Kept) (d
   unfolding Held
   is-kept = rw (z .running .deep) at (z .running .held .0 .kept)
 
-  steps-are : stepsFrom (record { top = top; around = around }) i (recordsFrom w (n - i) i) ≡ opening ∷ after-open
+  steps-are : stepsFrom (record { top = top; around = around }) i (recordsFrom w (n - i) i) ≡ open-step ∷ after-open
   unfolding Held
   steps-are =
       let l : recordAt w i .level ≡ suc (top .of .level) = omega (arith, z .level, z .running .held .0 .level, z .running .deep) in
@@ -345,28 +345,29 @@ module _ (w bytes old : List ℕ) (n : ℕ) (new : List ℕ) (os : List Kept) (d
       let o = z .running .held .0 in
       rw is-kept (omega (arith, o .few, z .running .within, z .running .all), omega (arith, o .small, o .few, z .running .within, z .running .all))
 
-  module _ {r : Rec} {s : ℕ} (er : r ≡ recordAt w i) (es : s ≡ lowest (openingTests bytes r (seenBy r (getD os depth unkept)))) where
-    seen-is : seenBy r (getD os depth unkept) ≡ seen (recordAt w i) (top ∷ around)
-    seen-is = rw (is-kept, er) (seen-kept (recordAt w i) top around)
+  module _ {r : Rec} {s : ℕ} (er : r ≡ recordAt w i) (es : s ≡ stopAt opening bytes r (seenBy r (getD os depth unkept) 0 true)) where
+    seen-is : seenBy r (getD os depth unkept) 0 true ≡ seen (fresh i (recordAt w i)) (top ∷ around)
+    unfolding onlyEmpty
+    seen-is = rw (is-kept, er) (seen-kept (fresh i (recordAt w i)) top around)
 
-    opens-stop : s ≡ stopOf bytes opening
+    opens-stop : s ≡ stopOf bytes open-step
     unfolding stopOf
     opens-stop = es ∙ rw (seen-is, er)
 
     pub open-stop : (s ≡ 0 → ⊥) → _≡_ {A = Setting × List ℕ} (Stopped s i, new) (afterRun w bytes old)
     unfolding afterRun answerOf marksOf
     open-stop h =
-        let here = stops-here bytes opening after-open (rw opens-stop at h) in
-        rw (z .running .ends, z .running .marked, steps-are, here .0, here .1, opens-stop)
+        let here = stops-here bytes open-step after-open (rw opens-stop at h) in
+        rw (z .running .ends, z .running .marked, steps-are, here, opens-stop)
 
-    pub open-turn : {m : ℕ} {q : Kept} → s ≡ 0 → m ≡ markOf r (seenBy r (getD os depth unkept)) → q ≡ openedIn i r (getD os depth unkept) → Running w bytes old n (set new i m) (set os (depth + 1) q) (depth + 1) (i + 1)
+    pub open-turn : {m : ℕ} {q : Kept} → s ≡ 0 → m ≡ markOf r (seenBy r (getD os depth unkept) 0 true) → q ≡ openedIn i r (getD os depth unkept) → Running w bytes old n (set new i m) (set os (depth + 1) q) (depth + 1) (i + 1)
     unfolding Held marksOf lastMark stopOf
     open-turn {m} {q} h em eq =
-        let on = goes-on bytes opening after-open (sym opens-stop ∙ h) in
+        let on = goes-on bytes open-step after-open (sym opens-stop ∙ h) in
         let v = z .running in
         let o = v .held .0 in
         let e : q ≡ keptOf (fresh i (recordAt w i)) (top ∷ around) = eq ∙ rw (is-kept, er) (opened-kept i (recordAt w i) top around) in
-        let mark : m ≡ markOf (recordAt w i) (seen (recordAt w i) (top ∷ around)) = em ∙ rw (seen-is, er) in
+        let mark : m ≡ markOf (recordAt w i) (seen (fresh i (recordAt w i)) (top ∷ around)) = em ∙ rw (seen-is, er) in
         let d : length (top ∷ around) ≡ depth + 1 = omega (arith, v .deep) in
         let i-small : i < recordsOf w = omega (arith, z .inside, v .all) in
         record {
@@ -382,7 +383,7 @@ module _ (w bytes old : List ℕ) (n : ℕ) (new : List ℕ) (os : List Kept) (d
           top = fresh i (recordAt w i);
           around = top ∷ around;
           deep = d;
-          held = (record { level = omega (arith, z .level); kept = rw d (getD-set-same os (depth + 1) q unkept (omega (arith, v .long, z .most)) ∙ e); from = λ g. (z .inside, refl); few = omega arith; small = omega arith; own = λ g. small-number bytes (recordAt w i) (seen (recordAt w i) (top ∷ around)) (sym opens-stop ∙ h) (each-passed w bytes (v .ok) i i-small .field) g }, (one-set w n os (depth + 1) q i (i + 1) 0 1 top around (omega (arith, v .deep)) (omega arith) o, held-set w n os (depth + 1) q i (i + 1) around (omega (arith, v .deep)) (omega arith) (v .held .1)));
-          ends = v .ends ∙ rw steps-are (on .0);
-          marked = v .marked ∙ rw (steps-are, on .1, mark) refl;
+          held = (record { level = omega (arith, z .level); kept = rw d (getD-set-same os (depth + 1) q unkept (omega (arith, v .long, z .most)) ∙ e); from = λ g. (z .inside, refl); few = omega arith; small = omega arith; own = λ g. small-number bytes (recordAt w i) (seen (fresh i (recordAt w i)) (top ∷ around)) (sym opens-stop ∙ h) (each-passed w bytes (v .ok) i i-small .field) g }, (one-set w n os (depth + 1) q i (i + 1) 0 1 top around (omega (arith, v .deep)) (omega arith) o, held-set w n os (depth + 1) q i (i + 1) around (omega (arith, v .deep)) (omega arith) (v .held .1)));
+          ends = v .ends ∙ rw (steps-are, on);
+          marked = v .marked ∙ rw (steps-are, on, mark) refl;
         }

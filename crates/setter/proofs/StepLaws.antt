@@ -6,7 +6,7 @@ use native.Mathlib.Omega.{arith}
 use borrow.Author.Tests.{le-leb, lt-leb, eq-eqb, ne-eqb}
 use Rattle.leaves.specs.declared.sheet.records.Rec.{Rec}
 use Rattle.setter.specs.Steps.{Frame, fresh, withKid, Step, closings, remain, stepsFrom, opens, closes}
-use Rattle.setter.specs.Machine.{openAt, recordAtStep, blockPath, stopped, outcomeOf, runOf}
+use Rattle.setter.specs.Machine.{stopped, stepThen, runOf}
 use Rattle.setter.specs.Stops.{stopOf}
 
 -- what comes after is of level m at most
@@ -38,10 +38,10 @@ close-one t f st i m (r ∷ rs) e h g = rw (le-leb (r .level) (t .of .level) (om
 
 -- a step without a stop, and one that stops
 module _ (bytes : List ℕ) (s : Step) (ss : List Step) where
-  pub goes-on : stopOf bytes s ≡ 0 → (outcomeOf bytes (s ∷ ss) ≡ outcomeOf bytes ss) × (runOf bytes (s ∷ ss) ≡ s ∷ runOf bytes ss)
-  unfolding outcomeOf runOf
-  goes-on e = (rw (eq-eqb _ 0 e), rw (eq-eqb _ 0 e))
+  pub goes-on : stopOf bytes s ≡ 0 → runOf bytes (s ∷ ss) ≡ stepThen s (runOf bytes ss)
+  unfolding runOf
+  goes-on e = rw (eq-eqb _ 0 e)
 
-  pub stops-here : (stopOf bytes s ≡ 0 → ⊥) → (outcomeOf bytes (s ∷ ss) ≡ stopped (stopOf bytes s) (recordAtStep s) (blockPath (openAt s))) × (runOf bytes (s ∷ ss) ≡ [])
-  unfolding outcomeOf runOf
-  stops-here e = (rw (ne-eqb _ 0 e), rw (ne-eqb _ 0 e))
+  pub stops-here : (stopOf bytes s ≡ 0 → ⊥) → runOf bytes (s ∷ ss) ≡ record { steps = []; end = stopped (stopOf bytes s) s }
+  unfolding runOf
+  stops-here e = rw (ne-eqb _ 0 e)

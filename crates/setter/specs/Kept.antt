@@ -1,6 +1,6 @@
 -- What the machine's code keeps of an open record, in place of the records themselves. A reader need not believe these: the machine's promise does not cite them.
 use Prim.Native.Nat.{ℕ, _+_}
-use mathlib.Core.Bool.{true, false, _&&_, _||_}
+use mathlib.Core.Bool.{Bool, true, false, _&&_, _||_}
 use mathlib.Core.List.{List, [], _∷_}
 use lib.Dec.{eqb}
 use lib.ListN.{length}
@@ -46,9 +46,10 @@ keptOf f around =
       number = lastMark (f .kids);
     }
 
--- what a record that opens sees of it
-abbrev pub seenBy : Rec → Kept → Seen
-seenBy r k =
+-- what record r, which has so many children that are nothing but empty texts where `empty` holds, sees of what is kept
+-- of the record around it
+abbrev pub seenBy : Rec → Kept → ℕ → Bool → Seen
+seenBy r k kids empty =
     record {
       columns = k .columns;
       nearest = k .nearest;
@@ -58,6 +59,8 @@ seenBy r k =
       broke = k .broke;
       joins = eqb (k .marker) (writtenMarker (r .a) (r .b));
       number = k .number;
+      kids = kids;
+      empty = empty;
     }
 
 -- record i once it has opened

@@ -1,4 +1,5 @@
--- The marks of the setting machine. "Each record opened without a stop gets a mark: heading depth; cell's column from 1; ordered item's own number, else the item before plus 1, else 1; 0 otherwise. Other marks stay."
+-- The marks of the setting machine. "Each record opened without a stop gets a mark: heading depth; cell's column from 1;
+-- ordered item's own number, else the item before plus 1, else 1; 0 otherwise. Other marks stay."
 use Prim.Native.Nat.{ℕ, _+_}
 use mathlib.Core.Bool.{_&&_}
 use mathlib.Core.List.{List, [], _∷_}
@@ -20,8 +21,8 @@ markOf r s =
     then itemMark r (s .number)
     else 0
 
--- the marks after a run
+-- the marks after the openings and closings of a run
 unfoldable pub marksOf : List Step → List ℕ → List ℕ
 marksOf [] marks = marks
-marksOf (opens f around ∷ ss) marks = marksOf ss (set marks (f .at) (markOf (f .of) (seen (f .of) around)))
+marksOf (opens f around ∷ ss) marks = marksOf ss (set marks (f .at) (markOf (f .of) (seen f around)))
 marksOf (closes f around ∷ ss) marks = marksOf ss marks

@@ -1,14 +1,13 @@
--- What the stops and the marks of the setting machine go by: what is open around a record, and its siblings before it.
+-- What the stops and the marks of the setting machine go by: what is open around a record, its siblings before it, and
+-- its own children that have closed.
 use Prim.Native.Nat.{ℕ, _+_}
 use mathlib.Core.Bool.{Bool, true, false, _&&_, _||_}
 use mathlib.Core.List.{List, [], _∷_}
 use lib.Dec.{eqb}
 use lib.ListN.{length}
 use Rattle.leaves.specs.Text.Lists.{if_then_else_}
-use Rattle.leaves.specs.Sheet.Kinds.{among, isInline, list, table, blankLine, link, linkReference}
+use Rattle.leaves.specs.Sheet.Kinds.{among, isInline, list, table, blankLine, text, link, linkReference, softBreak, lineBreak}
 use Rattle.leaves.specs.declared.sheet.records.Rec.{Rec}
-use Rattle.leaves.specs.Sheet.Empty.{isEmptyText}
-use Rattle.leaves.specs.Sheet.Classes.{isBreak}
 use Rattle.leaves.specs.Text.Marker.{writtenMarker}
 use Rattle.setter.specs.Steps.{Frame}
 
@@ -37,24 +36,27 @@ abbrev pub ordered : List Frame → Bool
 ordered [] = false
 ordered (f ∷ around) = eqb (f .of .a) 1
 
--- the newest sibling is a break
+-- the newest sibling is an inline break: a soft break or a line break
 abbrev pub behindBreak : List Rec → Bool
 behindBreak [] = false
-behindBreak (s ∷ ss) = isBreak (s .kind)
+behindBreak (s ∷ ss) = among (s .kind) (softBreak ∷ lineBreak ∷ [])
 
 -- the newest sibling, "only blank lines skipped", is a list of the same written marker
 unfoldable pub behindList : List Rec → Rec → Bool
 behindList [] r = false
 behindList (s ∷ ss) r =
     let before = behindList ss r in
-    if eqb (s .kind) blankLine then before else eqb (s .kind) list && eqb (writtenMarker (s .a) (s .b)) (writtenMarker (r .a) (r .b))
+    if eqb (s .kind) blankLine
+    then before
+    else eqb (s .kind) list && eqb (writtenMarker (s .a) (s .b)) (writtenMarker (r .a) (r .b))
 
--- "nothing but empty texts"
+-- "nothing but empty texts": each child is a text of no bytes
 unfoldable pub onlyEmpty : List Rec → Bool
 onlyEmpty [] = true
-onlyEmpty (s ∷ ss) = isEmptyText s && onlyEmpty ss
+onlyEmpty (s ∷ ss) = (eqb (s .kind) text && eqb (s .first .len) 0) && onlyEmpty ss
 
--- the number of an ordered item: its "own number, else the item before plus 1, else 1", where `before` is that of the item before, and 0 where there is none
+-- the number of an ordered item: its "own number, else the item before plus 1, else 1", where `before` is that of the
+-- item before, and 0 where there is none
 abbrev pub itemMark : Rec → ℕ → ℕ
 itemMark r before = if eqb (r .b) 1 then r .c else before + 1
 
@@ -63,20 +65,32 @@ unfoldable pub lastMark : List Rec → ℕ
 lastMark [] = 0
 lastMark (s ∷ ss) = itemMark s (lastMark ss)
 
--- what the stops and the mark of a record that opens go by, beside the record itself
+-- what the stops and the mark go by when a record opens or closes, beside the record itself
 pub record Seen : Type 0 where
+  -- A of the nearest table that is open around the record; 0 where there is none
   pub columns : ℕ
+  -- the kind of the nearest record open around it that is no inline; 0 for the sheet
   pub nearest : ℕ
+  -- a link or link reference is open around it, at any depth
   pub linked : Bool
+  -- the record that holds it has an A of 1: for an item, its list is ordered
   pub ordered : Bool
+  -- how many siblings stand before it
   pub before : ℕ
+  -- the sibling straight before it is an inline break
   pub broke : Bool
+  -- the sibling before it, only blank lines skipped, is a list of the written marker that this record has as a list
   pub joins : Bool
+  -- the number of the item before it, as an ordered item's; 0 where there is none
   pub number : ℕ
+  -- how many children it has that have closed: none as it opens, and all as it closes
+  pub kids : ℕ
+  -- these are nothing but empty texts
+  pub empty : Bool
 
--- .. as what is open around it and its siblings before it show it
-abbrev pub seen : Rec → List Frame → Seen
-seen r around =
+-- .. as the record's own frame and what is open around it show it
+abbrev pub seen : Frame → List Frame → Seen
+seen f around =
     record {
       columns = columns around;
       nearest = nearest around;
@@ -84,6 +98,8 @@ seen r around =
       ordered = ordered around;
       before = length (siblings around);
       broke = behindBreak (siblings around);
-      joins = behindList (siblings around) r;
+      joins = behindList (siblings around) (f .of);
       number = lastMark (siblings around);
+      kids = length (f .kids);
+      empty = onlyEmpty (f .kids);
     }

@@ -1,5 +1,6 @@
 // The marks of the records that open.
 ghost use mathlib.Core.Path.{_≡_};
+ghost use mathlib.Core.Bool.{true};
 ghost use Prim.Native.Nat.{_≤_};
 ghost use Rattle.setter.specs.Seen.{itemMark};
 ghost use Rattle.setter.specs.Marks.{markOf};
@@ -20,7 +21,7 @@ pub(crate) fn item_mark(r: Rec, before: u32) -> u32
 // The mark of record r as it opens under `k`.
 pub(crate) fn mark_of(r: Rec, k: Kept) -> u32
     requires { ⌜ (k .kids ≤ mostKids) × (k .number ≤ mostNumber) ⌝ }
-    ensures { λ q. ⌜ q ≡ markOf r (seenBy r k) ⌝ }
+    ensures { λ q. ⌜ q ≡ markOf r (seenBy r k 0 true) ⌝ }
 {
     let item = (r.kind == kinds::ITEM) & k.ordered;
     let mark = pick(item, item_mark(r, k.number), 0);

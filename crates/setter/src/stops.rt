@@ -1,11 +1,14 @@
-// The machine's stops, from what is kept of the records that are open. Document 01's table of them is in specs/Stops.antt.
+// The machine's stops, from what is kept of the records that are open. Document 01's table of them is in
+// specs/Stops.antt.
 ghost use mathlib.Core.Path.{_≡_};
-ghost use mathlib.Core.Bool.{_&&_};
-ghost use mathlib.Core.List.{[], _∷_};
-ghost use Rattle.leaves.specs.Sheet.Kinds.{among, leafDirective, containerDirective, cell, text, code};
+ghost use Prim.Native.Nat.{ℕ};
+ghost use mathlib.Core.Bool.{true, _&&_};
+ghost use mathlib.Core.List.{List, [], _∷_};
+ghost use Rattle.leaves.specs.Sheet.Kinds.{among, paragraph, leafDirective, containerDirective, cell};
+ghost use Rattle.leaves.specs.Sheet.Kinds.{text, emphasis, strong, delete, mark, code};
 ghost use Rattle.leaves.specs.Text.Lines.{holdsLineEnding};
 ghost use Rattle.leaves.specs.Sheet.Texts.{textOf};
-ghost use Rattle.setter.specs.Stops.{lowest, openingTests, closingTests};
+ghost use Rattle.setter.specs.Stops.{opening, closing, stopAt};
 ghost use Rattle.setter.specs.Kept.{seenBy};
 use crate::kept::Kept;
 use leaves::sheet::classes;
@@ -22,7 +25,8 @@ const MOST_NUMBER: u32 = 999999999;
 
 // A text or inline code that holds a line ending.
 fn is_broken_text(bytes: &[u8], r: Rec) -> bool
-    ensures { λ q. ⌜ q ≡ (among (r .kind) (text ∷ code ∷ []) && holdsLineEnding (textOf (now (bytes .entry)) (r .first))) ⌝ }
+    ensures { λ q.
+        ⌜ q ≡ (among (r .kind) (text ∷ code ∷ []) && holdsLineEnding (textOf (now (bytes .entry)) (r .first))) ⌝ }
 {
     let counts = (r.kind == kinds::TEXT) | (r.kind == kinds::CODE);
     if counts {
@@ -38,9 +42,20 @@ fn is_one_line(kind: u32) -> bool
     (kind == kinds::CELL) | (kind == kinds::LEAF_DIRECTIVE) | (kind == kinds::CONTAINER_DIRECTIVE)
 }
 
+// A paragraph, emphasis, strong, delete or mark.
+fn holds_prose(kind: u32) -> bool
+    ensures { λ q. ⌜ q ≡ among kind (paragraph ∷ emphasis ∷ strong ∷ delete ∷ mark ∷ []) ⌝ }
+{
+    (kind == kinds::PARAGRAPH)
+        | (kind == kinds::EMPHASIS)
+        | (kind == kinds::STRONG)
+        | (kind == kinds::DELETE)
+        | (kind == kinds::MARK)
+}
+
 // The stop of record r as it opens under `k`; 0 where it has none.
 pub(crate) fn opening_stop(bytes: &[u8], r: Rec, k: Kept) -> u32
-    ensures { λ q. ⌜ q ≡ lowest (openingTests (now (bytes .entry)) r (seenBy r k)) ⌝ }
+    ensures { λ q. ⌜ q ≡ stopAt opening (now (bytes .entry)) r (seenBy r k 0 true) ⌝ }
 {
     let item = r.kind == kinds::ITEM;
     let numbered = r.b == 1;
@@ -61,14 +76,14 @@ pub(crate) fn opening_stop(bytes: &[u8], r: Rec, k: Kept) -> u32
     pick(cell, 1, pick(line, 4, stop))
 }
 
-// The stop of record r as it closes under `around`, where `k` is kept of it; 0 where it has none.
+// The stop of record r as it closes under `around`, where `k` is kept of it; 0 where it has none. No closing asks for the
+// text, so the promise is for every text.
 pub(crate) fn closing_stop(r: Rec, k: Kept, around: Kept) -> u32
-    ensures { λ q. ⌜ q ≡ lowest (closingTests r (k .kids) (k .empty) (around .columns)) ⌝ }
+    ensures { λ q. ⌜ ((bytes : List ℕ) → q ≡ stopAt closing bytes r (seenBy r around (k .kids) (k .empty))) ⌝ }
 {
     let row = (r.kind == kinds::ROW) & (k.kids < around.columns);
     let table = (r.kind == kinds::TABLE) & ((k.kids == 0) | (r.a == 0));
     let list = (r.kind == kinds::LIST) & (k.kids == 0);
-    let prose = (r.kind == kinds::PARAGRAPH) | classes::is_emphasis_container(r.kind);
-    let stop = pick(list, 9, pick(prose & k.empty, 10, 0));
+    let stop = pick(list, 9, pick(holds_prose(r.kind) & k.empty, 10, 0));
     pick(row, 2, pick(table, 3, stop))
 }

@@ -33,9 +33,10 @@ use Rattle.blocks.specs.Block.{validateLeaf, validateHtml, validateContainer, v
 use Rattle.blocks.specs.Walk.{validateBlock, validateItem, validateBlocks, validateListItems}
 use Rattle.setter.specs.Steps.{Frame, fresh, withKid, opens, closes}
 use Rattle.setter.specs.Machine.{pathOf, blockPath, position}
-use Rattle.setter.specs.Stops.{stopOf, openingTests, closingTests}
+use Rattle.setter.specs.Stops.{stopOf, stopAt}
 use Rattle.setter.specs.Seen.{nearest, inLink, behindBreak, behindList, onlyEmpty}
-use Rattle.setter.specs.Agrees.{Begins, beside, named}
+use Rattle.setter.specs.Agrees.{Begins}
+use Rattle.setter.specs.Stops.{beside, named}
 use Rattle.setter.proofs.agrees.Flat.{walk, filled, pile}
 use Rattle.setter.proofs.agrees.Fits.{Sub, sub-left, sub-right, sub-if, Clean, clean-none, clean-append, clean-if, clean-noise, Fits, Fit, fits-none, fits-map, fit-map, still, one-stop, alone, fits-alone, fits-tree, fits-leaf}
 use Rattle.setter.proofs.agrees.KindCases.{rank, BlockKind, b1, b2, b3, b4, b5, b6, b7, b8, b9, b10, b11, b12, b13, b14, b15, b16, b17, Blocky, blocky, InlineKind, Inliny, inliny, Extra, Extras, extras}
@@ -241,7 +242,7 @@ module _ (bytes : List ℕ) (es : List Entry) (f : Frame) (st : List Frame) (i :
       (fits-alone f st i r kids x (content-fits bytes es (fresh i r) (f ∷ st) (suc i) kids k a placed refl q (at []) u (λ h. absurd (true≢false (sym h ∙ free)))) y)
 
   block-list : Items bytes kids → r .kind ≡ list → Block
-  unfolding stopOf openingTests closingTests validateOwn validateContainer validateList inLink position beside named
+  unfolding stopOf stopAt validateOwn validateContainer validateList inLink position beside named
   block-list ih e =
       let l : Sub (validateList q (r .span) (r .c) kids) es = rw e at s in
       let u : Sub (validateListItems bytes q 0 (r .a) (r .c) kids) es = rw e at t in
@@ -255,7 +256,7 @@ module _ (bytes : List ℕ) (es : List Entry) (f : Frame) (st : List Frame) (i :
       (one-stop (eqb (length (pile kids [])) 0) 8 (rw e) (λ h. sub-if 12 _ q (sub-left _ l) (n ∙ h) refl (at (pile kids [])))))
 
   block-front : r .kind ≡ frontmatter → Block
-  unfolding stopOf openingTests closingTests validateOwn validateContainer validateLeaf validateFrontmatter Holds.holdsBlocks groupOf parentGroup otherGroup beside named
+  unfolding stopOf stopAt validateOwn validateContainer validateLeaf validateFrontmatter Holds.holdsBlocks groupOf parentGroup otherGroup beside named
   block-front e =
       let l : Sub (validateFrontmatter bytes q (r .span) (r .level) (r .a) (r .first)) es = rw e at s in
       fits-map (λ c. (apart (rw e), rw e (clean-append (clean-if 28 _ q (c .0)) (clean-noise _ 29 _ q refl)), rw e clean-none))
@@ -265,7 +266,7 @@ module _ (bytes : List ℕ) (es : List Entry) (f : Frame) (st : List Frame) (i :
       (still (rw e)))
 
   block-leaf-directive : r .kind ≡ leafDirective → Block
-  unfolding stopOf openingTests closingTests validateOwn validateContainer validateLeaf validateDirective Holds.holdsBlocks groupOf parentGroup otherGroup inLink nearest beside named
+  unfolding stopOf stopAt validateOwn validateContainer validateLeaf validateDirective Holds.holdsBlocks groupOf parentGroup otherGroup inLink nearest beside named
   block-leaf-directive e =
       let l : Sub (validateDirective bytes q 22 (r .span) (r .first) kids) es = rw e at s in
       let a : (k : ℕ) → Stands r k → InlineRoot k = hold-label r (rw e) in
@@ -278,7 +279,7 @@ module _ (bytes : List ℕ) (es : List Entry) (f : Frame) (st : List Frame) (i :
       (still (rw e)))
 
   block-directive : Blocks bytes kids → r .kind ≡ containerDirective → Block
-  unfolding stopOf openingTests closingTests validateOwn validateContainer validateDirective validateInlines validateInlineNodes Holds.holdsBlocks groupOf parentGroup otherGroup inLink named
+  unfolding stopOf stopAt validateOwn validateContainer validateDirective validateInlines validateInlineNodes Holds.holdsBlocks groupOf parentGroup otherGroup inLink named
   block-directive ih e =
       let l : Sub (validateDirective bytes q 23 (r .span) (r .first) kids) es = rw e at s in
       let u : Sub (validateBlocks bytes q 0 first kids) es = rw e at t in
@@ -291,7 +292,7 @@ module _ (bytes : List ℕ) (es : List Entry) (f : Frame) (st : List Frame) (i :
       (still (rw e)))
 
   block-html : Blocks bytes kids → r .kind ≡ htmlContainer → Block
-  unfolding stopOf openingTests closingTests validateOwn validateContainer validateHtml Holds.holdsBlocks groupOf parentGroup otherGroup inLink nearest named
+  unfolding stopOf stopAt validateOwn validateContainer validateHtml Holds.holdsBlocks groupOf parentGroup otherGroup inLink nearest named
   block-html ih e = go (eqb (r .a) 0) refl
     where
       go : (x : Bool) → eqb (r .a) 0 ≡ x → Block
@@ -303,7 +304,7 @@ module _ (bytes : List ℕ) (es : List Entry) (f : Frame) (st : List Frame) (i :
           (sub-right _ (rw (e, u) at s)) (λ x c y. rw (e, u) (clean-append (clean-tags bytes q (r .span) kids) c)) (rw (e, u) clean-none)
 
   block-fits : Blocks bytes kids → Items bytes kids → BlockKind (r .kind) → Block
-  unfolding stopOf openingTests closingTests validateOwn validateContainer validateLeaf validateParagraph validateHeading Holds.holdsBlocks groupOf parentGroup otherGroup inLink nearest beside named
+  unfolding stopOf stopAt validateOwn validateContainer validateLeaf validateParagraph validateHeading Holds.holdsBlocks groupOf parentGroup otherGroup inLink nearest beside named
   block-fits ihb ihi (b1 e) =
       block-content (hold-inlines r (rw e)) (rw e) (rw e out) (rw e) (still (rw e))
       (one-stop (onlyEmpty (pile kids [])) 9 (rw e) (λ h. sub-if 2 _ q (sub-left _ (rw e at s)) (sym (empty-kids r kids (rw e) placed) ∙ h) refl (at (pile kids []))))
@@ -332,7 +333,7 @@ module _ (bytes : List ℕ) (es : List Entry) (f : Frame) (st : List Frame) (i :
 -- an item's number: its two stops, and its two rules
 module _ (bytes : List ℕ) (es : List Entry) (f : Frame) (st : List Frame) (i : ℕ) (r : Rec) (q : List ℕ) (e : r .kind ≡ item) (d : pathOf (fresh i r ∷ f ∷ st) ≡ q) (s : Sub (validateItemNumber q (r .span) (f .of .a) (itemNumber (r .b) (r .c))) es) where
   number-fits : Fit bytes es (opens (fresh i r) (f ∷ st)) (Clean (validateItemNumber q (r .span) (f .of .a) (itemNumber (r .b) (r .c))))
-  unfolding stopOf openingTests validateItemNumber itemNumber beside
+  unfolding stopOf stopAt validateItemNumber itemNumber beside
   number-fits = go (eqb (f .of .a) 1) refl (eqb (r .b) 1) refl
     where
       at : Begins (blockPath (fresh i r ∷ f ∷ st)) q
@@ -347,7 +348,7 @@ module _ (bytes : List ℕ) (es : List Entry) (f : Frame) (st : List Frame) (i :
 -- an item and the items after it
 module _ (bytes : List ℕ) (es : List Entry) (f : Frame) (st : List Frame) (i m k tight : ℕ) (r : Rec) (kids rest : Forest) (ihb : Blocks bytes kids) (ihr : Items bytes rest) where
   tree-item : f .of .kind ≡ list → Placed (f .of) m (tree r kids rest) → position (f .kids) ≡ k → inLink (f ∷ st) ≡ false → Sub (validateListItems bytes (pathOf (f ∷ st)) k (f .of .a) tight (tree r kids rest)) es → Fits bytes es (walk f st i (tree r kids rest)) (Clean (validateListItems bytes (pathOf (f ∷ st)) k (f .of .a) tight (tree r kids rest)))
-  unfolding validateListItems validateItem Placed pathOf inLink position stopOf closingTests groupOf parentGroup named
+  unfolding validateListItems validateItem Placed pathOf inLink position stopOf stopAt groupOf parentGroup named
   tree-item e placed t out s =
       let one : r .kind ≡ item = under-list (f .of) (r .kind) (placed .0) (rw e) in
       let q : List ℕ = pathOf (f ∷ st) ++ k ∷ [] in

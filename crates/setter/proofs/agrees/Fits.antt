@@ -13,7 +13,8 @@ use Rattle.leaves.specs.Report.Entries.{Entry, listIf, _⊕_}
 use Rattle.setter.specs.Steps.{Frame, fresh, withKid, Step, opens, closes}
 use Rattle.setter.specs.Machine.{openAt, blockPath}
 use Rattle.setter.specs.Stops.{stopOf}
-use Rattle.setter.specs.Agrees.{Some, Told, Begins, beside, named}
+use Rattle.setter.specs.Agrees.{Some, Told, Begins}
+use Rattle.setter.specs.Stops.{beside, named}
 use Rattle.setter.proofs.agrees.Flat.{walk, filled, pile}
 
 -- an entry of a rule beside stopOf bytes s, at a path that begins with p

@@ -105,7 +105,14 @@ size-of : (w : List ℕ) → 0 + size (forestOf w) ≡ recordsOf w
 unfolding forestOf
 size-of w = zero-add _ ∙ size-at w (recordsOf w) 0
 
-pub once-of : (w : List ℕ) → Deep 0 (forestOf w) → (i : ℕ) → (timesOpened i (stepsOf w) ≡ (if ltb i (recordsOf w) then 1 else 0)) × (timesClosed i (stepsOf w) ≡ (if ltb i (recordsOf w) then 1 else 0))
-once-of w h i =
-    let z : below i 0 ≡ 0 = ap (λ (b : Bool). if b then 1 else 0) (le-ltb i 0 (omega arith)) in
-    rw (walk-of w h, ← size-of w) (omega (arith, z, opened i theSheet [] 0 (forestOf w)), omega (arith, z, closed i theSheet [] 0 (forestOf w)))
+module _ (w : List ℕ) (h : Deep 0 (forestOf w)) (i : ℕ) where
+  times : (timesOpened i (stepsOf w) ≡ below i (recordsOf w)) × (timesClosed i (stepsOf w) ≡ below i (recordsOf w))
+  times =
+      let z : below i 0 ≡ 0 = ap (λ (b : Bool). if b then 1 else 0) (le-ltb i 0 (omega arith)) in
+      rw (walk-of w h, ← size-of w) (omega (arith, z, opened i theSheet [] 0 (forestOf w)), omega (arith, z, closed i theSheet [] 0 (forestOf w)))
+
+  pub once-of : i < recordsOf w → (timesOpened i (stepsOf w) ≡ 1) × (timesClosed i (stepsOf w) ≡ 1)
+  once-of g = rw (lt-ltb i (recordsOf w) g) at times
+
+  pub never-of : recordsOf w ≤ i → (timesOpened i (stepsOf w) ≡ 0) × (timesClosed i (stepsOf w) ≡ 0)
+  never-of g = rw (le-ltb i (recordsOf w) g) at times

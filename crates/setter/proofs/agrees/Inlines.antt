@@ -25,9 +25,10 @@ use Rattle.inlines.specs.Node.{validateEmphasisContainer, validateInline}
 use Rattle.inlines.specs.Nodes.{validateNode, validateInlineNodesAfter}
 use Rattle.setter.specs.Steps.{Frame, fresh, withKid, opens, closes}
 use Rattle.setter.specs.Machine.{pathOf, blockPath}
-use Rattle.setter.specs.Stops.{stopOf, openingTests, closingTests}
+use Rattle.setter.specs.Stops.{stopOf, stopAt}
 use Rattle.setter.specs.Seen.{nearest, inLink, behindBreak, onlyEmpty}
-use Rattle.setter.specs.Agrees.{Begins, beside, named}
+use Rattle.setter.specs.Agrees.{Begins}
+use Rattle.setter.specs.Stops.{beside, named}
 use Rattle.setter.proofs.agrees.Flat.{walk, filled, pile}
 use Rattle.setter.proofs.agrees.Fits.{Sub, sub-left, sub-right, sub-if, Clean, clean-none, clean-append, clean-if, clean-noise, Fits, fits-none, fits-map, still, one-stop, two-stops, alone, fits-alone, fits-tree, fits-leaf}
 use Rattle.setter.proofs.agrees.KindCases.{rank, InlineKind, i31, i32, i33, i34, i35, i36, i37, i38, i39, i40, i41, i42, i43, i44, i45, i46, i47, i48, i49, i50, i51, i52, i53, Inliny, inliny, Extra, tag, attr, Extras, extras}
@@ -297,7 +298,7 @@ module _ (bytes : List ℕ) (es : List Entry) (f : Frame) (st : List Frame) (i b
       (still c))
 
   pub node-fits : Inlines bytes kids → InlineKind (r .kind) → Here
-  unfolding stopOf openingTests closingTests validateInline validateInlineValues validateText validateCodeInline groupOf parentGroup otherGroup inLink beside named
+  unfolding stopOf stopAt validateInline validateInlineValues validateText validateCodeInline groupOf parentGroup otherGroup inLink beside named
   node-fits ih (i31 e) = node-ending (holdsLineEnding (textOf bytes (r .first))) (rw e) (rw e) (rw e) (rw e) (rw e) (rw e) 31 refl (rw e at (s .own)) (λ h. rw e (clean-if 31 _ p h))
   node-fits ih (i32 e) = node-plain (rw e) (rw e) (rw e) (rw e) (rw e) (rw e) (rw e (clean-escape bytes p (r .span) (r .a)))
   node-fits ih (i33 e) = node-plain (rw e) (rw e) (rw e) (rw e) (rw e) (rw e) (rw e clean-none)
@@ -329,7 +330,7 @@ extra-leaf r kids placed (tag e) = leaf r 0 kids placed (rw e)
 extra-leaf r kids placed (attr e) = leaf r 0 kids placed (rw e)
 
 pub extra-fits : (bytes : List ℕ) (es : List Entry) (f : Frame) (st : List Frame) (i : ℕ) (r : Rec) (kids : Forest) → Placed r 0 kids → Extra (r .kind) → Fits bytes es (alone f st i r kids) (Unit {0})
-unfolding stopOf openingTests closingTests
+unfolding stopOf stopAt
 extra-fits bytes es f st i r kids placed (tag e) = fits-map (λ x. tt) (fits-alone f st i r kids (still (rw e)) (fits-leaf _ _ _ _ (extra-leaf r kids placed (tag e))) (still (rw e)))
 extra-fits bytes es f st i r kids placed (attr e) = fits-map (λ x. tt) (fits-alone f st i r kids (still (rw e)) (fits-leaf _ _ _ _ (extra-leaf r kids placed (attr e))) (still (rw e)))
 

@@ -21,7 +21,7 @@ use Rattle.blocks.specs.Heads.{validateAlert, validateCodeBlock, validateDefini
 use Rattle.blocks.specs.Footnote.{blankLineAt, validateFootnoteDefinition}
 use Rattle.blocks.specs.Item.{validateBlankLine, validateItemBlankLines, validateTaskItem}
 use Rattle.blocks.specs.Html.{validateTags, validateHtmlContainer}
-use Rattle.setter.specs.Agrees.{named}
+use Rattle.setter.specs.Stops.{named}
 use Rattle.setter.proofs.agrees.Fits.{Clean, clean-none, clean-append, clean-noise}
 
 clean-either : (b : Bool) {x y : List Entry} → Clean x → Clean y → Clean (if b then x else y)

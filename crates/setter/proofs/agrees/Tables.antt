@@ -17,10 +17,11 @@ use Rattle.inlines.specs.Depth.{validateOneLine}
 use Rattle.inlines.specs.Nodes.{validateInlineNodes, validateInlines}
 use Rattle.blocks.specs.Table.{validateCell, validateCells, validateRows, headerWidth, validateTable}
 use Rattle.setter.specs.Steps.{Frame, fresh, withKid}
-use Rattle.setter.specs.Stops.{stopOf, openingTests, closingTests}
+use Rattle.setter.specs.Stops.{stopOf, stopAt}
 use Rattle.setter.specs.Machine.{pathOf, blockPath}
 use Rattle.setter.specs.Seen.{nearest, inLink, columns}
-use Rattle.setter.specs.Agrees.{Begins, beside}
+use Rattle.setter.specs.Agrees.{Begins}
+use Rattle.setter.specs.Stops.{beside}
 use Rattle.setter.proofs.agrees.Flat.{walk, filled, pile}
 use Rattle.setter.proofs.agrees.Fits.{Found, Sub, sub-left, sub-right, sub-if, Clean, clean-none, clean-append, clean-if, Fits, fits-none, fits-map, still, one-stop, alone, fits-alone, fits-tree}
 use Rattle.setter.proofs.agrees.KindCases.{rank}
@@ -39,7 +40,7 @@ module _ (bytes : List ℕ) (es : List Entry) (f : Frame) (st : List Frame) (i :
 
 -- a cell, at the path q of its own
 one-cell : (bytes : List ℕ) (es : List Entry) (f : Frame) (st : List Frame) (i : ℕ) (q : List ℕ) (r : Rec) (kids : Forest) → r .kind ≡ cell → Begins (blockPath (f ∷ st)) q → inLink (f ∷ st) ≡ false → Placed r 0 kids → Sub (validateCell bytes q kids) es → (columns (f ∷ st) ≤ length (f .kids) → Found es 1 (blockPath (f ∷ st))) → Fits bytes es (alone f st i r kids) (Clean (validateCell bytes q kids) × (length (f .kids) < columns (f ∷ st)))
-unfolding stopOf openingTests closingTests groupOf parentGroup inLink nearest beside validateCell
+unfolding stopOf stopAt groupOf parentGroup inLink nearest beside validateCell
 one-cell bytes es f st i q r kids e b out p s wide =
     fits-map (λ c. (clean-append (c .1 .0) (clean-append (clean-values bytes q kids) (c .1 .1 (rw e) 20)), leb-false _ _ (c .0)))
     (fits-alone f st i r kids
@@ -73,7 +74,7 @@ odd es p q n a w sp h g narrow ne s x y = go (eqb a w) refl
 
 -- a row, at the path q of its own, where the header has w cells
 one-row : (bytes : List ℕ) (es : List Entry) (f : Frame) (st : List Frame) (i w : ℕ) (q : List ℕ) (r : Rec) (kids : Forest) → f .of .kind ≡ table → r .kind ≡ row → Begins (blockPath (f ∷ st)) q → inLink (f ∷ st) ≡ false → Placed r 0 kids → Sub (listIf (not (eqb (count kids) w)) 19 (r .span) q) es → Sub (validateCells bytes q 0 kids) es → ((f .of .a ≡ w → ⊥) → (s : ℕ) → beside s 18 ≡ true → Found es s (blockPath (f ∷ st))) → Fits bytes es (alone f st i r kids) ((count kids ≡ f .of .a) × Clean (validateCells bytes q 0 kids))
-unfolding stopOf openingTests closingTests inLink columns beside
+unfolding stopOf stopAt inLink columns beside
 one-row bytes es f st i w q r kids g e b out p s₁ s narrow =
     let n : length (pile kids []) ≡ count kids + 0 = length-pile kids [] in
     let cols : columns (fresh i r ∷ f ∷ st) ≡ f .of .a = rw (e, g) in
@@ -117,7 +118,7 @@ table-some bytes q sp a h cs rest = rw (ne-eqb (suc (count rest)) 0 (λ d. omega
 
 -- a table, whose path is q
 pub table-fits : (bytes : List ℕ) (es : List Entry) (f : Frame) (st : List Frame) (i : ℕ) (q : List ℕ) (r : Rec) (kids : Forest) → r .kind ≡ table → pathOf (fresh i r ∷ f ∷ st) ≡ q → inLink (f ∷ st) ≡ false → Placed r 0 kids → Sub (validateTable bytes q (r .span) (r .a) kids) es → Fits bytes es (alone f st i r kids) (Clean (validateTable bytes q (r .span) (r .a) kids))
-unfolding stopOf openingTests closingTests inLink beside pile walk Widths
+unfolding stopOf stopAt inLink beside pile walk Widths
 table-fits bytes es f st i q r none e d out p s =
     fits-map (λ c. absurd (true≢false (c .2)))
     (fits-alone f st i r none

@@ -18,7 +18,7 @@ use Rattle.leaves.specs.Refusal.Verdict.{numberOf, isAccepted}
 use Rattle.leaves.specs.Refusal.Judge.{judgeSheet}
 use Rattle.leaves.proofs.refusal.VerdictLaws.{none-refused}
 use Rattle.blocks.specs.Walk.{validateDocument}
-use Rattle.setter.specs.Machine.{Outcome, ended, stopped, answerStop, answerRecord, outcome as runOutcome}
+use Rattle.setter.specs.Machine.{End, reached, stopped, answerStop, answerRecord, run}
 use Rattle.setter.specs.Answer.{stopNumber}
 use Rattle.setter.specs.Setting.{answerOf, afterRun, settingOf}
 use Rattle.setter.specs.declared.answer.Setting.{Setting}
@@ -67,17 +67,17 @@ written w bytes x z = go (isAccepted (judgeSheet w bytes)) refl (ltb (length x) 
     go true p false q = record { accepted = p; count = rw (p, q); holds = rw (p, q); fits = ltb-false _ _ q }
 
 -- ---- the machine's answer, where the sheet was accepted and has no more records than marks
-stop-is : (k : ℕ) (o : Outcome) → stopNumber (answerOf k o) ≡ answerStop o
+stop-is : (k : ℕ) (o : End) → stopNumber (answerOf k o) ≡ answerStop o
 unfolding answerOf answerStop
-stop-is k ended = refl
-stop-is k (stopped s i path) = refl
+stop-is k reached = refl
+stop-is k (stopped s t) = refl
 
-record-is : (k : ℕ) (o : Outcome) → runRecord (answerOf k o) ≡ answerRecord k o
+record-is : (k : ℕ) (o : End) → runRecord (answerOf k o) ≡ answerRecord k o
 unfolding answerOf answerRecord
-record-is k ended = refl
-record-is k (stopped s i path) = refl
+record-is k reached = refl
+record-is k (stopped s t) = refl
 
-ran : (w bytes m : List ℕ) → isAccepted (judgeSheet w bytes) ≡ true → recordsOf w ≤ length m → settingOf w bytes m .0 ≡ answerOf (recordsOf w) (runOutcome w bytes)
+ran : (w bytes m : List ℕ) → isAccepted (judgeSheet w bytes) ≡ true → recordsOf w ≤ length m → settingOf w bytes m .0 ≡ answerOf (recordsOf w) (run w bytes .end)
 unfolding settingOf afterRun
 ran w bytes m a h = rw (a, le-ltb _ _ h)
 
@@ -104,14 +104,14 @@ module _ (w bytes x : List ℕ) {y : List ℕ} {c : Checked} {number value : ℕ
     list-few = omega (arith, few-entries (validateDocument w bytes), list-is .fits, list-is .count)
 
     module _ (marks : List ℕ) {m : List ℕ} {s : Setting} {stop at : ℕ} (q : _≡_ {A = Setting × List ℕ} (s, m) (settingOf w bytes marks)) (few : recordsOf w ≤ mostRecords) (same : length marks ≡ mostRecords) (f : stop ≡ stopNumber s) (g : at ≡ runRecord s) where
-      run-is : s ≡ answerOf (recordsOf w) (runOutcome w bytes)
+      run-is : s ≡ answerOf (recordsOf w) (run w bytes .end)
       run-is = ap (λ (u : Setting × List ℕ). u .0) q ∙ ran w bytes marks (list-is .accepted) (omega arith)
 
       pub list-printed : {old new : List ℕ} {r : ℕ} → Prints old (linesIn value y ++ line (value ∷ stop ∷ at ∷ [])) new r → Prints old (sheetLines w bytes) new r
       unfolding sheetLines listLines
       list-printed p =
-          let stop-at : stop ≡ answerStop (runOutcome w bytes) = f ∙ ap stopNumber run-is ∙ stop-is (recordsOf w) (runOutcome w bytes) in
-          let at-is : at ≡ answerRecord (recordsOf w) (runOutcome w bytes) = g ∙ ap runRecord run-is ∙ record-is (recordsOf w) (runOutcome w bytes) in
+          let stop-at : stop ≡ answerStop (run w bytes .end) = f ∙ ap stopNumber run-is ∙ stop-is (recordsOf w) (run w bytes .end) in
+          let at-is : at ≡ answerRecord (recordsOf w) (run w bytes .end) = g ∙ ap runRecord run-is ∙ record-is (recordsOf w) (run w bytes .end) in
           let lines : linesIn value y ≡ entryLines (validateDocument w bytes) = rw (list-is .count, list-is .holds) (lines-of (validateDocument w bytes) _) in
           rw (checked-is, ← a, eq-eqb _ _ h, ← lines, ← list-is .count, ← stop-at, ← at-is) p
 

@@ -7,7 +7,7 @@ use lib.ListN.{replicate}
 use Rattle.leaves.specs.Text.Lists.{if_then_else_}
 use Rattle.leaves.specs.Sheet.Records.{recordsOf}
 use Rattle.blocks.specs.Walk.{validateDocument}
-use Rattle.setter.specs.Machine.{answerStop, answerRecord, outcome as runOutcome}
+use Rattle.setter.specs.Machine.{answerStop, answerRecord, run}
 use Rattle.blocks.specs.Check.{answerNumber, answerValue, outcome}
 use Rattle.blocks.specs.declared.answer.Checked.{Checked}
 use Rattle.setter.specs.Listing.Film.{filmSheet, filmText, filmOf}
@@ -22,7 +22,7 @@ checkedWith w bytes = outcome w bytes (replicate reportWords 0) .0
 unfoldable pub sheetLines : List ℕ → List ℕ → List ℕ
 sheetLines w bytes =
     if eqb (answerNumber (checkedWith w bytes)) 0
-    then listLines (validateDocument w bytes) (answerStop (runOutcome w bytes)) (answerRecord (recordsOf w) (runOutcome w bytes))
+    then listLines (validateDocument w bytes) (answerStop (run w bytes .end)) (answerRecord (recordsOf w) (run w bytes .end))
     else refusalLine (answerNumber (checkedWith w bytes)) (answerValue (checkedWith w bytes))
 
 -- what the program prints for what it reads: refusals 13 and 14 come "before the call", with record "0 for .. 11 and above"
