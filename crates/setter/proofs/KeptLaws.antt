@@ -7,8 +7,9 @@ use native.Mathlib.Numerals.{add-one}
 use native.Mathlib.Omega.{arith}
 use lib.Dec.{eqb, ltb}
 use lib.ListN.{length}
-use borrow.Author.Tests.{eq-eqb, ltb-true, ltb-false}
+use borrow.Author.Tests.{eq-eqb, ltb-true, ltb-false, le-leb}
 use Rattle.leaves.specs.Text.Lists.{if_then_else_}
+use Rattle.leaves.specs.Text.Bytes.{between}
 use Rattle.leaves.specs.Sheet.Kinds.{list, blankLine, item}
 use Rattle.leaves.specs.declared.sheet.records.Rec.{Rec}
 use Rattle.leaves.specs.Refusal.Fields.{mostA, mostB, mostC, isSurrogate, badNumber, badField}
@@ -17,6 +18,7 @@ use Rattle.leaves.specs.Text.Marker.{writtenMarker}
 use Rattle.setter.specs.Steps.{Frame, fresh, withKid}
 use Rattle.setter.specs.Seen.{columns, nearest, inLink, behindList, onlyEmpty, lastMark, Seen, seen}
 use Rattle.setter.specs.Stops.{Moment, opening, sameMoment, Row, stops, lowest, stopAt}
+use Rattle.setter.specs.Answer.{lastStop}
 use Rattle.setter.specs.Kept.{markerBehind, keptOf, seenBy, openedIn, joinedBy}
 
 -- a list's written marker is never 0
@@ -53,6 +55,30 @@ opened-kept i r f st = refl
 pub joined-kept : (r : Rec) (f : Frame) (st : List Frame) → joinedBy (keptOf f st) r ≡ keptOf (withKid r f) st
 unfolding keptOf joinedBy columns nearest inLink onlyEmpty lastMark markerBehind
 joined-kept r f st = rw (add-one (length (f .kids)))
+
+-- ---- a stop is one of the table
+Small : List Row → Type 0
+Small [] = Unit {0}
+Small (t ∷ ts) = (t .stop ≤ lastStop) × Small ts
+
+small-stops : Small stops
+unfolding Small
+small-stops = omega arith
+
+lowest-small : (m : Moment) (bytes : List ℕ) (r : Rec) (s : Seen) (ts : List Row) → Small ts → lowest m bytes r s ts ≤ lastStop
+unfolding Small
+lowest-small m bytes r s [] h = omega arith
+lowest-small m bytes r s (t ∷ ts) h = go (sameMoment m (t .moment) && t .holds bytes r s) (lowest-small m bytes r s ts (h .1))
+  where
+    go : (b : Bool) → lowest m bytes r s ts ≤ lastStop → (if b then t .stop else lowest m bytes r s ts) ≤ lastStop
+    go true later = h .0
+    go false later = later
+
+pub proper-stop : (m : Moment) (bytes : List ℕ) (r : Rec) (s : Seen) {n : ℕ} → n ≡ stopAt m bytes r s → (n ≡ 0 → ⊥) → between 1 lastStop n ≡ true
+unfolding stopAt
+proper-stop m bytes r s {n} e h =
+    let most : n ≤ lastStop = rw e (lowest-small m bytes r s stops small-stops) in
+    rw (le-leb 1 n (omega arith), le-leb n lastStop most)
 
 -- ---- an item that opens has a small number, or none
 -- where the lowest of the stops is none, no row of that moment holds

@@ -1,7 +1,7 @@
 pub mod BothLaws
 pub mod KeptLaws
 pub mod MachineExamples
-pub mod PackedLaws
+pub mod ExportLaws
 pub mod RunLaws
 pub mod SetLaws
 pub mod StepLaws

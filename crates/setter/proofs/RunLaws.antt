@@ -21,17 +21,17 @@ use Rattle.leaves.proofs.text.TestLaws.{or-left, or-right}
 use Rattle.leaves.proofs.refusal.PassLaws.{Deep, deep}
 use Rattle.leaves.proofs.refusal.FormedLaws.{each-passed, accepted}
 use Rattle.setter.specs.Steps.{Frame, fresh, withKid, theSheet, Step, closings, stepsFrom, stepsOf, opens, closes}
-use Rattle.setter.specs.Machine.{runOf, run}
+use Rattle.setter.specs.Machine.{runOf, run, runAnswer}
 use Rattle.setter.specs.Marks.{markOf, marksOf}
 use Rattle.setter.specs.Stops.{opening, closing, stopAt, stopOf}
 use Rattle.setter.specs.Seen.{onlyEmpty, lastMark, itemMark, seen}
 use Rattle.setter.proofs.StepLaws.{Low, open-one, close-one, goes-on, stops-here}
 use Rattle.setter.specs.Kept.{keptOf, seenBy, openedIn, joinedBy}
 use Rattle.setter.specs.declared.kept.Kept.{Kept}
-use Rattle.setter.proofs.KeptLaws.{seen-kept, opened-kept, joined-kept, small-number}
-use Rattle.setter.specs.Setting.{answerOf, afterRun}
+use Rattle.setter.proofs.KeptLaws.{seen-kept, opened-kept, joined-kept, proper-stop, small-number}
+use Rattle.setter.specs.Answer.{Answers}
+use Rattle.setter.specs.Setting.{afterRun}
 use Rattle.setter.specs.MachineRunning.{nextLevel}
-use Rattle.setter.specs.declared.answer.Setting.{Setting}
 use Rattle.setter.specs.declared.answer.Setting.the-variants.{Ended, Stopped}
 
 -- ---- the levels of an accepted sheet
@@ -138,8 +138,8 @@ unfolding recordsFrom
 left-none w n i h = let e : n - i ≡ 0 = omega arith in rw e
 
 -- after the last record nothing is open
-pub run-end : (w bytes old : List ℕ) (n : ℕ) (new : List ℕ) (os : List Kept) (depth i : ℕ) → Running w bytes old n new os depth i → (ltb i n || ltb 0 depth) ≡ false → _≡_ {A = Setting × List ℕ} (Ended n, new) (afterRun w bytes old)
-unfolding afterRun answerOf stepsFrom closings runOf marksOf
+pub run-end : (w bytes old : List ℕ) (n : ℕ) (new : List ℕ) (os : List Kept) (depth i : ℕ) → Running w bytes old n new os depth i → (ltb i n || ltb 0 depth) ≡ false → Answers (afterRun w bytes old) (Ended n) new
+unfolding afterRun runAnswer stepsFrom closings runOf marksOf
 run-end w bytes old n new os depth i v h = go (v .around) refl
   where
     out : n ≤ i
@@ -148,9 +148,9 @@ run-end w bytes old n new os depth i v h = go (v .around) refl
     none-open : depth ≤ 0
     none-open = ltb-false 0 depth (or-right (ltb i n) (ltb 0 depth) h)
 
-    go : (st : List Frame) → v .around ≡ st → _≡_ {A = Setting × List ℕ} (Ended n, new) (afterRun w bytes old)
+    go : (st : List Frame) → v .around ≡ st → Answers (afterRun w bytes old) (Ended n) new
     go (g ∷ st) e = absurd (omega (arith, v .deep, ap length e, none-open))
-    go [] e = rw (v .ends, v .marked, e, left-none w n i out, v .all)
+    go [] e = record { answer = rw (v .ends, v .marked, e, left-none w n i out, v .all); proper = refl }
 
 -- ---- a turn that closes the innermost record
 
@@ -257,11 +257,11 @@ module _ (w bytes old : List ℕ) (n : ℕ) (new : List ℕ) (os : List Kept) (d
     unfolding stopOf keptOf
     closes-stop = es bytes ∙ rw (top-kept, under-kept, closes-of) (ap (stopAt closing bytes (z .top .of)) (seen-kept (z .top) (z .under) (z .around)))
 
-    pub close-stop : (s ≡ 0 → ⊥) → _≡_ {A = Setting × List ℕ} (Stopped s (getD os depth unkept .at), new) (afterRun w bytes old)
-    unfolding afterRun answerOf marksOf
+    pub close-stop : (s ≡ 0 → ⊥) → Answers (afterRun w bytes old) (Stopped s (getD os depth unkept .at)) new
+    unfolding afterRun runAnswer marksOf
     close-stop h =
         let here = stops-here bytes (closes (z .top) (z .under ∷ z .around)) after-close (rw closes-stop at h) in
-        rw (z .ends, z .marked, here, top-at, closes-stop)
+        record { answer = rw (z .ends, z .marked, here, top-at, closes-stop); proper = proper-stop closing [] r _ (es []) h }
 
     pub close-turn : {q : Kept} → s ≡ 0 → q ≡ joinedBy (getD os (depth - 1) unkept) r → Running w bytes old n new (set os (depth - 1) q) (depth - 1) i
     unfolding Held marksOf lastMark
@@ -354,11 +354,11 @@ module _ (w bytes old : List ℕ) (n : ℕ) (new : List ℕ) (os : List Kept) (d
     unfolding stopOf
     opens-stop = es ∙ rw (seen-is, er)
 
-    pub open-stop : (s ≡ 0 → ⊥) → _≡_ {A = Setting × List ℕ} (Stopped s i, new) (afterRun w bytes old)
-    unfolding afterRun answerOf marksOf
+    pub open-stop : (s ≡ 0 → ⊥) → Answers (afterRun w bytes old) (Stopped s i) new
+    unfolding afterRun runAnswer marksOf
     open-stop h =
         let here = stops-here bytes open-step after-open (rw opens-stop at h) in
-        rw (z .running .ends, z .running .marked, steps-are, here, opens-stop)
+        record { answer = rw (z .running .ends, z .running .marked, steps-are, here, opens-stop); proper = proper-stop opening bytes r _ es h }
 
     pub open-turn : {m : ℕ} {q : Kept} → s ≡ 0 → m ≡ markOf r (seenBy r (getD os depth unkept) 0 true) → q ≡ openedIn i r (getD os depth unkept) → Running w bytes old n (set new i m) (set os (depth + 1) q) (depth + 1) (i + 1)
     unfolding Held marksOf lastMark stopOf

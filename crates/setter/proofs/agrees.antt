@@ -4,6 +4,7 @@ pub mod Demand
 pub mod Fits
 pub mod Flat
 pub mod Inlines
+pub mod Inside
 pub mod KindCases
 pub mod Noise
 pub mod Placed

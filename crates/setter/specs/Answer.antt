@@ -1,39 +1,43 @@
--- The answer of the setting machine.
-use Prim.Native.Nat.{ℕ}
-use mathlib.Core.Bool.{Bool, true, false}
-use Rattle.leaves.specs.Text.Lists.{if_then_else_}
-use Rattle.leaves.specs.Refusal.Verdict.{numberOf, recordOf}
+-- The answer of the setting machine, by number and value.
+use Prim.Native.Nat.{ℕ, _+_}
+use mathlib.Core.Path.{_≡_}
+use mathlib.Core.Bool.{Bool, true}
+use mathlib.Core.List.{List}
+use Rattle.leaves.specs.Text.Bytes.{between}
+use Rattle.leaves.specs.Refusal.Verdict.{Answer, answer, refusalAnswer}
 use Rattle.setter.specs.declared.answer.Setting.{Setting}
 use Rattle.setter.specs.declared.answer.Setting.the-variants.{Ended, Stopped, Refused, ShortMarks}
 
--- "stop (0 at the end)"; 0 too where the sheet or the marks are refused
-abbrev pub stopNumber : Setting → ℕ
-stopNumber (Ended records) = 0
-stopNumber (Stopped stop i) = stop
-stopNumber (Refused judged) = 0
-stopNumber ShortMarks = 0
+-- the number of "short marks"
+abbrev pub shortMarks : ℕ
+shortMarks = 12
 
--- the sheet or the marks are refused, and the machine did not run
-abbrev pub isRefused : Setting → Bool
-isRefused (Ended records) = false
-isRefused (Stopped stop i) = false
-isRefused (Refused judged) = true
-isRefused ShortMarks = true
+-- A refusal of the sheet or of the marks, as the machine answers it: its number has 256 added, so that it is no stop.
+-- (Document 01 gives 1 to 12 to refusals and 1 to 14 to stops; docs/DIFFERENCES.md has this among the readings.)
+abbrev pub refusedAs : Answer → Answer
+refusedAs a = answer (256 + a .number) (a .value)
 
--- Document 01's number of a refusal: 1 to 10 of the sheet, 12 "short marks"; 0 where the machine ran
-abbrev pub refusalNumber : Setting → ℕ
-refusalNumber (Ended records) = 0
-refusalNumber (Stopped stop i) = 0
-refusalNumber (Refused judged) = numberOf judged
-refusalNumber ShortMarks = 12
+-- "Answer: end and record count, or stop and the record being opened or closed", and "stop (0 at the end), record";
+-- "A refusal returns number and record (from 0; 0 for 1–3 and for 11 and above)".
+abbrev pub settingAnswer : Setting → Answer
+settingAnswer (Ended records) = answer 0 records
+settingAnswer (Stopped stop i) = answer stop i
+settingAnswer (Refused refusal) = refusedAs (refusalAnswer refusal)
+settingAnswer ShortMarks = refusedAs (answer shortMarks 0)
 
--- "Answer: end and record count, or stop and the record being opened or closed." "A refusal returns number and record (from 0; 0 for 1–3 and for 11 and above)"
-abbrev pub answerRecord : Setting → ℕ
-answerRecord (Ended records) = records
-answerRecord (Stopped stop i) = i
-answerRecord (Refused judged) = recordOf judged
-answerRecord ShortMarks = 0
+-- how many stops there are
+abbrev pub lastStop : ℕ
+lastStop = 14
 
--- that record where the machine ran; 0 where the sheet or the marks are refused
-abbrev pub runRecord : Setting → ℕ
-runRecord s = if isRefused s then 0 else answerRecord s
+-- an answer that can be: where the machine stopped, the number is one of the stops
+abbrev pub isProper : Setting → Bool
+isProper (Ended records) = true
+isProper (Stopped stop i) = between 1 lastStop stop
+isProper (Refused refusal) = true
+isProper ShortMarks = true
+
+-- the answer s, with the marks after it, is the answer and the marks of p. No other answer has its number and value, since
+-- it is one that can be.
+pub record Answers (p : Answer × List ℕ) (s : Setting) (marked : List ℕ) : Type 0 where
+  pub answer : (settingAnswer s, marked) ≡ p
+  pub proper : isProper s ≡ true

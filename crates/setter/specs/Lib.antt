@@ -1,12 +1,12 @@
 pub mod Agrees
 pub mod Answer
 pub mod Both
+pub mod Exports
 pub mod Kept
 pub mod Listing
 pub mod Machine
 pub mod MachineRunning
 pub mod Marks
-pub mod Packed
 pub mod Seen
 pub mod Setting
 pub mod Steps

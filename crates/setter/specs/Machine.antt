@@ -8,7 +8,9 @@ use mathlib.Core.List.{List, [], _∷_, _++_}
 use lib.Dec.{eqb}
 use Rattle.leaves.specs.Text.Lists.{if_then_else_}
 use Rattle.leaves.specs.Sheet.Kinds.{isBlock, item}
+use Rattle.leaves.specs.Sheet.Records.{recordsOf}
 use Rattle.leaves.specs.declared.sheet.records.Rec.{Rec}
+use Rattle.leaves.specs.Refusal.Verdict.{Answer, answer}
 use Rattle.setter.specs.Steps.{Frame, Step, opens, closes, stepsOf}
 use Rattle.setter.specs.Seen.{siblings}
 use Rattle.setter.specs.Stops.{stopOf}
@@ -93,10 +95,10 @@ pub record Stops (r : Run) : Type 0 where
 
 -- "Answer: end and record count, or stop and the record being opened or closed." The number is 0 at the end, as the
 -- program prints it ("stop (0 at the end), record").
-unfoldable pub answerStop : End → ℕ
-answerStop reached = 0
-answerStop (stopped s t) = s
+abbrev pub endAnswer : ℕ → End → Answer
+endAnswer records reached = answer 0 records
+endAnswer records (stopped stop s) = answer stop (recordAtStep s)
 
-unfoldable pub answerRecord : ℕ → End → ℕ
-answerRecord records reached = records
-answerRecord records (stopped s t) = recordAtStep t
+-- the answer of the run of a sheet and its text
+unfoldable pub runAnswer : List ℕ → List ℕ → Answer
+runAnswer w bytes = endAnswer (recordsOf w) (run w bytes .end)

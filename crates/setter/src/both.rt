@@ -1,5 +1,5 @@
 // The check and the setting machine, one after the other, on the same sheet and text.
-ghost use Rattle.setter.specs.Both.{Done};
+ghost use Rattle.setter.specs.Both.{ChecksAndSets};
 use crate::answer::Setting;
 use crate::machine::set;
 use blocks::answer::Checked;
@@ -11,9 +11,12 @@ pub struct Both {
     pub set: Setting,
 }
 
-// Checks the sheet into the report, and runs the machine over it into the marks. Neither asks the other: that they agree is proved.
+// Checks the sheet into the report, and runs the machine over it into the marks. Neither asks the other: that they agree
+// is proved.
 pub fn check_and_set(sheet: &[u32], text: &[u8], report: &mut [u32], marks: &mut [u32]) -> Both
-    ensures { λ r. ⌜ Done (now (sheet .entry)) (now (text .entry)) (now (report .entry)) (now (marks .entry)) (r .checked) (now (report .exit)) (r .set) (now (marks .exit)) ⌝ }
+    ensures { λ r.
+        ⌜ ChecksAndSets (now (sheet .entry)) (now (text .entry)) (now (report .entry)) (now (marks .entry))
+            (r .checked) (now (report .exit)) (r .set) (now (marks .exit)) ⌝ }
 {
     let checked = check(sheet, text, report);
     let set = set(sheet, text, marks);

@@ -1,10 +1,12 @@
-// The setting machine: it opens and closes the records of a sheet, marks those that it opens, and stops. It works from the sheet and its text alone.
+// The setting machine: it opens and closes the records of a sheet, marks those that it opens, and stops. It works from
+// the sheet and its text alone.
 ghost use mathlib.Core.Path.{_≡_};
 ghost use Prim.Native.Nat.{_*_, _≤_};
 ghost use lib.ListN.{length};
 ghost use Rattle.leaves.specs.Sheet.Records.{recordWords, recordsOf};
 ghost use Rattle.leaves.specs.Refusal.Judge.{judgeSheet};
 ghost use Rattle.leaves.specs.declared.refusal.verdict.Judged.the-variants.{Accepted};
+ghost use Rattle.setter.specs.Answer.{Answers};
 ghost use Rattle.setter.specs.Setting.{afterRun, settingOf};
 ghost use Rattle.setter.specs.MachineRunning.{nextLevel};
 use crate::answer::Setting;
@@ -13,7 +15,7 @@ use crate::marks::mark_of;
 use crate::stops::closing_stop;
 use crate::stops::opening_stop;
 use leaves::refusal::judge;
-use leaves::refusal::verdict;
+use leaves::refusal::verdict::Judged;
 use leaves::sheet::records::RECORD_WORDS;
 use leaves::sheet::records::level_at;
 use leaves::sheet::records::record_at;
@@ -29,10 +31,14 @@ fn next_level(sheet: &[u32], n: usize, i: usize) -> u32
     level_at(sheet, i)
 }
 
-// Opens and closes the records one after another, a turn for each opening and closing, until one stops. `open` has, by level, what is kept of each open record, and `depth` is the innermost's level.
+// Opens and closes the records one after another, a turn for each opening and closing, until one stops. `open` has, by
+// level, what is kept of each open record, and `depth` is the innermost's level.
 fn run_records(sheet: &[u32], text: &[u8], marks: &mut [u32], n: usize) -> Setting
-    requires { ⌜ (judgeSheet (now sheet) (now text) ≡ Accepted) × (n ≡ recordsOf (now sheet)) × (n ≤ length (now marks)) ⌝ }
-    ensures { λ r. ⌜ (r, now (marks .exit)) ≡ afterRun (now (sheet .entry)) (now (text .entry)) (now (marks .entry)) ⌝ }
+    requires {
+        ⌜ (judgeSheet (now sheet) (now text) ≡ Accepted) × (n ≡ recordsOf (now sheet)) × (n ≤ length (now marks)) ⌝
+    }
+    ensures { λ r.
+        ⌜ Answers (afterRun (now (sheet .entry)) (now (text .entry)) (now (marks .entry))) r (now (marks .exit)) ⌝ }
 {
     let mut open = [kept::the_sheet(); 65];
     let mut depth: usize = 0;
@@ -66,11 +72,12 @@ fn run_records(sheet: &[u32], text: &[u8], marks: &mut [u32], n: usize) -> Setti
 
 // Refuses a malformed sheet by number, and marks that are too few, and leaves every mark; or runs the machine.
 pub fn set(sheet: &[u32], text: &[u8], marks: &mut [u32]) -> Setting
-    ensures { λ r. ⌜ (r, now (marks .exit)) ≡ settingOf (now (sheet .entry)) (now (text .entry)) (now (marks .entry)) ⌝ }
+    ensures { λ r.
+        ⌜ Answers (settingOf (now (sheet .entry)) (now (text .entry)) (now (marks .entry))) r (now (marks .exit)) ⌝ }
 {
     let judged = judge::accept(sheet, text);
-    if verdict::number_of(judged) != 0 {
-        return Setting::Refused(judged);
+    if let Judged::Refused(refusal) = judged {
+        return Setting::Refused(refusal);
     }
     let n = sheet.len() / RECORD_WORDS;
     if marks.len() < n {

@@ -101,7 +101,7 @@ closed j f st i (tree r kids rest) =
     let n : i + suc (size kids + size rest) ≡ suc i + size kids + size rest = omega arith in
     rw (n, closed-append) (omega (arith, below-suc j i, closed j (fresh i r) (f ∷ st) (suc i) kids, closed j (withKid r f) st (suc i + size kids) rest))
 
-size-of : (w : List ℕ) → 0 + size (forestOf w) ≡ recordsOf w
+pub size-of : (w : List ℕ) → 0 + size (forestOf w) ≡ recordsOf w
 unfolding forestOf
 size-of w = zero-add _ ∙ size-at w (recordsOf w) 0
 

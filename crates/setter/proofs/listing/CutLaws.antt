@@ -12,7 +12,6 @@ use Rattle.leaves.proofs.text.TestLaws.{or-left, or-right}
 use Rattle.leaves.specs.Text.Columns.{lineBytes, isLine, numbers}
 use Rattle.leaves.proofs.text.ColumnLaws.{drop-take, numbers-take, line-take}
 use Rattle.setter.specs.Listing.Film.{countFields, recordCount, byteCount, areRecords, behindCounts, textBehind, mostRecords, mostBytes, mostInput, isBig, filmOf}
-use Rattle.setter.specs.Listing.FilmAnswer.{filmNumber}
 
 records-take : (n m : ℕ) (s : List ℕ) → n * lineBytes recordWords ≤ m → areRecords n (take m s) ≡ areRecords n s
 unfolding areRecords
@@ -21,7 +20,7 @@ records-take (suc n) m s h = rw (line-take recordWords m s (omega arith), drop-t
 
 pub record Cut (s : List ℕ) : Type 0 where
   pub same : filmOf (take (suc mostInput) s) ≡ filmOf s
-  pub refused : eqb (filmNumber (filmOf s)) 0 ≡ false
+  pub refused : eqb (filmOf s .number) 0 ≡ false
 
 module _ (s : List ℕ) (long : mostInput < length s) where
   line-is : isLine countFields (take (suc mostInput) s) ≡ isLine countFields s

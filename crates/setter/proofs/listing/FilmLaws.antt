@@ -11,7 +11,7 @@ use Rattle.leaves.specs.Sheet.Records.{recordWords}
 use Rattle.leaves.specs.Text.Columns.{lineBytes, isLine, numbers}
 use Rattle.leaves.proofs.text.ColumnLaws.{numbers-long}
 use Rattle.setter.specs.Listing.Film.{countFields, recordCount, byteCount, areRecords, sheetOf, behindCounts, filmSheet, textBehind, mostRecords, mostBytes, filmText, filmOf, filledSheet, Reads}
-use Rattle.setter.specs.Listing.FilmAnswer.{filmNumber}
+use Rattle.leaves.specs.Refusal.Verdict.{answer}
 use Rattle.setter.specs.declared.listing.filmanswer.Film.the-variants.{BadColumn, BigFilm, Ready}
 
 -- ---- `read_film`
@@ -68,11 +68,11 @@ module _ (s old : List ℕ) {good : Bool} {counts : List ℕ} (first : (good ≡
 
 -- ---- a film that is ready has as many records as its first line says, and not too many
 pub record Good (s : List ℕ) : Type 0 where
-  pub answer : filmOf s ≡ Ready (recordCount s)
+  pub answer : filmOf s ≡ answer 0 (recordCount s)
   pub filled : (old : List ℕ) → filledSheet s old ≡ filmSheet s ++ drop (recordCount s * recordWords) old
   pub few : recordCount s ≤ mostRecords
 
-pub good : (s : List ℕ) → filmNumber (filmOf s) ≡ 0 → Good s
+pub good : (s : List ℕ) → filmOf s .number ≡ 0 → Good s
 unfolding filmOf filledSheet
 good s z = go (isLine countFields s) refl (ltb mostRecords (recordCount s)) refl (ltb mostBytes (byteCount s)) refl (areRecords (recordCount s) (behindCounts s)) refl (eqb (length (filmText s)) (byteCount s)) refl
   where

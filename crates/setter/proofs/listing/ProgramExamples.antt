@@ -27,7 +27,7 @@ use Rattle.blocks.specs.Check.{outcome}
 use Rattle.setter.specs.Steps.{closings, remain, stepsFrom, stepsOf}
 use Rattle.setter.specs.Seen.{columns, nearest, inLink, behindList, onlyEmpty, lastMark}
 use Rattle.setter.specs.Stops.{stopAt, stopOf}
-use Rattle.setter.specs.Machine.{position, pathOf, blockPath, runOf, answerStop, answerRecord, run}
+use Rattle.setter.specs.Machine.{position, pathOf, blockPath, runOf, run, runAnswer}
 use Rattle.leaves.specs.Text.Field.{front, field, pastSpaces, readDigits, readNumber, readField}
 use Rattle.leaves.specs.Text.Columns.{fields, line, areFields, isLine, numbers}
 use Rattle.setter.specs.Listing.Film.{areRecords, sheetOf, filmSheet, textBehind, filmOf}
@@ -36,7 +36,7 @@ use Rattle.setter.specs.Listing.Program.{sheetLines, listing}
 
 -- what is printed; a declaration that unfolds this unfolds all that it computes with
 printed : List ℕ → List ℕ
-unfolding listing sheetLines refusalLine entryLines listLines areRecords sheetOf filmSheet textBehind filmOf front field pastSpaces readDigits readNumber readField fields line areFields isLine numbers outcome run closings remain stepsFrom stepsOf columns nearest inLink behindList onlyEmpty stopAt stopOf position pathOf blockPath runOf answerStop answerRecord lastMark recordsFrom validateDocument validateBlocks validateBlock validateListItems validateItem beforeNext holdsBlocks validateContainer validateLeaf validateOwn takesIndentedCode validateHeading validateTakenBlock writtenMarker finalBreak finalBreakAfter noInline validateInlineNodes validateInlineNodesAfter validateInlines words flat listIf _⊕_ judgeSheet orElse judgeFrom judgeAt judge judgeTexts levelBefore badLevel tagsFrom lacksTags recordAt deeper past grow forestAt forestOf count countKind misplaced openAt gather opened joined parentGroup otherGroup childGroup places placeOf badField badNumber mostA mostB mostC isSurrogate badSpan hasFirst hasSecond badText textOutside textIllFormed textOf partOf isUtf8 wellFormed follow Rattle.leaves.specs.Text.Utf8.table
+unfolding listing sheetLines refusalLine entryLines listLines areRecords sheetOf filmSheet textBehind filmOf front field pastSpaces readDigits readNumber readField fields line areFields isLine numbers outcome run closings remain stepsFrom stepsOf columns nearest inLink behindList onlyEmpty stopAt stopOf position pathOf blockPath runOf runAnswer lastMark recordsFrom validateDocument validateBlocks validateBlock validateListItems validateItem beforeNext holdsBlocks validateContainer validateLeaf validateOwn takesIndentedCode validateHeading validateTakenBlock writtenMarker finalBreak finalBreakAfter noInline validateInlineNodes validateInlineNodesAfter validateInlines words flat listIf _⊕_ judgeSheet orElse judgeFrom judgeAt judge judgeTexts levelBefore badLevel tagsFrom lacksTags recordAt deeper past grow forestAt forestOf count countKind misplaced openAt gather opened joined parentGroup otherGroup childGroup places placeOf badField badNumber mostA mostB mostC isSurrogate badSpan hasFirst hasSecond badText textOutside textIllFormed textOf partOf isUtf8 wellFormed follow Rattle.leaves.specs.Text.Utf8.table
 printed s = listing s
 
 -- a record with a kind, a level and A

@@ -12,7 +12,8 @@ use Rattle.leaves.specs.Text.Columns.{lineBytes, isLine, numbers}
 unfoldable pub use Rattle.setter.specs.Listing.Records.{areRecords, sheetOf}
 pub use Rattle.setter.specs.Listing.Records.{mostRecords}
 use Rattle.setter.specs.declared.listing.filmanswer.Film.{Film}
-use Rattle.setter.specs.declared.listing.filmanswer.Film.the-variants.{BadColumn, BigFilm, Ready}
+use Rattle.leaves.specs.Refusal.Verdict.{Answer, answer}
+use Rattle.setter.specs.Listing.FilmAnswer.{badColumn, bigFilm, filmAnswer}
 
 -- ---- the first line: "counts of records and text bytes"
 
@@ -54,18 +55,18 @@ mostInput = lineBytes countFields + mostRecords * lineBytes recordWords + mostBy
 abbrev pub isBig : List ℕ → Bool
 isBig s = ltb mostRecords (recordCount s) || ltb mostBytes (byteCount s)
 
--- 13, bad column: "malformed line, or text too short or long"
-unfoldable pub filmOf : List ℕ → Film
+-- 13, bad column: "malformed line, or text too short or long"; 0 and the number of records where the film is ready
+unfoldable pub filmOf : List ℕ → Answer
 filmOf s =
     if not (isLine countFields s)
-    then BadColumn
+    then answer badColumn 0
     else if isBig s
-    then BigFilm
+    then answer bigFilm 0
     else if not (areRecords (recordCount s) (behindCounts s))
-    then BadColumn
+    then answer badColumn 0
     else if not (eqb (length (filmText s)) (byteCount s))
-    then BadColumn
-    else Ready (recordCount s)
+    then answer badColumn 0
+    else answer 0 (recordCount s)
 
 -- ---- the words that the sheet is read into: those of the records where the counts are good, and behind them the old ones
 unfoldable pub filledSheet : List ℕ → List ℕ → List ℕ
@@ -73,5 +74,5 @@ filledSheet s old = if isLine countFields s && not (isBig s) then filmSheet s ++
 
 -- what reading a film hands back: its answer, and the words of the sheet
 pub record Reads (s old new : List ℕ) (film : Film) : Type 0 where
-  pub answer : film ≡ filmOf s
+  pub answer : filmAnswer film ≡ filmOf s
   pub words : new ≡ filledSheet s old

@@ -1,6 +1,6 @@
 // The answer for a film, with its number and its records.
 ghost use mathlib.Core.Path.{_≡_};
-ghost use Rattle.setter.specs.Listing.FilmAnswer.{filmNumber, filmRecords};
+ghost use Rattle.setter.specs.Listing.FilmAnswer.{filmAnswer};
 
 // A film is refused, or how many records it has.
 pub(crate) enum Film {
@@ -11,7 +11,7 @@ pub(crate) enum Film {
 
 // Document 01's number of a refused film; 0 where it is ready.
 pub(crate) fn film_number(f: Film) -> u32
-    ensures { λ r. ⌜ r ≡ filmNumber f ⌝ }
+    ensures { λ r. ⌜ r ≡ filmAnswer f .number ⌝ }
 {
     match f {
         Film::BadColumn => 13,
@@ -22,7 +22,7 @@ pub(crate) fn film_number(f: Film) -> u32
 
 // How many records a film that is ready has.
 pub(crate) fn film_records(f: Film) -> usize
-    ensures { λ r. ⌜ r ≡ filmRecords f ⌝ }
+    ensures { λ r. ⌜ r ≡ filmAnswer f .value ⌝ }
 {
     match f {
         Film::BadColumn => 0,

@@ -3,9 +3,9 @@ ghost use Prim.Native.Nat.{_*_, _≤_};
 ghost use Rattle.leaves.specs.Sheet.Records.{recordsOf};
 ghost use Rattle.setter.specs.Listing.Film.{mostRecords};
 ghost use Rattle.setter.specs.Listing.Print.{Prints};
-ghost use Rattle.setter.specs.Listing.Program.{sheetLines, listing};
-use crate::answer::run_record;
-use crate::answer::stop_number;
+ghost use Rattle.setter.specs.Listing.Program.{sheetLines, Page};
+use crate::answer::setting_number;
+use crate::answer::setting_value;
 use crate::both::check_and_set;
 use crate::listing::film::MOST_RECORDS;
 use crate::listing::film::SHEET_WORDS;
@@ -36,7 +36,8 @@ fn no_marks() -> [u32; MOST_RECORDS] {
 // Checks and sets a sheet and its text, and prints the list with the stop and its record, or the refusal.
 fn list_sheet(sheet: &[u32], text: &[u8], output: &mut [u8; OUTPUT_BYTES]) -> usize
     requires { ⌜ recordsOf (now sheet) ≤ mostRecords ⌝ }
-    ensures { λ r. ⌜ Prints (now (output .entry)) (sheetLines (now (sheet .entry)) (now (text .entry))) (now (output .exit)) r ⌝ }
+    ensures { λ r.
+        ⌜ Prints (now (output .entry)) (sheetLines (now (sheet .entry)) (now (text .entry))) (now (output .exit)) r ⌝ }
 {
     let mut report = report_words();
     let mut marks = no_marks();
@@ -48,12 +49,12 @@ fn list_sheet(sheet: &[u32], text: &[u8], output: &mut [u8; OUTPUT_BYTES]) -> us
     if number != 0 {
         return write_refusal(output, number, value as u32);
     }
-    write_list(output, &report, value, stop_number(run), run_record(run))
+    write_list(output, &report, value, setting_number(run), setting_value(run) as u32)
 }
 
 // Prints what is found in a film, or why it is refused; answers how many bytes are printed.
 pub fn list(input: &[u8], output: &mut [u8; OUTPUT_BYTES]) -> usize
-    ensures { λ r. ⌜ Prints (now (output .entry)) (listing (now (input .entry))) (now (output .exit)) r ⌝ }
+    ensures { λ r. ⌜ Page (now (input .entry)) (now (output .entry)) (now (output .exit)) r ⌝ }
 {
     let mut sheet = sheet_words();
     let film = read_film(input, &mut sheet);

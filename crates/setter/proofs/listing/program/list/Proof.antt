@@ -1,12 +1,12 @@
 -- `setter::listing::program::list` meets its contract.
 use native.Mathlib.Omega.{arith}
-use Rattle.setter.proofs.listing.ProgramLaws.{film-printed, ready-few, ready-room, ready-long, ready-records, ready-printed}
+use Rattle.setter.proofs.listing.ProgramLaws.{film-printed, ready-few, ready-room, ready-long, ready-records, ready-printed, page}
 use borrow.Author.Needs.{needs}
 use Rattle.setter.proofs.listing.program.list.Statement.{statement}
 use Rattle.setter.proofs.listing.program.list.Tie as tie
 
 returns : tie.Need-returns
-returns c = film-printed (c .before .before .before .before .read-film .ensures) (c .before .before .before .film-number .ensures) (c .before .before .if1 .taken) (c .write-refusal .ensures)
+returns c = page _ _ _ _ (film-printed (c .before .before .before .before .read-film .ensures) (c .before .before .before .film-number .ensures) (c .before .before .if1 .taken) (c .write-refusal .ensures))
 
 end-fits : tie.Need-mul-end
 end-fits c = let few = ready-few (c .before .before .before .read-film .ensures) (c .before .before .film-number .ensures) (c .before .if1 .left) (c .film-records .ensures) in record { fits = omega arith }
@@ -24,7 +24,7 @@ records : tie.Need-list-sheet-requires
 records c κs = ready-records (c .before .before .before .before .before .before .read-film .ensures) (c .before .before .before .before .before .film-number .ensures) (c .before .before .before .before .if1 .left) (c .before .before .before .film-records .ensures)
 
 returns-2 : tie.Need-returns-2
-returns-2 c = ready-printed (c .before .before .before .before .before .before .before .read-film .ensures) (c .before .before .before .before .before .before .film-number .ensures) (c .before .before .before .before .before .if1 .left) (c .before .before .before .before .film-records .ensures) (c .before .before .text-behind .ensures) (c .list-sheet .ensures)
+returns-2 c = page _ _ _ _ (ready-printed (c .before .before .before .before .before .before .before .read-film .ensures) (c .before .before .before .before .before .before .film-number .ensures) (c .before .before .before .before .before .if1 .left) (c .before .before .before .before .film-records .ensures) (c .before .before .text-behind .ensures) (c .list-sheet .ensures))
 
 pub list-spec : {M : Type 1} → statement M
 list-spec =
