@@ -5,6 +5,7 @@ pub mod Judge
 pub mod Judging
 pub mod KindGroups
 pub mod Limits
+pub mod PlaceTable
 pub mod Places
 pub mod Record
 pub mod Tags

@@ -1,44 +1,65 @@
 -- The table of places, and what stands before a record under its parent.
-use mathlib.Core.Path.{_≡_, refl, sym}
+use mathlib.Core.Path.{_≡_, refl}
 use mathlib.Core.Bool.{Bool, true, false, not, _&&_, _||_}
 use mathlib.Core.List.{List, [], _∷_}
-use Prim.Native.Nat.{ℕ, zero, suc, _+_, _<_, _≤_}
-use native.Mathlib.Nat.{le-trans}
+use Prim.Native.Nat.{ℕ, suc, _+_, _<_, _≤_}
 use native.Mathlib.Omega.{arith}
 use lib.Dec.{eqb, ltb, leb}
-use lib.ListN.{length, getD, List·getD-eq-default}
+use lib.ListN.{getD}
 use borrow.Author.Needs.{needs}
-use borrow.Author.Tests.{leb-true, leb-false, eq-eqb, ne-eqb}
-use Rattle.leaves.proofs.text.TestLaws.{and-left, and-right, or-left, or-right}
+use borrow.Author.Tests.{eqb-true, ltb-true, leb-false, eq-eqb, ne-eqb}
+use Rattle.leaves.proofs.text.TestLaws.{allBelow, each, and-left, and-right, or-left, or-right}
 use Rattle.leaves.specs.Sheet.Kinds.{htmlTag}
 use Rattle.leaves.specs.Refusal.Groups.{holdsTagsAndBlocks, holdsTagsAndInlines}
-use Rattle.leaves.specs.Refusal.Places.{places, placeOf, joined, misplaced}
+use Rattle.leaves.specs.Refusal.PlaceTable.{placeTable}
+use Rattle.leaves.specs.Refusal.Places.{holds, placeIn, placeOf, joined, misplaced}
 use Rattle.leaves.specs.declared.refusal.places.Open.{Open}
 
-pub place-below : (group column : ℕ) → 10 ≤ group → 0 ≡ getD (getD places group []) column 0
-unfolding places
-place-below group column h = rw (List·getD-eq-default places [] {n = group} h)
+-- ---- the table that the code reads has the places of the definitions, by one computed test of all its cells
+cell : ℕ → ℕ → ℕ
+cell group column = getD (getD placeTable group []) column 0
 
-pub place-inside : (table : List (List ℕ)) (group column : ℕ) → table ≡ places → getD (getD table group []) column 0 ≡ getD (getD places group []) column 0
-place-inside table group column e = rw e
+cell-test : ℕ → ℕ → Bool
+cell-test group column = eqb (cell group column) (placeIn 1 (holds group) column)
 
--- no row is longer than seven
-short : List (List ℕ) → Bool
-short [] = true
-short (row ∷ rows) = leb (length row) 7 && short rows
+row-test : ℕ → Bool
+row-test group = allBelow (cell-test group) 7
 
-row-short : (rows : List (List ℕ)) → short rows ≡ true → (group : ℕ) → length (getD rows group []) ≤ 7
-unfolding short
-row-short [] h group = omega arith
-row-short (row ∷ rows) h zero = leb-true (length row) 7 (and-left (leb (length row) 7) (short rows) h)
-row-short (row ∷ rows) h (suc group) = row-short rows (and-right (leb (length row) 7) (short rows) h) group
+celled : (group : ℕ) → group < 10 → row-test group ≡ true
+unfolding allBelow row-test cell-test cell placeTable holds placeIn
+celled group h = each row-test 10 refl group h
 
-pub place-right : (group column : ℕ) → 7 ≤ column → 0 ≡ getD (getD places group []) column 0
-unfolding places short
-place-right group column h = sym (List·getD-eq-default (getD places group []) 0 {n = column} (le-trans short-row h))
+pub place-inside : (table : List (List ℕ)) (group column : ℕ) → table ≡ placeTable → group < 10 → column < 7 → getD (getD table group []) column 0 ≡ placeIn 1 (holds group) column
+unfolding row-test cell-test cell
+place-inside table group column e h k = rw e (eqb-true _ _ (each (cell-test group) 7 (celled group h) column k))
+
+-- ---- outside of the table there is no place
+holds-none : (group : ℕ) → 10 ≤ group → holds group ≡ []
+unfolding holds
+holds-none group h = simp other
   where
-    short-row : length (getD places group []) ≤ 7
-    short-row = row-short places refl group
+    other : (n : ℕ) → ltb n 10 ≡ true → eqb group n ≡ false
+    other n e = ne-eqb group n (λ q. omega (arith, ltb-true n 10 e))
+
+pub place-below : (group column : ℕ) → 10 ≤ group → 0 ≡ placeIn 1 (holds group) column
+unfolding placeIn
+place-below group column h = rw (holds-none group h)
+
+-- a group that is none of a list has no place in it
+few : List ℕ → Bool
+few [] = true
+few (group ∷ groups) = ltb group 7 && few groups
+
+place-none : (first : ℕ) (groups : List ℕ) (column : ℕ) → few groups ≡ true → 7 ≤ column → 0 ≡ placeIn first groups column
+unfolding few placeIn
+place-none first [] column e h = refl
+place-none first (group ∷ groups) column e h =
+    let g : group < 7 = ltb-true group 7 (and-left (ltb group 7) (few groups) e) in
+    rw (ne-eqb column group (λ q. omega arith)) (place-none (suc first) groups column (and-right (ltb group 7) (few groups) e) h)
+
+pub place-right : (group column : ℕ) → group < 10 → 7 ≤ column → 0 ≡ placeIn 1 (holds group) column
+unfolding allBelow few holds
+place-right group column g h = place-none 1 (holds group) column (each (λ g. few (holds g)) 10 refl group g) h
 
 -- a tag that is not misplaced is the first or the second
 pub few-tags : (o : Open) (kind : ℕ) → misplaced o kind ≡ false → eqb kind htmlTag ≡ true → o .tags < 2

@@ -8,7 +8,7 @@ use Rattle.leaves.proofs.text.TestLaws.{or-left, or-right, allBelow, ea
 use Rattle.leaves.specs.Sheet.Kinds.{isBlock, isInline, isKind, item, row, cell, htmlTag, attribute}
 use Rattle.leaves.proofs.sheet.KindLaws.{kind-below}
 use Rattle.leaves.specs.Refusal.Groups.{holdsBlocks, holdsItems, holdsRows, holdsCells, holdsInlines, holdsLabel, holdsLabelAndBlocks, holdsTagsAndBlocks, holdsTagsAndInlines, holdsNothing, childGroup}
-use Rattle.leaves.specs.Refusal.Places.{places, placeOf, opened, joined, misplaced}
+use Rattle.leaves.specs.Refusal.Places.{holds, placeIn, placeOf, opened, joined, misplaced}
 use Rattle.leaves.specs.declared.refusal.places.Open.{Open}
 
 -- ---- a record that is not misplaced has a place, at or after that of the child before it
@@ -42,41 +42,41 @@ under-rule g test e o k f c h = rw (c, ← f, has-place o k h) at (each (under-t
 
 module _ (o : Open) (k : ℕ) where
   pub blocks-only : o .group ≡ holdsBlocks → isKind k ≡ true → misplaced o k ≡ false → isBlock k ≡ true
-  unfolding allBelow under-test placeOf places childGroup
+  unfolding allBelow under-test placeOf holds placeIn childGroup
   blocks-only = under-rule holdsBlocks isBlock refl o k
 
   pub items-only : o .group ≡ holdsItems → isKind k ≡ true → misplaced o k ≡ false → eqb k item ≡ true
-  unfolding allBelow under-test placeOf places childGroup
+  unfolding allBelow under-test placeOf holds placeIn childGroup
   items-only = under-rule holdsItems (λ x. eqb x item) refl o k
 
   pub rows-only : o .group ≡ holdsRows → isKind k ≡ true → misplaced o k ≡ false → eqb k row ≡ true
-  unfolding allBelow under-test placeOf places childGroup
+  unfolding allBelow under-test placeOf holds placeIn childGroup
   rows-only = under-rule holdsRows (λ x. eqb x row) refl o k
 
   pub cells-only : o .group ≡ holdsCells → isKind k ≡ true → misplaced o k ≡ false → eqb k cell ≡ true
-  unfolding allBelow under-test placeOf places childGroup
+  unfolding allBelow under-test placeOf holds placeIn childGroup
   cells-only = under-rule holdsCells (λ x. eqb x cell) refl o k
 
   pub inlines-only : o .group ≡ holdsInlines → isKind k ≡ true → misplaced o k ≡ false → isInline k ≡ true
-  unfolding allBelow under-test placeOf places childGroup
+  unfolding allBelow under-test placeOf holds placeIn childGroup
   inlines-only = under-rule holdsInlines isInline refl o k
 
   pub label-only : o .group ≡ holdsLabel → isKind k ≡ true → misplaced o k ≡ false → (eqb k attribute || isInline k) ≡ true
-  unfolding allBelow under-test placeOf places childGroup
+  unfolding allBelow under-test placeOf holds placeIn childGroup
   label-only = under-rule holdsLabel (λ x. eqb x attribute || isInline x) refl o k
 
   pub label-and-blocks-only : o .group ≡ holdsLabelAndBlocks → isKind k ≡ true → misplaced o k ≡ false → (eqb k attribute || isInline k || isBlock k) ≡ true
-  unfolding allBelow under-test placeOf places childGroup
+  unfolding allBelow under-test placeOf holds placeIn childGroup
   label-and-blocks-only = under-rule holdsLabelAndBlocks (λ x. eqb x attribute || isInline x || isBlock x) refl o k
 
   pub tags-and-blocks-only : o .group ≡ holdsTagsAndBlocks → isKind k ≡ true → misplaced o k ≡ false → (eqb k htmlTag || isBlock k) ≡ true
-  unfolding allBelow under-test placeOf places childGroup
+  unfolding allBelow under-test placeOf holds placeIn childGroup
   tags-and-blocks-only = under-rule holdsTagsAndBlocks (λ x. eqb x htmlTag || isBlock x) refl o k
 
   pub tags-and-inlines-only : o .group ≡ holdsTagsAndInlines → isKind k ≡ true → misplaced o k ≡ false → (eqb k htmlTag || isInline k) ≡ true
-  unfolding allBelow under-test placeOf places childGroup
+  unfolding allBelow under-test placeOf holds placeIn childGroup
   tags-and-inlines-only = under-rule holdsTagsAndInlines (λ x. eqb x htmlTag || isInline x) refl o k
 
   pub nothing-there : o .group ≡ holdsNothing → isKind k ≡ true → misplaced o k ≡ false → false ≡ true
-  unfolding allBelow under-test placeOf places childGroup
+  unfolding allBelow under-test placeOf holds placeIn childGroup
   nothing-there = under-rule holdsNothing (λ x. false) refl o k

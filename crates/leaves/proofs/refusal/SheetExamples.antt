@@ -10,7 +10,7 @@ use Rattle.leaves.specs.Sheet.Records.{recordAt}
 use Rattle.leaves.specs.Sheet.Siblings.{gather}
 use Rattle.leaves.specs.Sheet.Forest.{deeper, past, grow, forestAt, countKind}
 use Rattle.leaves.specs.Refusal.Groups.{parentGroup, otherGroup, childGroup}
-use Rattle.leaves.specs.Refusal.Places.{places, placeOf, opened, joined, misplaced, openAt}
+use Rattle.leaves.specs.Refusal.Places.{holds, placeIn, placeOf, opened, joined, misplaced, openAt}
 use Rattle.leaves.specs.Refusal.Fields.{mostA, mostB, mostC, hasFirst, hasSecond, badText, badSpan, isSurrogate, badNumber, badField}
 use Rattle.leaves.specs.Sheet.Texts.{textOf, textOutside, textIllFormed}
 use Rattle.leaves.specs.Refusal.Verdict.{numberOf, recordOf, orElse}
@@ -22,7 +22,7 @@ use Rattle.leaves.specs.declared.refusal.verdict.Judged.the-variants.{Ac
 
 -- the answer; a declaration that unfolds this unfolds all that the answer computes with
 computed : List ℕ → List ℕ → Judged
-unfolding judgeSheet orElse judgeFrom judgeAt judge judgeTexts levelBefore badLevel tagsFrom lacksTags recordAt deeper past grow forestAt countKind misplaced openAt gather opened joined parentGroup otherGroup childGroup places placeOf badField badNumber mostA mostB mostC isSurrogate badSpan hasFirst hasSecond badText textOutside textIllFormed textOf partOf isUtf8 wellFormed follow Rattle.leaves.specs.Text.Utf8.table
+unfolding judgeSheet orElse judgeFrom judgeAt judge judgeTexts levelBefore badLevel tagsFrom lacksTags recordAt deeper past grow forestAt countKind misplaced openAt gather opened joined parentGroup otherGroup childGroup holds placeIn placeOf badField badNumber mostA mostB mostC isSurrogate badSpan hasFirst hasSecond badText textOutside textIllFormed textOf partOf isUtf8 wellFormed follow Rattle.leaves.specs.Text.Utf8.table
 computed w bytes = judgeSheet w bytes
 
 -- ---- records, a word at a time: kind, level; span; A, B, C; texts

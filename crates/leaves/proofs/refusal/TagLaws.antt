@@ -9,13 +9,12 @@ use native.Mathlib.Omega.{arith}
 use borrow.Author.Needs.{needs}
 use borrow.Author.Tests.{not-false, lt-ltb, le-ltb, ltb-true, ltb-false, eq-eqb, eqb-true}
 use lib.Dec.{eqb, ltb, leb}
-use lib.ListN.{getD, replicate}
 use Rattle.leaves.specs.Text.Lists.{if_then_else_}
 use Rattle.leaves.specs.Sheet.Kinds.{htmlContainer, htmlTag}
 use Rattle.leaves.specs.Sheet.Records.{recordAt}
 use Rattle.leaves.specs.Sheet.Forest.{Forest, none, tree, under, size, countKind}
-use Rattle.leaves.specs.Refusal.Groups.{parentGroup, otherGroup, childGroup}
-use Rattle.leaves.specs.Refusal.Places.{places, placeOf, opened, joined, misplaced, openAt}
+use Rattle.leaves.specs.Refusal.Groups.{holdsTagsAndBlocks, holdsTagsAndInlines, parentGroup, otherGroup}
+use Rattle.leaves.specs.Refusal.Places.{holds, placeIn, placeOf, opened, joined, misplaced, openAt}
 use Rattle.leaves.specs.Refusal.Record.{levelBefore}
 use Rattle.leaves.specs.Refusal.Tags.{lacksTags, tagsFrom}
 use Rattle.leaves.specs.Refusal.TagsPlaced.{Placed, tagUnder}
@@ -27,32 +26,27 @@ use Rattle.leaves.proofs.refusal.OpenLaws.{open-kid, open-same}
 use Rattle.leaves.proofs.refusal.PassLaws.{Deep, deep}
 use Rattle.leaves.proofs.sheet.ForestLaws.{under-end, under-out, under-in}
 
--- ---- what may stand in a container, by the table
-pub container-group : (a : ℕ) → (eqb (parentGroup htmlContainer a) 7 || eqb (parentGroup htmlContainer a) 8) ≡ true
+-- ---- what may stand in a container
+pub container-group : (a : ℕ) → (eqb (parentGroup htmlContainer a) holdsTagsAndBlocks || eqb (parentGroup htmlContainer a) holdsTagsAndInlines) ≡ true
 unfolding parentGroup otherGroup
 container-group a = go (eqb a 0) refl
   where
-    go : (t : Bool) → eqb a 0 ≡ t → (eqb (parentGroup htmlContainer a) 7 || eqb (parentGroup htmlContainer a) 8) ≡ true
+    go : (t : Bool) → eqb a 0 ≡ t → (eqb (parentGroup htmlContainer a) holdsTagsAndBlocks || eqb (parentGroup htmlContainer a) holdsTagsAndInlines) ≡ true
     go true e = rw e
     go false e = rw e
 
 -- under a container with fewer than two tags only a tag is not misplaced
-pub container-tag : (o : Open) (k : ℕ) → (eqb (o .group) 7 || eqb (o .group) 8) ≡ true → ltb (o .tags) 2 ≡ true → misplaced o k ≡ false → eqb k htmlTag ≡ true
+pub container-tag : (o : Open) (k : ℕ) → (eqb (o .group) holdsTagsAndBlocks || eqb (o .group) holdsTagsAndInlines) ≡ true → ltb (o .tags) 2 ≡ true → misplaced o k ≡ false → eqb k htmlTag ≡ true
 unfolding misplaced
 container-tag o k c t h =
     let place = placeOf (o .group) k in
-    let last : ((eqb (o .group) 7 || eqb (o .group) 8) && not (eqb k htmlTag) && ltb (o .tags) 2) ≡ false = or-right (eqb place 0 || ltb place (o .stage) || eqb k htmlTag && leb 2 (o .tags)) _ h in
+    let last : ((eqb (o .group) holdsTagsAndBlocks || eqb (o .group) holdsTagsAndInlines) && not (eqb k htmlTag) && ltb (o .tags) 2) ≡ false = or-right (eqb place 0 || ltb place (o .stage) || eqb k htmlTag && leb 2 (o .tags)) _ h in
     not-false (eqb k htmlTag) (rw (c, t, and-true) at last)
-
-zeros : (n c : ℕ) → _≡_ {A = ℕ} (getD (replicate n 0) c 0) 0
-zeros zero c = refl
-zeros (suc n) zero = refl
-zeros (suc n) (suc c) = zeros n c
 
 -- nothing may stand under a tag
 pub nothing-under : (a k : ℕ) → misplaced (opened (parentGroup htmlTag a)) k ≡ false → ⊥
-unfolding misplaced opened parentGroup otherGroup placeOf places
-nothing-under a k h = true≢false (rw (zeros 7 (childGroup k)) at h)
+unfolding misplaced opened parentGroup otherGroup placeOf holds placeIn
+nothing-under a k h = true≢false h
 
 -- ---- counting
 count-none : (k : ℕ) → countKind k none ≡ 0

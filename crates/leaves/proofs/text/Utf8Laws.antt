@@ -1,23 +1,27 @@
 -- UTF-8 as the code reads it: what is owed of a sequence, and the value of its bits so far.
-use mathlib.Core.Path.{_≡_, refl, sym, _∙_}
+use mathlib.Core.Path.{_≡_, refl, sym, ap, _∙_}
 use mathlib.Core.Bool.{Bool, true, false, not, _&&_, _||_, false≢true}
 use mathlib.Core.List.{List, [], _∷_}
 use Prim.Native.Nat.{ℕ, zero, suc, _-_, _<_, _≤_}
 use native.Mathlib.Omega.{arith}
 use lib.Dec.{eqb, leb, ltb, eqb·suc-zero}
-use lib.ListN.{replicate}
+use lib.ListN.{replicate, length-replicate}
 use borrow.Author.Tests.{lt-leb, lt-ltb, le-ltb, le-leb, ltb-true, leb-true, leb-false, ne-eqb, eqb-true, not-true, not-false}
 use Rattle.leaves.specs.Text.Bytes.{between}
 use Rattle.leaves.specs.Text.Lists.{none}
 use Rattle.leaves.specs.Text.Utf8.{Range, _to_, within, trail, nothing, table, follow, wellFormed}
 use Rattle.leaves.specs.Text.Utf8Scans.{breaks, owedAfter}
-use Rattle.leaves.specs.Text.Utf8Owed.{columns}
+use Rattle.leaves.specs.Text.Utf8Owed.{columns, owedOf, owing, Owes}
+use Rattle.leaves.specs.declared.text.utf8.Owed.{Owed}
 use Rattle.leaves.proofs.text.ScanLaws.{At, scan}
 use Rattle.leaves.proofs.text.TestLaws.{allBelow, and-left, and-right, each}
 use Rattle.leaves.specs.Text.Chunk.{isAscii, Past}
 use Rattle.leaves.proofs.text.ChunkLaws.{leap-to}
 
 -- ---- what follows a first byte
+abbrev owes : ℕ → ℕ → ℕ → Owed
+owes more low high = record { more = more; low = low; high = high }
+
 same-ranges : List Range → List Range → Bool
 same-ranges [] [] = true
 same-ranges [] (r ∷ q) = false
@@ -40,53 +44,61 @@ row-test : (ℕ → Bool) → List Range → ℕ → Bool
 row-test these cs b = not (these b) || same-ranges cs (follow table b)
 
 -- these bytes are followed by the columns cs, by a test of all bytes
-follows : (these : ℕ → Bool) (cs : List Range) → allBelow (row-test these cs) 256 ≡ true → (b : ℕ) → b < 256 → these b ≡ true → cs ≡ follow table b
+followed : (these : ℕ → Bool) (cs : List Range) → allBelow (row-test these cs) 256 ≡ true → (b : ℕ) → b < 256 → these b ≡ true → cs ≡ follow table b
 unfolding row-test
-follows these cs e b h p = ranges cs (follow table b) (rw p at (each (row-test these cs) 256 e b h))
+followed these cs e b h p = ranges cs (follow table b) (rw p at (each (row-test these cs) 256 e b h))
+
+-- and so the code's struct of these columns is that of the row
+follows : (these : ℕ → Bool) (cs : List Range) → allBelow (row-test these cs) 256 ≡ true → (b : ℕ) → b < 256 → these b ≡ true → {o : Owed} → o ≡ owing cs → owedOf o ≡ cs → Owes (follow table b) o
+follows these cs e b h p i a = let f = followed these cs e b h p in record { is = i ∙ ap owing f; all = a ∙ f }
 
 module _ (b : ℕ) where
   pub from-to : (low high : ℕ) → low ≤ b → b ≤ high → between low high b ≡ true
   from-to low high p q = rw (le-leb low b p, le-leb b high q)
 
-  pub follow-ascii : b < 0x80 → [] ≡ follow table b
+  ascii-alone : b < 0x80 → [] ≡ follow table b
   unfolding allBelow row-test same-ranges follow table
-  follow-ascii h = follows (between 0 0x7F) [] refl b (omega arith) (from-to 0 0x7F (omega arith) (omega arith))
+  ascii-alone h = followed (between 0 0x7F) [] refl b (omega arith) (from-to 0 0x7F (omega arith) (omega arith))
 
-  pub follow-stray : 0x80 ≤ b → b < 0xC2 → nothing ∷ [] ≡ follow table b
-  unfolding allBelow row-test same-ranges follow table
-  follow-stray g h = follows (between 0x80 0xC1) (nothing ∷ []) refl b (omega arith) (from-to 0x80 0xC1 g (omega arith))
+  pub follow-ascii : b < 0x80 → Owes (follow table b) (owes 0 0x80 0xBF)
+  unfolding owing
+  follow-ascii h = record { is = ap owing (ascii-alone h); all = ascii-alone h }
 
-  pub follow-two : 0xC2 ≤ b → b < 0xE0 → trail ∷ [] ≡ follow table b
-  unfolding allBelow row-test same-ranges follow table
-  follow-two g h = follows (between 0xC2 0xDF) (trail ∷ []) refl b (omega arith) (from-to 0xC2 0xDF g (omega arith))
+  pub follow-stray : 0x80 ≤ b → b < 0xC2 → Owes (follow table b) (owes 1 0xBF 0x80)
+  unfolding allBelow row-test same-ranges owing follow table
+  follow-stray g h = follows (between 0x80 0xC1) (nothing ∷ []) refl b (omega arith) (from-to 0x80 0xC1 g (omega arith)) refl refl
 
-  pub follow-e0 : b ≡ 0xE0 → 0xA0 to 0xBF ∷ trail ∷ [] ≡ follow table b
-  unfolding follow table
-  follow-e0 e = rw e
+  pub follow-two : 0xC2 ≤ b → b < 0xE0 → Owes (follow table b) (owes 1 0x80 0xBF)
+  unfolding allBelow row-test same-ranges owing follow table
+  follow-two g h = follows (between 0xC2 0xDF) (trail ∷ []) refl b (omega arith) (from-to 0xC2 0xDF g (omega arith)) refl refl
 
-  pub follow-ed : b ≡ 0xED → 0x80 to 0x9F ∷ trail ∷ [] ≡ follow table b
-  unfolding follow table
-  follow-ed e = rw e
+  pub follow-e0 : b ≡ 0xE0 → Owes (follow table b) (owes 2 0xA0 0xBF)
+  unfolding owing follow table
+  follow-e0 e = rw e (record { is = refl; all = refl })
 
-  pub follow-three : 0xE0 ≤ b → b < 0xF0 → (b ≡ 0xE0 → ⊥) → (b ≡ 0xED → ⊥) → trail ∷ trail ∷ [] ≡ follow table b
-  unfolding allBelow row-test same-ranges follow table
-  follow-three g h p q = follows (λ x. between 0xE0 0xEF x && not (eqb x 0xE0) && not (eqb x 0xED)) (trail ∷ trail ∷ []) refl b (omega arith) (rw (from-to 0xE0 0xEF g (omega arith), ne-eqb b 0xE0 p, ne-eqb b 0xED q))
+  pub follow-ed : b ≡ 0xED → Owes (follow table b) (owes 2 0x80 0x9F)
+  unfolding owing follow table
+  follow-ed e = rw e (record { is = refl; all = refl })
 
-  pub follow-f0 : b ≡ 0xF0 → 0x90 to 0xBF ∷ trail ∷ trail ∷ [] ≡ follow table b
-  unfolding follow table
-  follow-f0 e = rw e
+  pub follow-three : 0xE0 ≤ b → b < 0xF0 → (b ≡ 0xE0 → ⊥) → (b ≡ 0xED → ⊥) → Owes (follow table b) (owes 2 0x80 0xBF)
+  unfolding allBelow row-test same-ranges owing follow table
+  follow-three g h p q = follows (λ x. between 0xE0 0xEF x && not (eqb x 0xE0) && not (eqb x 0xED)) (trail ∷ trail ∷ []) refl b (omega arith) (rw (from-to 0xE0 0xEF g (omega arith), ne-eqb b 0xE0 p, ne-eqb b 0xED q)) refl refl
 
-  pub follow-four : 0xF0 ≤ b → (b ≡ 0xF0 → ⊥) → b < 0xF4 → trail ∷ trail ∷ trail ∷ [] ≡ follow table b
-  unfolding allBelow row-test same-ranges follow table
-  follow-four g p h = follows (λ x. between 0xF0 0xF3 x && not (eqb x 0xF0)) (trail ∷ trail ∷ trail ∷ []) refl b (omega arith) (rw (from-to 0xF0 0xF3 g (omega arith), ne-eqb b 0xF0 p))
+  pub follow-f0 : b ≡ 0xF0 → Owes (follow table b) (owes 3 0x90 0xBF)
+  unfolding owing follow table
+  follow-f0 e = rw e (record { is = refl; all = refl })
 
-  pub follow-f4 : b ≡ 0xF4 → 0x80 to 0x8F ∷ trail ∷ trail ∷ [] ≡ follow table b
-  unfolding follow table
-  follow-f4 e = rw e
+  pub follow-four : 0xF0 ≤ b → (b ≡ 0xF0 → ⊥) → b < 0xF4 → Owes (follow table b) (owes 3 0x80 0xBF)
+  unfolding allBelow row-test same-ranges owing follow table
+  follow-four g p h = follows (λ x. between 0xF0 0xF3 x && not (eqb x 0xF0)) (trail ∷ trail ∷ trail ∷ []) refl b (omega arith) (rw (from-to 0xF0 0xF3 g (omega arith), ne-eqb b 0xF0 p)) refl refl
 
-  pub follow-high : b < 256 → 0xF4 ≤ b → (b ≡ 0xF4 → ⊥) → nothing ∷ [] ≡ follow table b
-  unfolding allBelow row-test same-ranges follow table
-  follow-high h g p = follows (λ x. between 0xF4 0xFF x && not (eqb x 0xF4)) (nothing ∷ []) refl b h (rw (from-to 0xF4 0xFF g (omega arith), ne-eqb b 0xF4 p))
+  pub follow-f4 : b ≡ 0xF4 → Owes (follow table b) (owes 3 0x80 0x8F)
+  unfolding owing follow table
+  follow-f4 e = rw e (record { is = refl; all = refl })
+
+  pub follow-high : b < 256 → 0xF4 ≤ b → (b ≡ 0xF4 → ⊥) → Owes (follow table b) (owes 1 0xBF 0x80)
+  unfolding allBelow row-test same-ranges owing follow table
+  follow-high h g p = follows (λ x. between 0xF4 0xFF x && not (eqb x 0xF4)) (nothing ∷ []) refl b h (rw (from-to 0xF4 0xFF g (omega arith), ne-eqb b 0xF4 p)) refl refl
 
 -- ---- what is owed
 test-not : (a b : ℕ) → ltb a b ≡ not (leb b a)
@@ -107,6 +119,11 @@ columns-trail : (n : ℕ) → columns n 0x80 0xBF ≡ replicate n trail
 columns-trail zero = refl
 columns-trail (suc n) = refl
 
+owing-trail : (n : ℕ) → owes n 0x80 0xBF ≡ owing (replicate n trail)
+unfolding owing
+owing-trail zero = refl
+owing-trail (suc n) = ap (λ k. owes (suc k) 0x80 0xBF) (sym (length-replicate n trail))
+
 module _ (more low high b : ℕ) where
   pub breaks-none : more ≡ 0 → false ≡ breaks (columns more low high) b
   unfolding breaks
@@ -120,27 +137,27 @@ module _ (more low high b : ℕ) where
       go zero h = absurd (h refl)
       go (suc m) h = outside low high b
 
-  pub owed-whole : {o : List Range} → more ≡ 0 → o ≡ follow table b → o ≡ owedAfter (columns more low high) b
+  pub owed-whole : {o : Owed} → more ≡ 0 → Owes (follow table b) o → Owes (owedAfter (columns more low high) b) o
   unfolding owedAfter
-  owed-whole e f = f ∙ rw e
+  owed-whole e f = rw e f
 
-  pub owed-broken : {o : List Range} → (more ≡ 0 → ⊥) → (ltb b low || ltb high b) ≡ true → o ≡ follow table b → o ≡ owedAfter (columns more low high) b
+  pub owed-broken : {o : Owed} → (more ≡ 0 → ⊥) → (ltb b low || ltb high b) ≡ true → Owes (follow table b) o → Owes (owedAfter (columns more low high) b) o
   unfolding owedAfter
   owed-broken {o} h y f = go more h
     where
-      go : (m : ℕ) → (m ≡ 0 → ⊥) → o ≡ owedAfter (columns m low high) b
+      go : (m : ℕ) → (m ≡ 0 → ⊥) → Owes (owedAfter (columns m low high) b) o
       go zero h = absurd (h refl)
-      go (suc m) h = f ∙ rw (not-true (between low high b) (sym (outside low high b) ∙ y))
+      go (suc m) h = rw (not-true (between low high b) (sym (outside low high b) ∙ y)) f
 
-  pub owed-next : (more ≡ 0 → ⊥) → (ltb b low || ltb high b) ≡ false → columns (more - 1) 0x80 0xBF ≡ owedAfter (columns more low high) b
+  pub owed-next : (more ≡ 0 → ⊥) → (ltb b low || ltb high b) ≡ false → Owes (owedAfter (columns more low high) b) (owes (more - 1) 0x80 0xBF)
   unfolding owedAfter
   owed-next h n = go more h
     where
-      go : (m : ℕ) → (m ≡ 0 → ⊥) → columns (m - 1) 0x80 0xBF ≡ owedAfter (columns m low high) b
+      go : (m : ℕ) → (m ≡ 0 → ⊥) → Owes (owedAfter (columns m low high) b) (owes (m - 1) 0x80 0xBF)
       go zero h = absurd (h refl)
       go (suc m) h =
           let d : suc m - 1 ≡ m = omega arith in
-          rw (not-false (between low high b) (sym (outside low high b) ∙ n), d) (columns-trail m)
+          rw (not-false (between low high b) (sym (outside low high b) ∙ n), d) (record { is = owing-trail m; all = columns-trail m })
 
   pub whole : none (columns more low high) ≡ eqb more 0
   unfolding none
@@ -170,7 +187,7 @@ module _ (o : List Range) (b : ℕ) (s : List ℕ) {r : Bool} (e : r ≡ breaks 
 
 pub utf8-ascii : (b : ℕ) (s : List ℕ) → b < 0x80 → wellFormed [] (b ∷ s) ≡ wellFormed [] s
 unfolding wellFormed
-utf8-ascii b s h = rw (sym (follow-ascii b h))
+utf8-ascii b s h = rw (sym (ascii-alone b h))
 
 -- bytes of ASCII where nothing is owed
 pub utf8-leap : {whole : Bool} (more low high : ℕ) {s : List ℕ} {i j : ℕ} → more ≡ 0 → At whole (wellFormed (columns more low high)) s i → Past isAscii s i j → At whole (wellFormed (columns more low high)) s j

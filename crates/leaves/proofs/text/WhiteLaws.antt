@@ -145,7 +145,6 @@ first-step (r ∷ o) v b s = go (within r b) refl
     go false e = rw e
 
 -- ---- the last character, from where it begins
--- ---- the last character, from where it begins
 pick : (p : List Range) (w c d : ℕ) (s : List ℕ) → ((x y : ℕ) → none p ≡ false → lastOr x (decode p w s) ≡ lastOr y (decode p w s)) → lastOr (if none p then w else c) (decode p w s) ≡ lastOr (if none p then w else d) (decode p w s)
 unfolding none
 pick [] w c d s later = refl

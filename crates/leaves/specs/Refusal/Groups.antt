@@ -3,7 +3,12 @@ use Prim.Native.Nat.{ℕ}
 use mathlib.Core.List.{[], _∷_}
 use lib.Dec.{eqb}
 use Rattle.leaves.specs.Text.Lists.{if_then_else_}
-use Rattle.leaves.specs.Sheet.Kinds.{among, isBlock, paragraph, heading, blockQuote, alert, list, htmlContainer, footnoteDefinition, table, leafDirective, containerDirective, item, row, cell, htmlTag, attribute, emphasis, strong, delete, mark, link, image, linkReference, imageReference, inlineFootnote, textDirective}
+use Rattle.leaves.specs.Sheet.Kinds.{among, isBlock, isInline}
+use Rattle.leaves.specs.Sheet.Kinds.{paragraph, heading, blockQuote, alert, list, htmlContainer}
+use Rattle.leaves.specs.Sheet.Kinds.{footnoteDefinition, table, leafDirective, containerDirective}
+use Rattle.leaves.specs.Sheet.Kinds.{item, row, cell, htmlTag, attribute}
+use Rattle.leaves.specs.Sheet.Kinds.{emphasis, strong, delete, mark, link, image, linkReference, imageReference}
+use Rattle.leaves.specs.Sheet.Kinds.{inlineFootnote, textDirective}
 
 -- ---- groups of parents: what a record may hold
 abbrev pub holdsBlocks : ℕ
@@ -66,19 +71,48 @@ parentGroup kind a =
     then holdsInlines
     else otherGroup kind a
 
--- ---- groups of children: block 0, item 1, row 2, cell 3, HTML tag 4, attribute 5, inline 6
+-- ---- groups of children: what a record is to its parent
+abbrev pub blockGroup : ℕ
+blockGroup = 0
+
+abbrev pub itemGroup : ℕ
+itemGroup = 1
+
+abbrev pub rowGroup : ℕ
+rowGroup = 2
+
+abbrev pub cellGroup : ℕ
+cellGroup = 3
+
+-- HTML tags
+abbrev pub tagGroup : ℕ
+tagGroup = 4
+
+abbrev pub attributeGroup : ℕ
+attributeGroup = 5
+
+abbrev pub inlineGroup : ℕ
+inlineGroup = 6
+
+-- of a kind that is not listed; no parent holds it
+abbrev pub noGroup : ℕ
+noGroup = 7
+
+-- the group of a child, by its kind
 unfoldable pub childGroup : ℕ → ℕ
 childGroup kind =
     if isBlock kind
-    then 0
+    then blockGroup
     else if eqb kind item
-    then 1
+    then itemGroup
     else if eqb kind row
-    then 2
+    then rowGroup
     else if eqb kind cell
-    then 3
+    then cellGroup
     else if eqb kind htmlTag
-    then 4
+    then tagGroup
     else if eqb kind attribute
-    then 5
-    else 6
+    then attributeGroup
+    else if isInline kind
+    then inlineGroup
+    else noGroup

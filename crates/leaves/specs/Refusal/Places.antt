@@ -1,34 +1,60 @@
 -- Placement (refusal 6). Document 01: "Children: blocks under the sheet, quote, alert, item and footnote definition; items under list; rows, then cells; inlines under paragraph, heading, cell and what `Inline::children` lists. Directives: attributes, then inlines, then (container only) blocks. HTML container: opening tag, closing tag, content of its sort."
-use Prim.Native.Nat.{ℕ, _+_}
+use Prim.Native.Nat.{ℕ, suc, _+_}
 use mathlib.Core.Bool.{Bool, not, _&&_, _||_}
 use mathlib.Core.List.{List, [], _∷_}
 use lib.Dec.{eqb, ltb, leb}
-use lib.ListN.{getD}
 use Rattle.leaves.specs.Text.Lists.{if_then_else_}
 use Rattle.leaves.specs.Sheet.Kinds.{htmlTag}
 use Rattle.leaves.specs.Sheet.Siblings.{gather}
-use Rattle.leaves.specs.Refusal.Groups.{holdsBlocks, holdsTagsAndBlocks, holdsTagsAndInlines, parentGroup, childGroup}
+use Rattle.leaves.specs.Refusal.Groups.{holdsBlocks, holdsItems, holdsRows, holdsCells, holdsInlines}
+use Rattle.leaves.specs.Refusal.Groups.{holdsLabel, holdsLabelAndBlocks, holdsTagsAndBlocks, holdsTagsAndInlines}
+use Rattle.leaves.specs.Refusal.Groups.{blockGroup, itemGroup, rowGroup, cellGroup}
+use Rattle.leaves.specs.Refusal.Groups.{tagGroup, attributeGroup, inlineGroup, parentGroup, childGroup}
 use Rattle.leaves.specs.declared.refusal.places.Open.{Open}
 
--- ---- the table of places: a row for each group of parents, a column for each group of children.
--- 0: not allowed there; children stand in the order of their places.
-unfoldable pub places : List (List ℕ)
-places =
-    (1 ∷ 0 ∷ 0 ∷ 0 ∷ 0 ∷ 0 ∷ 0 ∷ [])
-    ∷ (0 ∷ 1 ∷ 0 ∷ 0 ∷ 0 ∷ 0 ∷ 0 ∷ [])
-    ∷ (0 ∷ 0 ∷ 1 ∷ 0 ∷ 0 ∷ 0 ∷ 0 ∷ [])
-    ∷ (0 ∷ 0 ∷ 0 ∷ 1 ∷ 0 ∷ 0 ∷ 0 ∷ [])
-    ∷ (0 ∷ 0 ∷ 0 ∷ 0 ∷ 0 ∷ 0 ∷ 1 ∷ [])
-    ∷ (0 ∷ 0 ∷ 0 ∷ 0 ∷ 0 ∷ 1 ∷ 2 ∷ [])
-    ∷ (3 ∷ 0 ∷ 0 ∷ 0 ∷ 0 ∷ 1 ∷ 2 ∷ [])
-    ∷ (2 ∷ 0 ∷ 0 ∷ 0 ∷ 1 ∷ 0 ∷ 0 ∷ [])
-    ∷ (0 ∷ 0 ∷ 0 ∷ 0 ∷ 1 ∷ 0 ∷ 2 ∷ [])
-    ∷ (0 ∷ 0 ∷ 0 ∷ 0 ∷ 0 ∷ 0 ∷ 0 ∷ [])
-    ∷ []
+-- ---- what a parent holds: the groups of children, in the order in which they stand under it
+unfoldable pub holds : ℕ → List ℕ
+holds group =
+    -- "blocks under the sheet, quote, alert, item and footnote definition"
+    if eqb group holdsBlocks
+    then blockGroup ∷ []
+    -- "items under list"
+    else if eqb group holdsItems
+    then itemGroup ∷ []
+    -- "rows, then cells": rows under table
+    else if eqb group holdsRows
+    then rowGroup ∷ []
+    -- and cells under row
+    else if eqb group holdsCells
+    then cellGroup ∷ []
+    -- "inlines under paragraph, heading, cell and what `Inline::children` lists"
+    else if eqb group holdsInlines
+    then inlineGroup ∷ []
+    -- "Directives: attributes, then inlines"
+    else if eqb group holdsLabel
+    then attributeGroup ∷ inlineGroup ∷ []
+    -- "then (container only) blocks"
+    else if eqb group holdsLabelAndBlocks
+    then attributeGroup ∷ inlineGroup ∷ blockGroup ∷ []
+    -- "HTML container: opening tag, closing tag, content of its sort": blocks
+    else if eqb group holdsTagsAndBlocks
+    then tagGroup ∷ blockGroup ∷ []
+    -- or inlines
+    else if eqb group holdsTagsAndInlines
+    then tagGroup ∷ inlineGroup ∷ []
+    -- every other kind has no children
+    else []
 
--- the place of a kind under a group of parents
+-- the place of a group in a list whose first has the place `first`; 0 where the group is not in the list
+unfoldable pub placeIn : ℕ → List ℕ → ℕ → ℕ
+placeIn first [] child = 0
+placeIn first (group ∷ groups) child =
+    let later = placeIn (suc first) groups child in
+    if eqb child group then first else later
+
+-- the place of a kind under a group of parents, from 1 on; 0 where it is not allowed there
 unfoldable pub placeOf : ℕ → ℕ → ℕ
-placeOf group kind = getD (getD places group []) (childGroup kind) 0
+placeOf group kind = placeIn 1 (holds group) (childGroup kind)
 
 -- ---- what stands before a record under its parent: the parent's group, the place of the child before it (0 where it is the first), and how many HTML tags
 -- (`Open` is the code's struct of the three)

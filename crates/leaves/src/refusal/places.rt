@@ -1,28 +1,37 @@
 // Where a record may stand under its parent.
 ghost use mathlib.Core.Path.{_≡_};
 ghost use mathlib.Core.Bool.{true, false};
-ghost use mathlib.Core.List.{[]};
-ghost use lib.ListN.{getD};
 ghost use Rattle.leaves.specs.Sheet.Kinds.{isKind};
 ghost use Rattle.leaves.specs.Refusal.KindGroups.{kindGroups};
-ghost use Rattle.leaves.specs.Refusal.Places.{places, placeOf, opened, joined, misplaced};
+ghost use Rattle.leaves.specs.Refusal.PlaceTable.{placeTable};
+ghost use Rattle.leaves.specs.Refusal.Places.{holds, placeIn, placeOf, opened, joined, misplaced};
 use crate::refusal::groups::HOLDS_TAGS_AND_BLOCKS;
 use crate::refusal::groups::HOLDS_TAGS_AND_INLINES;
 use crate::refusal::groups::child_group;
 use crate::sheet::kinds;
 
-// The allowed places: a row for each group of parents, a column for each group of children
-// (block, item, row, cell, HTML tag, attribute, inline). 0: not allowed.
+// The allowed places: a row for each group of parents, by what it holds; a column for each group of children, in the
+// order block, item, row, cell, HTML tag, attribute, inline. 0: not allowed.
 const PLACES: [[u32; 7]; 10] = [
+    // blocks
     [1, 0, 0, 0, 0, 0, 0],
+    // items
     [0, 1, 0, 0, 0, 0, 0],
+    // rows
     [0, 0, 1, 0, 0, 0, 0],
+    // cells
     [0, 0, 0, 1, 0, 0, 0],
+    // inlines
     [0, 0, 0, 0, 0, 0, 1],
+    // attributes, inlines
     [0, 0, 0, 0, 0, 1, 2],
+    // attributes, inlines, blocks
     [3, 0, 0, 0, 0, 1, 2],
+    // two tags, blocks
     [2, 0, 0, 0, 1, 0, 0],
+    // two tags, inlines
     [0, 0, 0, 0, 1, 0, 2],
+    // nothing
     [0, 0, 0, 0, 0, 0, 0],
 ];
 
@@ -33,16 +42,17 @@ pub struct Open {
     pub tags: u32,
 }
 
-// The table, made once: what tests a record is lent it.
+// The table, made once. A constant array is copied at each mention, so the functions below are lent it: their
+// parameter `table` is always this table, and their `requires` says that it is, and nothing else of it.
 pub(crate) fn table() -> [[u32; 7]; 10]
-    ensures { λ r. ⌜ r ≡ places ⌝ }
+    ensures { λ r. ⌜ r ≡ placeTable ⌝ }
 {
     PLACES
 }
 
 fn place_at(table: &[[u32; 7]; 10], group: u32, column: u32) -> u32
-    requires { ⌜ now table ≡ places ⌝ }
-    ensures { λ r. ⌜ r ≡ getD (getD places group []) column 0 ⌝ }
+    requires { ⌜ now table ≡ placeTable ⌝ }
+    ensures { λ r. ⌜ r ≡ placeIn 1 (holds group) column ⌝ }
 {
     if 10 <= group {
         return 0;
@@ -56,7 +66,7 @@ fn place_at(table: &[[u32; 7]; 10], group: u32, column: u32) -> u32
 }
 
 fn place_of(table: &[[u32; 7]; 10], groups: &[[u32; 2]; 54], group: u32, kind: u32) -> u32
-    requires { ⌜ (now table ≡ places) × (now groups ≡ kindGroups) × (isKind kind ≡ true) ⌝ }
+    requires { ⌜ (now table ≡ placeTable) × (now groups ≡ kindGroups) × (isKind kind ≡ true) ⌝ }
     ensures { λ r. ⌜ r ≡ placeOf group kind ⌝ }
 {
     place_at(table, group, child_group(groups, kind))
@@ -75,7 +85,8 @@ pub(crate) fn opened(group: u32) -> Open
 
 // The same after one child more.
 pub(crate) fn joined(table: &[[u32; 7]; 10], groups: &[[u32; 2]; 54], o: Open, kind: u32) -> Open
-    requires { ⌜ (now table ≡ places) × (now groups ≡ kindGroups) × (isKind kind ≡ true) × (misplaced o kind ≡ false) ⌝ }
+    requires { ⌜ (now table ≡ placeTable) × (now groups ≡ kindGroups) ⌝ }
+    requires { ⌜ (isKind kind ≡ true) × (misplaced o kind ≡ false) ⌝ }
     ensures { λ r. ⌜ r ≡ joined o kind ⌝ }
 {
     let stage = place_of(table, groups, o.group, kind);
@@ -96,7 +107,7 @@ pub(crate) fn joined(table: &[[u32; 7]; 10], groups: &[[u32; 2]; 54], o: Open, k
 
 // Not allowed there, out of order, a third HTML tag, or content before the second.
 pub(crate) fn misplaced(table: &[[u32; 7]; 10], groups: &[[u32; 2]; 54], o: Open, kind: u32) -> bool
-    requires { ⌜ (now table ≡ places) × (now groups ≡ kindGroups) × (isKind kind ≡ true) ⌝ }
+    requires { ⌜ (now table ≡ placeTable) × (now groups ≡ kindGroups) × (isKind kind ≡ true) ⌝ }
     ensures { λ r. ⌜ r ≡ misplaced o kind ⌝ }
 {
     let place = place_of(table, groups, o.group, kind);

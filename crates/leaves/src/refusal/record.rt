@@ -1,7 +1,7 @@
 // The tests of one record: refusals 4 to 9.
 ghost use mathlib.Core.Path.{_≡_};
 ghost use Prim.Native.Nat.{_≤_};
-ghost use Rattle.leaves.specs.Refusal.Places.{places};
+ghost use Rattle.leaves.specs.Refusal.PlaceTable.{placeTable};
 ghost use Rattle.leaves.specs.Refusal.KindGroups.{kindGroups};
 ghost use Rattle.leaves.specs.Refusal.Record.{badLevel, judgeTexts, judge};
 use crate::refusal::fields;
@@ -45,7 +45,7 @@ pub(crate) fn judge(
     before: u32,
     o: Open,
 ) -> Judged
-    requires { ⌜ (now table ≡ places) × (now groups ≡ kindGroups) × (before ≤ 64) ⌝ }
+    requires { ⌜ (now table ≡ placeTable) × (now groups ≡ kindGroups) × (before ≤ 64) ⌝ }
     ensures { λ j. ⌜ j ≡ judge (now (bytes .entry)) i r before o ⌝ }
 {
     if !kinds::is_kind(r.kind) {

@@ -27,8 +27,9 @@ fn is_ascii(s: &[u8], i: usize) -> bool
     four_ascii(s, i) & four_ascii(s, i + 4) & four_ascii(s, i + 8) & four_ascii(s, i + 12)
 }
 
-// Passes over chunks from `from` on as long as all their bytes are ASCII. What is promised is that every byte
-// passed over is ASCII; how far it goes is a matter of speed alone.
+// Passes over chunks from `from` on as long as all their bytes are ASCII. How far it goes is left open: only speed
+// depends on it. What holds of the answer (`Past`) is that it lies between `from` and the end, and that every byte
+// passed over is ASCII.
 pub(crate) fn past_ascii(s: &[u8], from: usize) -> usize
     requires { ⌜ from ≤ length (now s) ⌝ }
     ensures { λ r. ⌜ Past isAscii (now (s .entry)) from r ⌝ }
@@ -72,7 +73,9 @@ fn lacks(s: &[u8], i: usize, a: u8, b: u8) -> bool
         & four_lack(s, i + 12, a, b)
 }
 
-// The same as long as none of their bytes is `a` or `b`.
+// The same as long as none of their bytes is `a` or `b`. How far it goes is left open here too: only speed depends
+// on it. What holds of the answer (`Past`) is that it lies between `from` and the end, and that no byte passed over
+// is `a` or `b`.
 pub(crate) fn past(s: &[u8], from: usize, a: u8, b: u8) -> usize
     requires { ⌜ from ≤ length (now s) ⌝ }
     ensures { λ r. ⌜ Past (isNeither a b) (now (s .entry)) from r ⌝ }

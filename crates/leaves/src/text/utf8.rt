@@ -4,13 +4,13 @@ ghost use Prim.Native.Nat.{_+_, _<_, _≤_, min};
 ghost use lib.ListN.{length, drop};
 ghost use Rattle.leaves.specs.Text.Utf8.{isUtf8, wellFormed, follow, table};
 ghost use Rattle.leaves.specs.Text.Utf8Scans.{breaks, owedAfter};
-ghost use Rattle.leaves.specs.Text.Utf8Owed.{owedOf};
+ghost use Rattle.leaves.specs.Text.Utf8Owed.{owedOf, Owes};
 use crate::text::chunk;
 
 const STRETCH: usize = 64;
 
 // What is owed of a sequence that has begun: how many bytes, and the range of the next.
-// Those after the next are from 0x80 to 0xBF.
+// Those after the next are from 0x80 to 0xBF, and so is the range where nothing is owed.
 pub(crate) struct Owed {
     pub more: u8,
     pub low: u8,
@@ -19,7 +19,7 @@ pub(crate) struct Owed {
 
 // What follows a first byte. A byte that begins no sequence is followed by nothing that fits.
 fn follow(b: u8) -> Owed
-    ensures { λ r. ⌜ owedOf r ≡ follow table b ⌝ }
+    ensures { λ r. ⌜ Owes (follow table b) r ⌝ }
 {
     if b < 0x80 {
         return Owed {
@@ -50,7 +50,7 @@ fn follow(b: u8) -> Owed
 
 fn follow_of_three(b: u8) -> Owed
     requires { ⌜ (0xE0 ≤ b) × (b < 0xF0) ⌝ }
-    ensures { λ r. ⌜ owedOf r ≡ follow table b ⌝ }
+    ensures { λ r. ⌜ Owes (follow table b) r ⌝ }
 {
     if b == 0xE0 {
         return Owed {
@@ -75,7 +75,7 @@ fn follow_of_three(b: u8) -> Owed
 
 fn follow_of_four(b: u8) -> Owed
     requires { ⌜ 0xF0 ≤ b ⌝ }
-    ensures { λ r. ⌜ owedOf r ≡ follow table b ⌝ }
+    ensures { λ r. ⌜ Owes (follow table b) r ⌝ }
 {
     if b == 0xF0 {
         return Owed {
@@ -117,7 +117,7 @@ pub(crate) fn breaks(owed: Owed, b: u8) -> bool
 
 // What is owed after `b`.
 pub(crate) fn owed_after(owed: Owed, b: u8) -> Owed
-    ensures { λ r. ⌜ owedOf r ≡ owedAfter (owedOf owed) b ⌝ }
+    ensures { λ r. ⌜ Owes (owedAfter (owedOf owed) b) r ⌝ }
 {
     if owed.more == 0 {
         return follow(b);
@@ -133,7 +133,8 @@ pub(crate) fn owed_after(owed: Owed, b: u8) -> Owed
 }
 
 // What is owed at `end`, where `owed` is owed at `from`: what no byte fits, where a byte between them is not
-// what was owed.
+// what was owed. By which numbers the answer says so is left open; what holds of it is that the bytes from `end`
+// on are well-formed after it exactly where those from `from` on are after `owed`.
 fn owed_at(s: &[u8], from: usize, end: usize, owed: Owed) -> Owed
     requires { ⌜ (from ≤ end) × (end ≤ length (now s)) ⌝ }
     ensures { λ r. ⌜ wellFormed (owedOf r) (drop end (now (s .entry))) ≡ wellFormed (owedOf owed) (drop from (now (s .entry))) ⌝ }
@@ -162,7 +163,9 @@ fn stretch_end(len: usize, i: usize) -> usize
     i + STRETCH
 }
 
-// Past ASCII, sixteen bytes at once, where nothing is owed.
+// Past ASCII, sixteen bytes at once, where nothing is owed. How far is left open: only speed depends on it. What
+// holds of the answer is that it lies between `i` and the end, and that passing over the bytes between changes
+// nothing: the rest is well-formed after `owed` exactly where all from `i` on is.
 fn past_ascii(s: &[u8], i: usize, owed: Owed) -> usize
     requires { ⌜ i ≤ length (now s) ⌝ }
     ensures { λ r. ⌜ (i ≤ r) × (r ≤ length (now (s .entry))) × (wellFormed (owedOf owed) (drop i (now (s .entry))) ≡ wellFormed (owedOf owed) (drop r (now (s .entry)))) ⌝ }

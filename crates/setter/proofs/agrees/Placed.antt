@@ -16,7 +16,7 @@ use Rattle.leaves.proofs.sheet.KindLaws.{kind-below}
 use Rattle.leaves.specs.Sheet.Forest.{Forest, none, tree}
 use Rattle.leaves.specs.declared.sheet.records.Rec.{Rec}
 use Rattle.leaves.specs.Refusal.Groups.{holdsBlocks, holdsItems, holdsRows, holdsCells, holdsInlines, holdsLabel, holdsLabelAndBlocks, holdsTagsAndBlocks, holdsTagsAndInlines, holdsNothing, otherGroup, parentGroup, childGroup}
-use Rattle.leaves.specs.Refusal.Places.{places, placeOf, opened, joined, misplaced}
+use Rattle.leaves.specs.Refusal.Places.{holds, placeIn, placeOf, opened, joined, misplaced}
 use Rattle.leaves.specs.declared.refusal.places.Open.{Open}
 use Rattle.leaves.proofs.refusal.PlacedLaws.{has-place, in-order, joined-group, opened-group, blocks-only, items-only, rows-only, cells-only, inlines-only, label-only, label-and-blocks-only, tags-and-blocks-only, tags-and-inlines-only, nothing-there}
 use Rattle.setter.specs.Steps.{theSheet}
@@ -76,7 +76,7 @@ unfolding allBelow zeroed rankAt
 all-zeroed = refl
 
 all-ranked : allBelow ranked 10 ≡ true
-unfolding allBelow ranked rankAt placeOf places childGroup rank
+unfolding allBelow ranked rankAt placeOf holds placeIn childGroup rank
 all-ranked = refl
 
 module _ (g : ℕ) (h : g < 10) where

@@ -15,7 +15,7 @@ abbrev μ-loop : tie.MeasureT-loop
 μ-loop sheet bytes n table groups open₀ before₀ i₀ «open» before i = n - i
 
 joined-requires : tie.Need-joined-requires Inv-loop μ-loop
-joined-requires c κs = let p = (judging-passed _ _ _ _ _ _ (search needs) (c .before .before .before .before .before .before .before .before .before .before .before .loop .inv) (c .before .before .before .before .judge .ensures) (c .before .before .before .before .before .before .before .before .before .record-at .ensures) (c .before .before .before .before .before .before .before .before .slot-of .ensures .is) (c .before .before .before .is-accepted .ensures) (search records-judged)) in (search needs, search needs, p .kind, p .place)
+joined-requires c κs = let p = (judging-passed _ _ _ _ _ _ (search needs) (c .before .before .before .before .before .before .before .before .before .before .before .loop .inv) (c .before .before .before .before .judge .ensures) (c .before .before .before .before .before .before .before .before .before .record-at .ensures) (c .before .before .before .before .before .before .before .before .slot-of .ensures .is) (c .before .before .before .is-accepted .ensures) (search records-judged)) in ((search needs, search needs), (p .kind, p .place))
 
 parent-group-requires : tie.Need-parent-group-requires Inv-loop μ-loop
 parent-group-requires c κs = let p = (judging-passed _ _ _ _ _ _ (search needs) (c .before .before .before .before .before .before .before .before .before .before .before .before .before .loop .inv) (c .before .before .before .before .before .before .judge .ensures) (c .before .before .before .before .before .before .before .before .before .before .before .record-at .ensures) (c .before .before .before .before .before .before .before .before .before .before .slot-of .ensures .is) (c .before .before .before .before .before .is-accepted .ensures) (search records-judged)) in (search needs, p .kind)
