@@ -1,5 +1,5 @@
 -- A sheet that is accepted, and what that says of each of its records.
-use mathlib.Core.Path.{_≡_, sym, _∙_}
+use mathlib.Core.Path.{_≡_, sym, ap, _∙_}
 use mathlib.Core.Bool.{Bool, true, false}
 use mathlib.Core.List.{List}
 use Prim.Native.Nat.{ℕ, zero, suc, _+_, _/_, _%_, _<_, _≤_}
@@ -10,13 +10,14 @@ use borrow.Author.Tests.{not-true, not-false, lt-ltb, le-ltb, eq-eqb, ne-eqb}
 use lib.ListN.{length}
 use Rattle.leaves.specs.Sheet.Records.{recordAt}
 use Rattle.leaves.specs.Refusal.Places.{openAt}
-use Rattle.leaves.specs.Refusal.Verdict.{isAccepted, orElse}
+use Rattle.leaves.specs.Refusal.Verdict.{judgedAnswer, isAccepted, orElse}
 use Rattle.leaves.specs.Refusal.Record.{levelBefore}
 use Rattle.leaves.specs.Refusal.Tags.{tagsFrom}
 use Rattle.leaves.specs.Refusal.TagsPlaced.{Placed, Containers}
-use Rattle.leaves.specs.Refusal.Judge.{judgeAt, judgeFrom, judgeSheet}
+use Rattle.leaves.specs.Refusal.Judge.{judgeAt, judgeFrom, judgeSheet, Judges}
 use Rattle.leaves.specs.declared.refusal.verdict.Judged.{Judged}
-use Rattle.leaves.specs.declared.refusal.verdict.Judged.the-variants.{OddSheet, LongSheet, LongText}
+use Rattle.leaves.specs.declared.refusal.verdict.Refusal.the-variants.{OddSheet, LongSheet, LongText}
+use Rattle.leaves.specs.declared.refusal.verdict.Judged.the-variants.{Refused}
 use Rattle.leaves.proofs.refusal.VerdictLaws.{or-first, or-second, both-first, both-second}
 use Rattle.leaves.proofs.refusal.PassLaws.{Passed, passed}
 
@@ -35,19 +36,23 @@ every-passed w bytes n h i b = passed bytes i (recordAt w i) (levelBefore w i) (
 placed : (w bytes : List ℕ) (n : ℕ) → isAccepted (judgeFrom w bytes n 0) ≡ true → Placed w n
 placed w bytes n h = record { level = λ i b. every-passed w bytes n h i b .level; place = λ i b. every-passed w bytes n h i b .place }
 
+-- ---- an answer as an enum is the same by number and record
+pub judges : (w bytes : List ℕ) {j : Judged} → j ≡ judgeSheet w bytes → Judges w bytes j
+judges w bytes e = record { answer = ap judgedAnswer e; enum = e }
+
 -- ---- the tests of a sheet, one after another
 module _ (w bytes : List ℕ) where
-  pub sheet-odd : (length w % 12 ≡ 0 → ⊥) → OddSheet ≡ judgeSheet w bytes
+  pub sheet-odd : (length w % 12 ≡ 0 → ⊥) → Refused OddSheet ≡ judgeSheet w bytes
   unfolding judgeSheet
   sheet-odd o = rw (ne-eqb (length w % 12) 0 o)
 
   module _ (e : length w % 12 ≡ 0) where
-    pub sheet-long : 65535 < length w / 12 → LongSheet ≡ judgeSheet w bytes
+    pub sheet-long : 65535 < length w / 12 → Refused LongSheet ≡ judgeSheet w bytes
     unfolding judgeSheet
     sheet-long h = rw (eq-eqb (length w % 12) 0 e, lt-ltb 65535 (length w / 12) h)
 
     module _ (f : length w / 12 ≤ 65535) where
-      pub text-long : 16777216 < length bytes → LongText ≡ judgeSheet w bytes
+      pub text-long : 16777216 < length bytes → Refused LongText ≡ judgeSheet w bytes
       unfolding judgeSheet
       text-long h = rw (eq-eqb (length w % 12) 0 e, le-ltb 65535 (length w / 12) f, lt-ltb 16777216 (length bytes) h)
 
@@ -66,4 +71,4 @@ module _ (w bytes : List ℕ) where
           pub containers : t ≡ true → Containers w (length w / 12)
           containers y = record { whole = omega arith; few = f; placed = placed w bytes (length w / 12) (rw ej at (sym et ∙ y)) }
 
-pub ruleset accepting = (sheet-odd, sheet-long, text-long, sheet-record, sheet-tags, containers, not-true, not-false, needs)
+pub ruleset accepting = (judges, sheet-odd, sheet-long, text-long, sheet-record, sheet-tags, containers, not-true, not-false, needs)

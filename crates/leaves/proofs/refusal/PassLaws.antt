@@ -15,7 +15,8 @@ use Rattle.leaves.specs.Refusal.Verdict.{isAccepted}
 use Rattle.leaves.specs.Refusal.Record.{badLevel, judgeTexts, judge}
 use Rattle.leaves.specs.declared.sheet.records.Rec.{Rec}
 use Rattle.leaves.specs.declared.refusal.places.Open.{Open}
-use Rattle.leaves.specs.declared.refusal.verdict.Judged.the-variants.{Accepted, UnknownKind, BadLevel, Misplaced, BadField, TextOutside, NotUtf8}
+use Rattle.leaves.specs.declared.refusal.verdict.Refusal.the-variants.{UnknownKind, BadLevel, Misplaced, BadField, TextOutside, NotUtf8}
+use Rattle.leaves.specs.declared.refusal.verdict.Judged.the-variants.{Accepted, Refused}
 use Rattle.leaves.proofs.text.TestLaws.{or-left, or-right}
 
 pub record Passed (bytes : List ℕ) (r : Rec) (before : ℕ) (o : Open) : Type 0 where
@@ -30,7 +31,7 @@ pub passed : (bytes : List ℕ) (i : ℕ) (r : Rec) (before : ℕ) (o : Open) �
 unfolding judge judgeTexts
 passed bytes i r before o = go (isKind (r .kind)) (badLevel before (r .level)) (misplaced o (r .kind)) (badField r) (textOutside bytes (r .first) || textOutside bytes (r .second)) (textIllFormed bytes (r .first) || textIllFormed bytes (r .second)) refl refl refl refl refl refl
   where
-    go : (k l m f t u : Bool) → isKind (r .kind) ≡ k → badLevel before (r .level) ≡ l → misplaced o (r .kind) ≡ m → badField r ≡ f → (textOutside bytes (r .first) || textOutside bytes (r .second)) ≡ t → (textIllFormed bytes (r .first) || textIllFormed bytes (r .second)) ≡ u → isAccepted (if not k then UnknownKind i else if l then BadLevel i else if m then Misplaced i else if f then BadField i else if t then TextOutside i else if u then NotUtf8 i else Accepted) ≡ true → Passed bytes r before o
+    go : (k l m f t u : Bool) → isKind (r .kind) ≡ k → badLevel before (r .level) ≡ l → misplaced o (r .kind) ≡ m → badField r ≡ f → (textOutside bytes (r .first) || textOutside bytes (r .second)) ≡ t → (textIllFormed bytes (r .first) || textIllFormed bytes (r .second)) ≡ u → isAccepted (if not k then Refused (UnknownKind i) else if l then Refused (BadLevel i) else if m then Refused (Misplaced i) else if f then Refused (BadField i) else if t then Refused (TextOutside i) else if u then Refused (NotUtf8 i) else Accepted) ≡ true → Passed bytes r before o
     go false l m f t u a b c d e g h = absurd (false≢true h)
     go true true m f t u a b c d e g h = absurd (false≢true h)
     go true false true f t u a b c d e g h = absurd (false≢true h)

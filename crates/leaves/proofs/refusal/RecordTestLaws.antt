@@ -13,15 +13,16 @@ use Rattle.leaves.specs.Refusal.Record.{badLevel, judgeTexts, judge}
 use Rattle.leaves.specs.declared.sheet.records.Rec.{Rec}
 use Rattle.leaves.specs.declared.refusal.places.Open.{Open}
 use Rattle.leaves.specs.declared.refusal.verdict.Judged.{Judged}
-use Rattle.leaves.specs.declared.refusal.verdict.Judged.the-variants.{Accepted, UnknownKind, BadLevel, Misplaced, BadField, TextOutside, NotUtf8}
+use Rattle.leaves.specs.declared.refusal.verdict.Refusal.the-variants.{UnknownKind, BadLevel, Misplaced, BadField, TextOutside, NotUtf8}
+use Rattle.leaves.specs.declared.refusal.verdict.Judged.the-variants.{Accepted, Refused}
 
 module _ (bytes : List ℕ) (i : ℕ) (r : Rec) {p q : Bool} (ep : p ≡ textOutside bytes (r .first)) (eq : q ≡ textOutside bytes (r .second)) where
-  pub texts-outside : (p || q) ≡ true → TextOutside i ≡ judgeTexts bytes i r
+  pub texts-outside : (p || q) ≡ true → Refused (TextOutside i) ≡ judgeTexts bytes i r
   unfolding judgeTexts
   texts-outside y = rw (← ep, ← eq, y)
 
   module _ {u v : Bool} (n : (p || q) ≡ false) (eu : u ≡ textIllFormed bytes (r .first)) (ev : v ≡ textIllFormed bytes (r .second)) where
-    pub texts-ill : (u || v) ≡ true → NotUtf8 i ≡ judgeTexts bytes i r
+    pub texts-ill : (u || v) ≡ true → Refused (NotUtf8 i) ≡ judgeTexts bytes i r
     unfolding judgeTexts
     texts-ill y = rw (← ep, ← eq, n, ← eu, ← ev, y)
 
@@ -30,22 +31,22 @@ module _ (bytes : List ℕ) (i : ℕ) (r : Rec) {p q : Bool} (ep : p ≡ textOut
     texts-pass y = rw (← ep, ← eq, n, ← eu, ← ev, y)
 
 module _ (bytes : List ℕ) (i : ℕ) (r : Rec) (before : ℕ) (o : Open) {k : Bool} (ek : k ≡ isKind (r .kind)) where
-  pub judge-kind : k ≡ false → UnknownKind i ≡ judge bytes i r before o
+  pub judge-kind : k ≡ false → Refused (UnknownKind i) ≡ judge bytes i r before o
   unfolding judge
   judge-kind n = rw (← ek, n)
 
   module _ {l : Bool} (yk : k ≡ true) (el : l ≡ badLevel before (r .level)) where
-    pub judge-level : l ≡ true → BadLevel i ≡ judge bytes i r before o
+    pub judge-level : l ≡ true → Refused (BadLevel i) ≡ judge bytes i r before o
     unfolding judge
     judge-level y = rw (← ek, yk, ← el, y)
 
     module _ {m : Bool} (nl : l ≡ false) (em : m ≡ misplaced o (r .kind)) where
-      pub judge-place : m ≡ true → Misplaced i ≡ judge bytes i r before o
+      pub judge-place : m ≡ true → Refused (Misplaced i) ≡ judge bytes i r before o
       unfolding judge
       judge-place y = rw (← ek, yk, ← el, nl, ← em, y)
 
       module _ {f : Bool} (nm : m ≡ false) (ef : f ≡ badField r) where
-        pub judge-field : f ≡ true → BadField i ≡ judge bytes i r before o
+        pub judge-field : f ≡ true → Refused (BadField i) ≡ judge bytes i r before o
         unfolding judge
         judge-field y = rw (← ek, yk, ← el, nl, ← em, nm, ← ef, y)
 

@@ -20,7 +20,8 @@ use Rattle.leaves.specs.Refusal.Tags.{lacksTags, tagsFrom}
 use Rattle.leaves.specs.Refusal.TagsPlaced.{Placed, tagUnder}
 use Rattle.leaves.specs.declared.sheet.records.Rec.{Rec}
 use Rattle.leaves.specs.declared.refusal.places.Open.{Open}
-use Rattle.leaves.specs.declared.refusal.verdict.Judged.the-variants.{Accepted, TagsMissing}
+use Rattle.leaves.specs.declared.refusal.verdict.Refusal.the-variants.{TagsMissing}
+use Rattle.leaves.specs.declared.refusal.verdict.Judged.the-variants.{Accepted, Refused}
 use Rattle.leaves.proofs.text.TestLaws.{or-right}
 use Rattle.leaves.proofs.refusal.OpenLaws.{open-kid, open-same}
 use Rattle.leaves.proofs.refusal.PassLaws.{Deep, deep}
@@ -174,12 +175,12 @@ pub record Tagging (w : List ℕ) (n i : ℕ) : Type 0 where
 pub tagging-start : (w : List ℕ) (n : ℕ) → Tagging w n 0
 tagging-start w n = record { within = omega arith; same = rw sub-zero }
 
-tags-step : (w : List ℕ) (n i : ℕ) → i < n → tagsFrom w n (n - i) i ≡ (if lacksTags w n i then TagsMissing i else tagsFrom w n (n - (i + 1)) (i + 1))
+tags-step : (w : List ℕ) (n i : ℕ) → i < n → tagsFrom w n (n - i) i ≡ (if lacksTags w n i then Refused (TagsMissing i) else tagsFrom w n (n - (i + 1)) (i + 1))
 unfolding tagsFrom
 tags-step w n i h = let e : n - i ≡ suc (n - (i + 1)) = omega arith in rw (e, add-one i)
 
 module _ (w : List ℕ) (n i : ℕ) (h : i < n) (v : Tagging w n i) {t : Bool} (e : t ≡ lacksTags w n i) where
-  pub tagging-stop : t ≡ true → TagsMissing i ≡ tagsFrom w n n 0
+  pub tagging-stop : t ≡ true → Refused (TagsMissing i) ≡ tagsFrom w n n 0
   tagging-stop y = sym (v .same ∙ tags-step w n i h ∙ rw (← e, y))
 
   pub tagging-turn : t ≡ false → Tagging w n (i + 1)

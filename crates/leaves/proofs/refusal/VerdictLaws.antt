@@ -1,64 +1,72 @@
--- The number of an answer tells whether it is a refusal; the first of two that is one.
-use mathlib.Core.Path.{_≡_, refl, sym, _∙_}
+-- The number of an answer tells whether it is a refusal, and number and record tell which; the first of two that is a refusal.
+use mathlib.Core.Path.{_≡_, refl, sym, ap, _∙_}
 use mathlib.Core.Bool.{Bool, true, false, false≢true}
-use Prim.Native.Nat.{ℕ}
+use mathlib.Core.List.{List, [], _∷_}
+use Prim.Native.Nat.{ℕ, _<_, _≤_}
 use native.Mathlib.Omega.{arith}
-use lib.Dec.{eqb}
-use Rattle.leaves.specs.Refusal.Verdict.{numberOf, isAccepted, orElse}
+use lib.ListN.{getD}
+use Rattle.leaves.specs.Refusal.Verdict.{Answer, refusalAnswer, judgedAnswer, isAccepted, orElse}
+use Rattle.leaves.specs.declared.refusal.verdict.Refusal.{Refusal}
+use Rattle.leaves.specs.declared.refusal.verdict.Refusal.the-variants.{OddSheet, LongSheet, LongText, UnknownKind, BadLevel, Misplaced, BadField, TextOutside, NotUtf8, TagsMissing}
 use Rattle.leaves.specs.declared.refusal.verdict.Judged.{Judged}
-use Rattle.leaves.specs.declared.refusal.verdict.Judged.the-variants.{Accepted, OddSheet, LongSheet, LongText, UnknownKind, BadLevel, Misplaced, BadField, TextOutside, NotUtf8, TagsMissing}
+use Rattle.leaves.specs.declared.refusal.verdict.Judged.the-variants.{Accepted, Refused}
 
-pub accepted-number : (j : Judged) {n : ℕ} → n ≡ numberOf j → eqb n 0 ≡ isAccepted j
-accepted-number Accepted e = rw e
-accepted-number OddSheet e = rw e
-accepted-number LongSheet e = rw e
-accepted-number LongText e = rw e
-accepted-number (UnknownKind i) e = rw e
-accepted-number (BadLevel i) e = rw e
-accepted-number (Misplaced i) e = rw e
-accepted-number (BadField i) e = rw e
-accepted-number (TextOutside i) e = rw e
-accepted-number (NotUtf8 i) e = rw e
-accepted-number (TagsMissing i) e = rw e
+-- ---- a refusal's number is one of 1 to 10
+pub record Numbered (n : ℕ) : Type 0 where
+  pub some : 0 < n
+  pub most : n ≤ 10
 
-pub none-refused : (j : Judged) → numberOf j ≡ 0 → j ≡ Accepted
+pub refusal-numbered : (r : Refusal) → Numbered (refusalAnswer r .number)
+refusal-numbered OddSheet = record { some = omega arith; most = omega arith }
+refusal-numbered LongSheet = record { some = omega arith; most = omega arith }
+refusal-numbered LongText = record { some = omega arith; most = omega arith }
+refusal-numbered (UnknownKind i) = record { some = omega arith; most = omega arith }
+refusal-numbered (BadLevel i) = record { some = omega arith; most = omega arith }
+refusal-numbered (Misplaced i) = record { some = omega arith; most = omega arith }
+refusal-numbered (BadField i) = record { some = omega arith; most = omega arith }
+refusal-numbered (TextOutside i) = record { some = omega arith; most = omega arith }
+refusal-numbered (NotUtf8 i) = record { some = omega arith; most = omega arith }
+refusal-numbered (TagsMissing i) = record { some = omega arith; most = omega arith }
+
+pub none-refused : (j : Judged) → judgedAnswer j .number ≡ 0 → j ≡ Accepted
 none-refused Accepted e = refl
-none-refused OddSheet e = absurd (omega arith)
-none-refused LongSheet e = absurd (omega arith)
-none-refused LongText e = absurd (omega arith)
-none-refused (UnknownKind i) e = absurd (omega arith)
-none-refused (BadLevel i) e = absurd (omega arith)
-none-refused (Misplaced i) e = absurd (omega arith)
-none-refused (BadField i) e = absurd (omega arith)
-none-refused (TextOutside i) e = absurd (omega arith)
-none-refused (NotUtf8 i) e = absurd (omega arith)
-none-refused (TagsMissing i) e = absurd (omega arith)
+none-refused (Refused r) e = absurd (omega (arith, refusal-numbered r .some))
 
-pub some-refused : (j : Judged) → (numberOf j ≡ 0 → ⊥) → isAccepted j ≡ false
+pub some-refused : (j : Judged) → (judgedAnswer j .number ≡ 0 → ⊥) → isAccepted j ≡ false
 some-refused Accepted e = absurd (e refl)
-some-refused OddSheet e = refl
-some-refused LongSheet e = refl
-some-refused LongText e = refl
-some-refused (UnknownKind i) e = refl
-some-refused (BadLevel i) e = refl
-some-refused (Misplaced i) e = refl
-some-refused (BadField i) e = refl
-some-refused (TextOutside i) e = refl
-some-refused (NotUtf8 i) e = refl
-some-refused (TagsMissing i) e = refl
+some-refused (Refused r) e = refl
 
 pub is-accepted : (j : Judged) → isAccepted j ≡ true → j ≡ Accepted
 is-accepted Accepted h = refl
-is-accepted OddSheet h = absurd (false≢true h)
-is-accepted LongSheet h = absurd (false≢true h)
-is-accepted LongText h = absurd (false≢true h)
-is-accepted (UnknownKind i) h = absurd (false≢true h)
-is-accepted (BadLevel i) h = absurd (false≢true h)
-is-accepted (Misplaced i) h = absurd (false≢true h)
-is-accepted (BadField i) h = absurd (false≢true h)
-is-accepted (TextOutside i) h = absurd (false≢true h)
-is-accepted (NotUtf8 i) h = absurd (false≢true h)
-is-accepted (TagsMissing i) h = absurd (false≢true h)
+is-accepted (Refused r) h = absurd (false≢true h)
+
+-- ---- number and record tell which answer it is
+read : Answer → Judged
+read a = getD (Accepted ∷ Refused OddSheet ∷ Refused LongSheet ∷ Refused LongText ∷ Refused (UnknownKind (a .value)) ∷ Refused (BadLevel (a .value)) ∷ Refused (Misplaced (a .value)) ∷ Refused (BadField (a .value)) ∷ Refused (TextOutside (a .value)) ∷ Refused (NotUtf8 (a .value)) ∷ Refused (TagsMissing (a .value)) ∷ []) (a .number) Accepted
+
+refusal-back : (r : Refusal) → read (refusalAnswer r) ≡ Refused r
+unfolding read
+refusal-back OddSheet = refl
+refusal-back LongSheet = refl
+refusal-back LongText = refl
+refusal-back (UnknownKind i) = refl
+refusal-back (BadLevel i) = refl
+refusal-back (Misplaced i) = refl
+refusal-back (BadField i) = refl
+refusal-back (TextOutside i) = refl
+refusal-back (NotUtf8 i) = refl
+refusal-back (TagsMissing i) = refl
+
+judged-back : (j : Judged) → read (judgedAnswer j) ≡ j
+unfolding read
+judged-back Accepted = refl
+judged-back (Refused r) = refusal-back r
+
+pub judged-one : (j k : Judged) → judgedAnswer j ≡ judgedAnswer k → j ≡ k
+judged-one j k e = sym (judged-back j) ∙ ap read e ∙ judged-back k
+
+pub refusal-one : (r s : Refusal) → refusalAnswer r ≡ refusalAnswer s → r ≡ s
+refusal-one r s e = let same : Refused r ≡ Refused s = judged-one (Refused r) (Refused s) e in cc
 
 -- ---- one answer, or another after it
 pub or-first : (j k : Judged) → isAccepted j ≡ false → orElse j k ≡ j

@@ -13,7 +13,15 @@ use Rattle.leaves.specs.Refusal.Limits.{mostLevel}
 use Rattle.leaves.specs.declared.sheet.records.Rec.{Rec}
 use Rattle.leaves.specs.declared.refusal.places.Open.{Open}
 use Rattle.leaves.specs.declared.refusal.verdict.Judged.{Judged}
-use Rattle.leaves.specs.declared.refusal.verdict.Judged.the-variants.{Accepted, UnknownKind, BadLevel, Misplaced, BadField, TextOutside, NotUtf8}
+use Rattle.leaves.specs.declared.refusal.verdict.Refusal.the-variants.{
+  UnknownKind,
+  BadLevel,
+  Misplaced,
+  BadField,
+  TextOutside,
+  NotUtf8,
+}
+use Rattle.leaves.specs.declared.refusal.verdict.Judged.the-variants.{Accepted, Refused}
 
 -- the level of the record before; 0 before the first
 unfoldable pub levelBefore : List ℕ → ℕ → ℕ
@@ -28,20 +36,20 @@ badLevel before level = eqb level 0 || ltb mostLevel level || ltb (before + 1) l
 unfoldable pub judgeTexts : List ℕ → ℕ → Rec → Judged
 judgeTexts bytes i r =
     if textOutside bytes (r .first) || textOutside bytes (r .second)
-    then TextOutside i
+    then Refused (TextOutside i)
     else if textIllFormed bytes (r .first) || textIllFormed bytes (r .second)
-    then NotUtf8 i
+    then Refused (NotUtf8 i)
     else Accepted
 
 -- The tests 4 to 9 of record i: r, after a record of the level `before`, with o before it under its parent.
 unfoldable pub judge : List ℕ → ℕ → Rec → ℕ → Open → Judged
 judge bytes i r before o =
     if not (isKind (r .kind))
-    then UnknownKind i
+    then Refused (UnknownKind i)
     else if badLevel before (r .level)
-    then BadLevel i
+    then Refused (BadLevel i)
     else if misplaced o (r .kind)
-    then Misplaced i
+    then Refused (Misplaced i)
     else if badField r
-    then BadField i
+    then Refused (BadField i)
     else judgeTexts bytes i r

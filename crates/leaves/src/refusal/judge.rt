@@ -4,13 +4,14 @@ ghost use Prim.Native.Nat.{_≤_, _*_};
 ghost use lib.ListN.{length};
 ghost use Rattle.leaves.specs.Sheet.Records.{recordWords};
 ghost use Rattle.leaves.specs.Refusal.Limits.{mostRecords};
-ghost use Rattle.leaves.specs.Refusal.Judge.{judgeFrom, judgeSheet};
+ghost use Rattle.leaves.specs.Refusal.Judge.{judgeFrom, Judges};
 ghost use Rattle.leaves.specs.Refusal.Judging.{Slot};
 use crate::refusal::groups;
 use crate::refusal::places;
 use crate::refusal::record::judge;
 use crate::refusal::tags::judge_tags;
 use crate::refusal::verdict::Judged;
+use crate::refusal::verdict::Refusal;
 use crate::refusal::verdict::is_accepted;
 use crate::sheet::records;
 use crate::sheet::records::RECORD_WORDS;
@@ -55,17 +56,17 @@ fn judge_records(sheet: &[u32], bytes: &[u8], n: usize) -> Judged
 
 // The answer for a sheet and its text: refused by 1 to 10, or accepted.
 pub fn accept(sheet: &[u32], text: &[u8]) -> Judged
-    ensures { λ j. ⌜ j ≡ judgeSheet (now (sheet .entry)) (now (text .entry)) ⌝ }
+    ensures { λ j. ⌜ Judges (now (sheet .entry)) (now (text .entry)) j ⌝ }
 {
     if sheet.len() % RECORD_WORDS != 0 {
-        return Judged::OddSheet;
+        return Judged::Refused(Refusal::OddSheet);
     }
     let n = sheet.len() / RECORD_WORDS;
     if MOST_RECORDS < n {
-        return Judged::LongSheet;
+        return Judged::Refused(Refusal::LongSheet);
     }
     if MOST_BYTES < text.len() {
-        return Judged::LongText;
+        return Judged::Refused(Refusal::LongText);
     }
     let j = judge_records(sheet, text, n);
     if !is_accepted(j) {

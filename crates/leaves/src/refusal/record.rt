@@ -8,6 +8,7 @@ use crate::refusal::fields;
 use crate::refusal::places;
 use crate::refusal::places::Open;
 use crate::refusal::verdict::Judged;
+use crate::refusal::verdict::Refusal;
 use crate::sheet::kinds;
 use crate::sheet::records::Rec;
 use crate::sheet::texts;
@@ -27,10 +28,10 @@ fn judge_texts(bytes: &[u8], i: usize, r: Rec) -> Judged
     let first = r.first;
     let second = r.second;
     if texts::text_outside(bytes, first) | texts::text_outside(bytes, second) {
-        return Judged::TextOutside(i);
+        return Judged::Refused(Refusal::TextOutside(i));
     }
     if texts::text_ill_formed(bytes, first) | texts::text_ill_formed(bytes, second) {
-        return Judged::NotUtf8(i);
+        return Judged::Refused(Refusal::NotUtf8(i));
     }
     Judged::Accepted
 }
@@ -49,16 +50,16 @@ pub(crate) fn judge(
     ensures { λ j. ⌜ j ≡ judge (now (bytes .entry)) i r before o ⌝ }
 {
     if !kinds::is_kind(r.kind) {
-        return Judged::UnknownKind(i);
+        return Judged::Refused(Refusal::UnknownKind(i));
     }
     if bad_level(before, r.level) {
-        return Judged::BadLevel(i);
+        return Judged::Refused(Refusal::BadLevel(i));
     }
     if places::misplaced(table, groups, o, r.kind) {
-        return Judged::Misplaced(i);
+        return Judged::Refused(Refusal::Misplaced(i));
     }
     if fields::bad_field(r) {
-        return Judged::BadField(i);
+        return Judged::Refused(Refusal::BadField(i));
     }
     judge_texts(bytes, i, r)
 }

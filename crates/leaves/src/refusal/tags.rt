@@ -6,6 +6,7 @@ ghost use Rattle.leaves.specs.Sheet.Records.{recordWords};
 ghost use Rattle.leaves.specs.Refusal.Tags.{lacksTags, tagsFrom};
 ghost use Rattle.leaves.specs.Refusal.TagsPlaced.{Containers, tagUnder};
 use crate::refusal::verdict::Judged;
+use crate::refusal::verdict::Refusal;
 use crate::sheet::kinds;
 use crate::sheet::records;
 
@@ -40,7 +41,7 @@ pub(crate) fn judge_tags(sheet: &[u32], n: usize) -> Judged
     let mut i: usize = 0;
     while i < n {
         if lacks_tags(sheet, n, i) {
-            return Judged::TagsMissing(i);
+            return Judged::Refused(Refusal::TagsMissing(i));
         }
         i = i + 1;
     }

@@ -1,10 +1,9 @@
 // The answer for a sheet, with its number and record.
 ghost use mathlib.Core.Path.{_≡_};
-ghost use Rattle.leaves.specs.Refusal.Verdict.{numberOf, recordOf, isAccepted};
+ghost use Rattle.leaves.specs.Refusal.Verdict.{refusalAnswer, judgedAnswer, isAccepted};
 
-// The answer for a sheet: accepted, or refused by document 01's name for it, at a record.
-pub enum Judged {
-    Accepted,
+// A refusal by document 01's name for it, at a record.
+pub enum Refusal {
     OddSheet,
     LongSheet,
     LongText,
@@ -17,40 +16,65 @@ pub enum Judged {
     TagsMissing(usize),
 }
 
-// Document 01's number of the answer; 0 where the sheet is not refused.
-pub fn number_of(j: Judged) -> u32
-    ensures { λ r. ⌜ r ≡ numberOf j ⌝ }
+// The answer for a sheet: accepted, or refused.
+pub enum Judged {
+    Accepted,
+    Refused(Refusal),
+}
+
+// Document 01's number of a refusal.
+pub fn refusal_number(refusal: Refusal) -> u32
+    ensures { λ r. ⌜ r ≡ refusalAnswer refusal .number ⌝ }
 {
-    match j {
-        Judged::Accepted => 0,
-        Judged::OddSheet => 1,
-        Judged::LongSheet => 2,
-        Judged::LongText => 3,
-        Judged::UnknownKind(_) => 4,
-        Judged::BadLevel(_) => 5,
-        Judged::Misplaced(_) => 6,
-        Judged::BadField(_) => 7,
-        Judged::TextOutside(_) => 8,
-        Judged::NotUtf8(_) => 9,
-        Judged::TagsMissing(_) => 10,
+    match refusal {
+        Refusal::OddSheet => 1,
+        Refusal::LongSheet => 2,
+        Refusal::LongText => 3,
+        Refusal::UnknownKind(_) => 4,
+        Refusal::BadLevel(_) => 5,
+        Refusal::Misplaced(_) => 6,
+        Refusal::BadField(_) => 7,
+        Refusal::TextOutside(_) => 8,
+        Refusal::NotUtf8(_) => 9,
+        Refusal::TagsMissing(_) => 10,
     }
 }
 
-pub fn record_of(j: Judged) -> usize
-    ensures { λ r. ⌜ r ≡ recordOf j ⌝ }
+// The record that a refusal names; 0 where it names none.
+pub fn refusal_record(refusal: Refusal) -> usize
+    ensures { λ r. ⌜ r ≡ refusalAnswer refusal .value ⌝ }
+{
+    match refusal {
+        Refusal::OddSheet => 0,
+        Refusal::LongSheet => 0,
+        Refusal::LongText => 0,
+        Refusal::UnknownKind(i) => i,
+        Refusal::BadLevel(i) => i,
+        Refusal::Misplaced(i) => i,
+        Refusal::BadField(i) => i,
+        Refusal::TextOutside(i) => i,
+        Refusal::NotUtf8(i) => i,
+        Refusal::TagsMissing(i) => i,
+    }
+}
+
+// The number of the answer; 0 where the sheet is accepted.
+pub fn number_of(j: Judged) -> u32
+    ensures { λ r. ⌜ r ≡ judgedAnswer j .number ⌝ }
 {
     match j {
         Judged::Accepted => 0,
-        Judged::OddSheet => 0,
-        Judged::LongSheet => 0,
-        Judged::LongText => 0,
-        Judged::UnknownKind(i) => i,
-        Judged::BadLevel(i) => i,
-        Judged::Misplaced(i) => i,
-        Judged::BadField(i) => i,
-        Judged::TextOutside(i) => i,
-        Judged::NotUtf8(i) => i,
-        Judged::TagsMissing(i) => i,
+        Judged::Refused(refusal) => refusal_number(refusal),
+    }
+}
+
+// The record of the answer; 0 where the sheet is accepted.
+pub fn record_of(j: Judged) -> usize
+    ensures { λ r. ⌜ r ≡ judgedAnswer j .value ⌝ }
+{
+    match j {
+        Judged::Accepted => 0,
+        Judged::Refused(refusal) => refusal_record(refusal),
     }
 }
 
@@ -58,5 +82,8 @@ pub fn record_of(j: Judged) -> usize
 pub fn is_accepted(j: Judged) -> bool
     ensures { λ r. ⌜ r ≡ isAccepted j ⌝ }
 {
-    number_of(j) == 0
+    match j {
+        Judged::Accepted => true,
+        Judged::Refused(_) => false,
+    }
 }
