@@ -4,11 +4,11 @@ ghost use Rattle.leaves.specs.Sheet.Records.{recordsOf};
 ghost use Rattle.leaves.specs.Report.Entries.{start, after};
 ghost use Rattle.leaves.specs.Refusal.Formed.{Sound};
 ghost use Rattle.blocks.specs.Walk.{validateDocument};
-ghost use Rattle.blocks.specs.Check.{outcome};
+ghost use Rattle.blocks.specs.Check.{checkedAnswer, outcome};
 use crate::answer::Checked;
 use crate::walk::validate_document;
 use leaves::refusal::judge;
-use leaves::refusal::verdict;
+use leaves::refusal::verdict::Judged;
 use leaves::report::entries::Tally;
 use leaves::sheet::records::RECORD_WORDS;
 
@@ -21,13 +21,15 @@ fn measure(sheet: &[u32], text: &[u8], n: usize) -> Tally
     validate_document(sheet, text, &mut none, n)
 }
 
-// Refuses a malformed sheet by number and leaves every lent word; or writes the whole list into the report's front. It measures before it says that the report is short, and a list of no entries is not written again.
+// Refuses a malformed sheet by number and leaves every lent word; or writes the whole list into the report's
+// front. It measures before it says that the report is short, and a list of no entries is not written again.
 pub fn check(sheet: &[u32], text: &[u8], report: &mut [u32]) -> Checked
-    ensures { λ r. ⌜ (r, now (report .exit)) ≡ outcome (now (sheet .entry)) (now (text .entry)) (now (report .entry)) ⌝ }
+    ensures { λ r. ⌜ (checkedAnswer r, now (report .exit)) ≡
+        outcome (now (sheet .entry)) (now (text .entry)) (now (report .entry)) ⌝ }
 {
     let judged = judge::accept(sheet, text);
-    if verdict::number_of(judged) != 0 {
-        return Checked::Refused(judged);
+    if let Judged::Refused(refusal) = judged {
+        return Checked::Refused(refusal);
     }
     let n = sheet.len() / RECORD_WORDS;
     let need = measure(sheet, text, n);
