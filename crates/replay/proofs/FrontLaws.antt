@@ -2,23 +2,29 @@
 use mathlib.Core.Path.{_≡_, refl}
 use mathlib.Core.List.{List, _++_}
 use Prim.Native.Nat.{ℕ, _<_, _≤_}
+use native.Mathlib.Omega.{arith}
 use borrow.Author.Needs.{needs}
 use borrow.Author.Tests.{eq-eqb, ne-eqb, lt-ltb, le-ltb}
 use lib.ListN.{length, take, drop}
 use Rattle.blocks.specs.Check.{outcome}
-use Rattle.setter.specs.Packed.{packed, packedSetting}
+use Rattle.leaves.specs.Refusal.Verdict.{Answer}
+use Rattle.setter.specs.Exports.{Halves, CheckPromise, SetPromise}
 use Rattle.setter.specs.Setting.{settingOf}
 use Rattle.replay.specs.Words.{Gives}
-use Rattle.replay.specs.Front.{noAnswer, calledOf, answeredOf}
+use Rattle.replay.specs.Front.{noAnswer, packed, calledOf, answeredOf}
+
+-- a number is made of its halves
+whole : (r : ℕ) (a : Answer) → Halves r a → r ≡ packed a
+whole r a h = omega (arith, h .number, h .value)
 
 module _ (f : ℕ) (w bytes lent : List ℕ) where
-  pub called-check : (r : ℕ) (left : List ℕ) → f ≡ 0 → r ≡ packed (outcome w bytes lent .0) → left ≡ outcome w bytes lent .1 → Gives (calledOf f w bytes lent) r left
+  pub called-check : (r : ℕ) (left : List ℕ) → f ≡ 0 → CheckPromise w bytes lent r left → Gives (calledOf f w bytes lent) r left
   unfolding calledOf
-  called-check r left e p q = rw (eq-eqb f 0 e) (record { first = p; second = q })
+  called-check r left e p = rw (eq-eqb f 0 e) (record { first = whole r (outcome w bytes lent .0) (p .answer); second = p .words })
 
-  pub called-set : (r : ℕ) (left : List ℕ) → (f ≡ 0 → ⊥) → f ≡ 1 → r ≡ packedSetting (settingOf w bytes lent .0) → left ≡ settingOf w bytes lent .1 → Gives (calledOf f w bytes lent) r left
+  pub called-set : (r : ℕ) (left : List ℕ) → (f ≡ 0 → ⊥) → f ≡ 1 → SetPromise w bytes lent r left → Gives (calledOf f w bytes lent) r left
   unfolding calledOf
-  called-set r left d e p q = rw (ne-eqb f 0 d, eq-eqb f 1 e) (record { first = p; second = q })
+  called-set r left d e p = rw (ne-eqb f 0 d, eq-eqb f 1 e) (record { first = whole r (settingOf w bytes lent .0) (p .answer); second = p .words })
 
   pub called-none : (f ≡ 0 → ⊥) → (f ≡ 1 → ⊥) → Gives (calledOf f w bytes lent) noAnswer lent
   unfolding calledOf

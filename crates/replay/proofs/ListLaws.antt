@@ -10,7 +10,7 @@ use lib.ListN.{length, replicate}
 use Rattle.leaves.specs.Text.Part.{partOf}
 use Rattle.leaves.specs.Sheet.Records.{recordsOf}
 use Rattle.leaves.specs.Sheet.Forest.{under}
-use Rattle.leaves.specs.Refusal.Judge.{judgeSheet}
+use Rattle.leaves.specs.Refusal.Judge.{Judges}
 use Rattle.leaves.specs.Refusal.Verdict.{isAccepted}
 use Rattle.leaves.specs.Report.Entries.{start}
 use Rattle.leaves.specs.declared.refusal.verdict.Judged.{Judged}
@@ -33,14 +33,14 @@ module _ (w bytes report : List ℕ) where
   unfolding listedOf
   listed-none h = rw (lt-ltb (recordsOf w) 1 h) (record { first = refl; second = refl })
 
-  module _ (j : Judged) (t : Bool) (some : 1 ≤ recordsOf w) (judged : j ≡ judgeSheet w bytes) (told : t ≡ isAccepted j) where
+  module _ (j : Judged) (t : Bool) (some : 1 ≤ recordsOf w) (judged : Judges w bytes j) (told : t ≡ isAccepted j) where
     pub listed-refused : t ≡ false → Gives (listedOf w bytes report) 0 report
     unfolding listedOf
-    listed-refused e = rw (le-ltb (recordsOf w) 1 some, sym (ap isAccepted judged) ∙ sym told ∙ e) (record { first = refl; second = refl })
+    listed-refused e = rw (le-ltb (recordsOf w) 1 some, sym (ap isAccepted (judged .enum)) ∙ sym told ∙ e) (record { first = refl; second = refl })
 
     pub listed-some : t ≡ true → (s : Words) (q : Walked) (left : List ℕ) → s ≡ start → Done w (recordsOf w) 1 1 (validateInlines bytes (0 ∷ []) (under w (recordsOf w) 1 1)) s report q left → Gives (listedOf w bytes report) (q .tally .words) left
     unfolding listedOf
-    listed-some e s q left n d = rw (le-ltb (recordsOf w) 1 some, sym (ap isAccepted judged) ∙ sym told ∙ e) (record { first = rw (← n) (ap (λ (u : Words). u .words) (d .lists .tally)); second = rw (← n) (d .lists .written) })
+    listed-some e s q left n d = rw (le-ltb (recordsOf w) 1 some, sym (ap isAccepted (judged .enum)) ∙ sym told ∙ e) (record { first = rw (← n) (ap (λ (u : Words). u .words) (d .lists .tally)); second = rw (← n) (d .lists .written) })
 
     pub list-starts : t ≡ true → Start w (0 ∷ []) (recordsOf w) 1
     list-starts e = start-of (accepted w bytes (sym judged ∙ is-accepted j (sym told ∙ e))) refl (search needs) (search needs)

@@ -5,7 +5,7 @@ use mathlib.Core.List.{List}
 use lib.Dec.{eqb, leb}
 use Rattle.leaves.specs.Text.Part.{partOf}
 use Rattle.leaves.specs.Refusal.Judge.{judgeSheet}
-use Rattle.leaves.specs.Refusal.Verdict.{numberOf, recordOf}
+use Rattle.leaves.specs.Refusal.Verdict.{judgedAnswer}
 use Rattle.leaves.specs.declared.refusal.verdict.Judged.{Judged}
 use Rattle.replay.specs.declared.tally.Tally.{Tally}
 use Rattle.replay.specs.Bytes.{byteAt, pairAt}
@@ -27,5 +27,5 @@ judgedOf r = judgeSheet (sheetIn r 7 (pairAt r 0) 800) (partOf r (7 + pairAt r 0
 -- the number and the record of the answer, and those that are stored
 unfoldable pub sheetReplayed : List ℕ → Tally → Tally
 sheetReplayed r t =
-    comparing (fewWords r && eqb (recordOf (judgedOf r)) (pairAt r 5))
-    (comparing (fewWords r && eqb (numberOf (judgedOf r)) (byteAt r 4)) (recorded t))
+    comparing (fewWords r && eqb (judgedAnswer (judgedOf r) .value) (pairAt r 5))
+    (comparing (fewWords r && eqb (judgedAnswer (judgedOf r) .number) (byteAt r 4)) (recorded t))
