@@ -1,3 +1,4 @@
+pub mod AnswerExamples
 pub mod AnswerLaws
 pub mod BeforeLaws
 pub mod BlockExamples
