@@ -1,6 +1,6 @@
 -- How many entries the walk of inlines lists. Each entry is charged to the record whose span it copies, so that a bound on what one record is charged with is a bound on the whole list.
-use mathlib.Core.Path.{_≡_, refl}
-use mathlib.Core.Bool.{Bool, true, false, not, _&&_, _||_}
+use mathlib.Core.Path.{_≡_, refl, sym, _∙_}
+use mathlib.Core.Bool.{Bool, true, false, false≢true, not, _&&_, _||_, and-false}
 use mathlib.Core.List.{List, []}
 use Prim.Native.Nat.{ℕ, _+_, _*_, _≤_}
 use native.Mathlib.Nat.{le-refl}
@@ -9,16 +9,18 @@ use borrow.Author.Tests.{eqb-true}
 use lib.Dec.{eqb}
 use lib.ListN.{length}
 use Rattle.leaves.specs.Text.Lists.{if_then_else_}
-use Rattle.leaves.specs.Sheet.Kinds.{isInline, lineBreak, link, linkReference, inlineFootnote, textDirective}
-use Rattle.leaves.specs.Sheet.Classes.{isBreak, isLink, isEmphasisContainer}
+use Rattle.leaves.specs.Sheet.Kinds.{isInline, htmlTag, attribute, text, escape, emphasis, strong, delete, mark, code, link, autolink, image, linkReference, imageReference, html, softBreak, lineBreak, math, footnoteReference, inlineFootnote, wikiLink, textDirective}
+use Rattle.leaves.specs.Sheet.Classes.{isBreak, isPlainBreak, isLink, isEmphasisContainer, namesOwnValue, namesLabel}
 use Rattle.leaves.specs.Sheet.Forest.{Forest, none, tree, size}
 use Rattle.leaves.specs.Report.Entries.{Entry, listIf, _⊕_}
 use Rattle.leaves.specs.Report.Rules
 use Rattle.leaves.specs.declared.sheet.records.Rec.{Rec}
 use Rattle.leaves.specs.declared.sheet.records.Span.{Span}
-use Rattle.leaves.proofs.report.EntryLaws.{length-join}
+use Rattle.leaves.proofs.sheet.KindLaws.{kind-cases}
+use Rattle.leaves.proofs.report.EntryLaws.{join-assoc, length-join, length-if, few-if}
 use Rattle.inlines.specs.Values.{isUnwritable, isBadAttribute}
-use Rattle.inlines.specs.Single.{validateDestination, validateIdentifier, validateDirectiveName, validateSiblings}
+use Rattle.inlines.specs.Single.{validateDestination, validateIdentifier, validateEscape, validateDirectiveName, validateSiblings}
+use Rattle.inlines.specs.Literal.{validateText, validateCodeInline, validateMathInline}
 use Rattle.inlines.specs.Own.{validateInlineValues}
 use Rattle.inlines.specs.Link.{validateLinkText}
 use Rattle.inlines.specs.Attribute.{validateDirectiveAttributes}
@@ -192,17 +194,18 @@ module _ (bytes path : List ℕ) (rule : ℕ) (extra : Rec → ℕ) where
   pub spent-step : (before : ℕ) (r : Rec) (kids rest : Forest) → spent bytes path rule extra before (tree r kids rest) ≤ length (charged bytes path rule before r kids) + extra r + spent bytes path rule extra 0 kids + spent bytes path rule extra (if isInline (r .kind) then r .kind else before) rest
   unfolding spent
   spent-step before r kids rest =
-      omega
-      (arith,
-       nodes-step before r kids rest,
-       node-few bytes path r kids before (validateInlineNodesAfter bytes path 0 kids),
-       roots-step (λ r. length (breakEntries path r)) r kids rest,
-       roots-step extra r kids rest,
-       attributes-step r kids rest,
-       link-step bytes path r kids rest,
-       line-step r kids rest,
-       cell-step r kids rest,
-       charged-is before r kids)
+      omega (
+        arith,
+        nodes-step before r kids rest,
+        node-few bytes path r kids before (validateInlineNodesAfter bytes path 0 kids),
+        roots-step (λ r. length (breakEntries path r)) r kids rest,
+        roots-step extra r kids rest,
+        attributes-step r kids rest,
+        link-step bytes path r kids rest,
+        line-step r kids rest,
+        cell-step r kids rest,
+        charged-is before r kids,
+      )
 
 -- ---- a bound for one record is a bound for all
 
@@ -221,3 +224,182 @@ module _ (bytes : List ℕ) (extra : Rec → ℕ) (most : ℕ) (one : InlineMost
 pub inlines-spent : (bytes path : List ℕ) (rule : ℕ) (extra : Rec → ℕ) (f : Forest) → length (validateInlines bytes path f) + length (validateDirectiveAttributes bytes path f) + length (validateOneLine rule path f) + length (validateCellValues bytes path f) + sumRoots extra f ≤ spent bytes path rule extra 0 f
 unfolding spent validateInlines validateInlineNodes
 inlines-spent bytes path rule extra f = simp length-join (omega (arith, final-few path f))
+
+-- ---- the bound for one record, by its kind
+
+-- an inline's own entries
+ownMost : ℕ → ℕ
+ownMost k =
+    if isEmphasisContainer k
+    then 2
+    else if eqb k link
+    then 1
+    else if eqb k linkReference
+    then 1
+    else if eqb k textDirective
+    then 1
+    else if eqb k inlineFootnote
+    then 1
+    else if eqb k text
+    then 1
+    else if eqb k image
+    then 1
+    else if eqb k imageReference
+    then 1
+    else if eqb k escape
+    then 1
+    else if eqb k footnoteReference
+    then 1
+    else if eqb k wikiLink
+    then 1
+    else if eqb k code
+    then 2
+    else if eqb k math
+    then 2
+    else 0
+
+-- at most n entries
+pub record Few (es : List Entry) (n : ℕ) : Type 0 where
+  pub few : length es ≤ n
+
+pub no-entry : Few [] 0
+no-entry = record { few = omega arith }
+
+pub one-entry : (b : Bool) (rule : ℕ) (span : Span) (path : List ℕ) → Few (listIf b rule span path) 1
+one-entry b rule span path = record { few = few-if b rule span path }
+
+pub few-then : {x y : List Entry} {m n : ℕ} → Few x m → Few y n → Few (x ⊕ y) (m + n)
+few-then p q = record { few = simp length-join (omega arith) }
+
+pub few-either : (b : Bool) {x y : List Entry} {m n : ℕ} → Few x m → Few y n → Few (if b then x else y) (if b then m else n)
+few-either true p q = p
+few-either false p q = q
+
+-- of two tests not both hold
+pub one-of-two : (b c : Bool) (rule rule′ : ℕ) (span span′ : Span) (path : List ℕ) → (b ≡ true → c ≡ false) → Few (listIf b rule span path ⊕ listIf c rule′ span′ path) 1
+one-of-two true c rule rule′ span span′ path h = record { few = rw (h refl) (simp (length-join, length-if) (omega arith)) }
+one-of-two false c rule rule′ span span′ path h = record { few = simp (length-join, length-if false rule span path) (omega (arith, few-if c rule′ span′ path)) }
+
+-- 39 or 40, and 41
+emphasis-most : (path : List ℕ) (span : Span) (empty white joined : Bool) → Few (listIf empty Rules.emptyEmphasis span path ⊕ listIf (not empty && white) Rules.whiteEmphasis span path ⊕ listIf joined Rules.joinedEmphasis span path) 2
+emphasis-most path span empty white joined =
+    rw join-assoc at
+    (few-then (one-of-two empty (not empty && white) Rules.emptyEmphasis Rules.whiteEmphasis span span path (λ e. rw e)) (one-entry joined Rules.joinedEmphasis span path))
+
+-- 47 is of a dollar fence (A is 0) and 48 of the code form (A is 1)
+fences-apart : (a : ℕ) (bare held : Bool) → (eqb a 0 && bare) ≡ true → (eqb a 1 && held) ≡ false
+fences-apart a bare held =
+    kind-cases (λ n. (eqb n 0 && bare) ≡ true → (eqb n 1 && held) ≡ false) a 0 (λ e. refl) (λ other e. absurd (false≢true (rw other at e)))
+
+own-most : (bytes path : List ℕ) (r : Rec) (kids : Forest) → Few (ownEntries bytes path r kids) (ownMost (r .kind))
+unfolding ownEntries ownMost validateInlineValues validateDestination validateIdentifier validateEscape validateDirectiveName validateText validateCodeInline validateMathInline
+own-most bytes path r kids =
+    let one : (b : Bool) (rule : ℕ) → Few (listIf b rule (r .span) path) 1 = λ b rule. one-entry b rule (r .span) path in
+    few-either (isEmphasisContainer (r .kind)) (emphasis-most path (r .span) (allEmpty kids) (startsWithWhitespace bytes kids || endsWithWhitespace bytes kids) (holdsJoined (r .kind) (r .a) kids))
+    (few-either (eqb (r .kind) link) (one _ _)
+    (few-either (eqb (r .kind) linkReference) (one _ _)
+    (few-either (eqb (r .kind) textDirective) (one _ _)
+    (few-either (eqb (r .kind) inlineFootnote) (one _ _)
+    (few-either (eqb (r .kind) text) (one _ _)
+    (few-either (eqb (r .kind) image) (one _ _)
+    (few-either (eqb (r .kind) imageReference) (one _ _)
+    (few-either (eqb (r .kind) escape) (one _ _)
+    (few-either (eqb (r .kind) footnoteReference) (one _ _)
+    (few-either (eqb (r .kind) wikiLink) (one _ _)
+    (few-either (eqb (r .kind) code) (few-then (one _ _) (one _ _))
+    (few-either (eqb (r .kind) math) (few-then (one _ _) (one-of-two _ _ _ _ _ _ _ (fences-apart (r .a) (eqb (r .b) 0) _))) no-entry))))))))))))
+
+-- as one of the inlines side by side: 37 is of a break, and 38 of a strikethrough
+siblingsMost : ℕ → ℕ
+siblingsMost k = if isBreak k then 1 else if eqb k delete then 1 else 0
+
+siblings-most : (path : List ℕ) (span : Span) (before k a : ℕ) → Few (validateSiblings path span before k a) (siblingsMost k)
+unfolding validateSiblings siblingsMost
+siblings-most path span before k a =
+    let Most : ℕ → Type 0 = λ k. Few (validateSiblings path span before k a) (siblingsMost k) in
+    kind-cases Most k softBreak (one-of-two _ _ _ _ _ _ _ (λ e. and-false (eqb before delete)))
+    (λ e. kind-cases Most k lineBreak (one-of-two _ _ _ _ _ _ _ (λ e. and-false (eqb before delete)))
+    (λ f. kind-cases Most k delete (one-of-two _ _ _ _ _ _ _ (λ e. absurd (false≢true (sym (and-false (isBreak before)) ∙ e))))
+    (λ g. record { few = rw (e, f, g) (simp (and-false, length-join, length-if) (omega arith)) })))
+
+few-where : (b : Bool) {x : List Entry} {n : ℕ} → Few x n → Few (if b then x else []) n
+few-where true p = p
+few-where false p = record { few = omega arith }
+
+node-most : (bytes path : List ℕ) (before : ℕ) (r : Rec) (kids : Forest) → Few (nodeEntries bytes path before r kids) (siblingsMost (r .kind) + ownMost (r .kind))
+unfolding nodeEntries
+node-most bytes path before r kids = few-where (isInline (r .kind)) (few-then (siblings-most path (r .span) before (r .kind) (r .a)) (own-most bytes path r kids))
+
+-- as any other
+pub test-entry : (b : Bool) (rule : ℕ) (span : Span) (path : List ℕ) → Few (listIf b rule span path) (if b then 1 else 0)
+test-entry b rule span path = record { few = rw length-if (le-refl _) }
+
+pub both-entry : (b c : Bool) (rule : ℕ) (span : Span) (path : List ℕ) → Few (listIf (b && c) rule span path) (if b then 1 else 0)
+both-entry true c rule span path = one-entry c rule span path
+both-entry false c rule span path = test-entry false rule span path
+
+-- the kinds whose values a cell asks for
+inCell : ℕ → Bool
+inCell k = namesOwnValue k || namesLabel k || eqb k wikiLink
+
+cell-entry : (own label wiki b c : Bool) (rule : ℕ) (span : Span) (path : List ℕ) → Few (listIf ((own || wiki) && b || (label || wiki) && c) rule span path) (if own || label || wiki then 1 else 0)
+cell-entry true label wiki b c rule span path = one-entry _ rule span path
+cell-entry false true wiki b c rule span path = one-entry _ rule span path
+cell-entry false false true b c rule span path = one-entry _ rule span path
+cell-entry false false false b c rule span path = test-entry false rule span path
+
+abbrev bit : Bool → ℕ
+bit b = if b then 1 else 0
+
+chargedMost : ℕ → ℕ
+chargedMost k = siblingsMost k + ownMost k + (bit (eqb k lineBreak) + (bit (eqb k attribute) + (bit (isLink k) + (bit (isBreak k) + bit (inCell k)))))
+
+charged-most : (bytes path : List ℕ) (rule before : ℕ) (r : Rec) (kids : Forest) → Few (charged bytes path rule before r kids) (chargedMost (r .kind))
+unfolding charged chargedMost breakEntries attributeEntries linkEntries lineEntries cellEntries isBadAttribute isUnwritable inCell
+charged-most bytes path rule before r kids =
+    let break : Few (breakEntries path r) (bit (eqb (r .kind) lineBreak)) = test-entry _ _ _ _ in
+    let named : Few (attributeEntries bytes path r) (bit (eqb (r .kind) attribute)) = both-entry (eqb (r .kind) attribute) _ _ _ _ in
+    let linked : Few (linkEntries path r) (bit (isLink (r .kind))) = test-entry _ _ _ _ in
+    let line : Few (lineEntries rule path r) (bit (isBreak (r .kind))) = test-entry _ _ _ _ in
+    let cell : Few (cellEntries bytes path r) (bit (inCell (r .kind))) = cell-entry (namesOwnValue (r .kind)) (namesLabel (r .kind)) (eqb (r .kind) wikiLink) _ _ _ _ _ in
+    few-then (node-most bytes path before r kids) (few-then break (few-then named (few-then linked (few-then line cell))))
+
+-- No record has more than three entries: a line break that is the last inline of a cell, behind another break, has 30, 37 and 20. A tag has at most two, which the container lists.
+abbrev pub inlineMost : ℕ
+inlineMost = 3
+
+-- what a container may list of one of its tags
+abbrev pub tagMost : ℕ → ℕ
+tagMost k = if eqb k htmlTag then 2 else 0
+
+kind-most : (k : ℕ) → chargedMost k + tagMost k ≤ inlineMost
+unfolding chargedMost siblingsMost ownMost inCell
+kind-most k =
+    let Most : ℕ → Type 0 = λ k. chargedMost k + tagMost k ≤ inlineMost in
+    kind-cases Most k emphasis (omega arith) (λ e0.
+    kind-cases Most k strong (omega arith) (λ e1.
+    kind-cases Most k delete (omega arith) (λ e2.
+    kind-cases Most k mark (omega arith) (λ e3.
+    kind-cases Most k link (omega arith) (λ e4.
+    kind-cases Most k linkReference (omega arith) (λ e5.
+    kind-cases Most k textDirective (omega arith) (λ e6.
+    kind-cases Most k inlineFootnote (omega arith) (λ e7.
+    kind-cases Most k text (omega arith) (λ e8.
+    kind-cases Most k image (omega arith) (λ e9.
+    kind-cases Most k imageReference (omega arith) (λ e10.
+    kind-cases Most k escape (omega arith) (λ e11.
+    kind-cases Most k footnoteReference (omega arith) (λ e12.
+    kind-cases Most k wikiLink (omega arith) (λ e13.
+    kind-cases Most k code (omega arith) (λ e14.
+    kind-cases Most k math (omega arith) (λ e15.
+    kind-cases Most k lineBreak (omega arith) (λ e16.
+    kind-cases Most k softBreak (omega arith) (λ e17.
+    kind-cases Most k autolink (omega arith) (λ e18.
+    kind-cases Most k html (omega arith) (λ e19.
+    kind-cases Most k attribute (omega arith) (λ e20.
+    kind-cases Most k htmlTag (omega arith) (λ e21.
+    rw (e0, e1, e2, e3, e4, e5, e6, e7, e8, e9, e10, e11, e12, e13, e14, e15, e16, e17, e18, e19, e20, e21) (omega arith)))))))))))))))))))))))
+
+pub inline-most : (bytes : List ℕ) (extra : Rec → ℕ) → ((r : Rec) → extra r ≤ tagMost (r .kind)) → InlineMost bytes extra inlineMost
+inline-most bytes extra tags path rule before r kids =
+    omega (arith, charged-most bytes path rule before r kids .few, kind-most (r .kind), tags r)
