@@ -98,7 +98,7 @@ spent bytes path rule extra before f =
     + length (validateCellValues bytes path f)
     + sumRoots extra f
 
-either-length : (b : Bool) (x y : List Entry) → length (if b then x else y) ≤ length x + length y
+pub either-length : (b : Bool) (x y : List Entry) → length (if b then x else y) ≤ length x + length y
 either-length true x y = omega arith
 either-length false x y = omega arith
 
@@ -210,10 +210,10 @@ module _ (bytes path : List ℕ) (rule : ℕ) (extra : Rec → ℕ) where
 -- ---- a bound for one record is a bound for all
 
 -- no record is charged with more than `most`, whatever stands before it, under it and around it
-abbrev pub InlineMost : List ℕ → (Rec → ℕ) → ℕ → Type 0
-InlineMost bytes extra most = (path : List ℕ) (rule before : ℕ) (r : Rec) (kids : Forest) → length (charged bytes path rule before r kids) + extra r ≤ most
+abbrev pub EachInline : List ℕ → (Rec → ℕ) → ℕ → Type 0
+EachInline bytes extra most = (path : List ℕ) (rule before : ℕ) (r : Rec) (kids : Forest) → length (charged bytes path rule before r kids) + extra r ≤ most
 
-module _ (bytes : List ℕ) (extra : Rec → ℕ) (most : ℕ) (one : InlineMost bytes extra most) (path : List ℕ) (rule : ℕ) where
+module _ (bytes : List ℕ) (extra : Rec → ℕ) (most : ℕ) (one : EachInline bytes extra most) (path : List ℕ) (rule : ℕ) where
   pub spent-most : (before : ℕ) (f : Forest) → spent bytes path rule extra before f ≤ most * size f
   unfolding size
   spent-most before none = omega (arith, spent-none bytes path rule extra before)
@@ -348,7 +348,7 @@ cell-entry false true wiki b c rule span path = one-entry _ rule span path
 cell-entry false false true b c rule span path = one-entry _ rule span path
 cell-entry false false false b c rule span path = test-entry false rule span path
 
-abbrev bit : Bool → ℕ
+abbrev pub bit : Bool → ℕ
 bit b = if b then 1 else 0
 
 chargedMost : ℕ → ℕ
@@ -365,17 +365,17 @@ charged-most bytes path rule before r kids =
     few-then (node-most bytes path before r kids) (few-then break (few-then named (few-then linked (few-then line cell))))
 
 -- No record has more than three entries: a line break that is the last inline of a cell, behind another break, has 30, 37 and 20. A tag has at most two, which the container lists.
-abbrev pub inlineMost : ℕ
-inlineMost = 3
+abbrev pub entriesOfInline : ℕ
+entriesOfInline = 3
 
 -- what a container may list of one of its tags
 abbrev pub tagMost : ℕ → ℕ
 tagMost k = if eqb k htmlTag then 2 else 0
 
-kind-most : (k : ℕ) → chargedMost k + tagMost k ≤ inlineMost
+kind-most : (k : ℕ) → chargedMost k + tagMost k ≤ entriesOfInline
 unfolding chargedMost siblingsMost ownMost inCell
 kind-most k =
-    let Most : ℕ → Type 0 = λ k. chargedMost k + tagMost k ≤ inlineMost in
+    let Most : ℕ → Type 0 = λ k. chargedMost k + tagMost k ≤ entriesOfInline in
     kind-cases Most k emphasis (omega arith) (λ e0.
     kind-cases Most k strong (omega arith) (λ e1.
     kind-cases Most k delete (omega arith) (λ e2.
@@ -400,6 +400,6 @@ kind-most k =
     kind-cases Most k htmlTag (omega arith) (λ e21.
     rw (e0, e1, e2, e3, e4, e5, e6, e7, e8, e9, e10, e11, e12, e13, e14, e15, e16, e17, e18, e19, e20, e21) (omega arith)))))))))))))))))))))))
 
-pub inline-most : (bytes : List ℕ) (extra : Rec → ℕ) → ((r : Rec) → extra r ≤ tagMost (r .kind)) → InlineMost bytes extra inlineMost
+pub inline-most : (bytes : List ℕ) (extra : Rec → ℕ) → ((r : Rec) → extra r ≤ tagMost (r .kind)) → EachInline bytes extra entriesOfInline
 inline-most bytes extra tags path rule before r kids =
     omega (arith, charged-most bytes path rule before r kids .few, kind-most (r .kind), tags r)

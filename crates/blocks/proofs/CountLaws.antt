@@ -1,0 +1,250 @@
+-- How long the list of a sheet is, from the number of its records. Each entry is charged to the record whose span it copies, so that a bound on what one record is charged with is a bound on the whole list.
+use mathlib.Core.Path.{_≡_, refl}
+use mathlib.Core.Bool.{Bool, true, false, not, _&&_, _||_}
+use mathlib.Core.List.{List, [], _∷_, _++_}
+use Prim.Native.Nat.{ℕ, suc, _+_, _*_, _≤_}
+use native.Mathlib.Omega.{arith}
+use lib.Dec.{eqb}
+use lib.ListN.{length}
+use Rattle.leaves.specs.Text.Lists.{if_then_else_}
+use Rattle.leaves.specs.Text.Same.{sameBytes}
+use Rattle.leaves.specs.Sheet.Records.{recordsOf}
+use Rattle.leaves.specs.Sheet.Kinds.{isBlock, isInline, paragraph, heading, blockQuote, alert, list, codeBlock, htmlContainer, definition, footnoteDefinition, table, frontmatter, leafDirective, containerDirective, blankLine, htmlTag}
+use Rattle.leaves.specs.Sheet.Empty.{isEmpty}
+use Rattle.leaves.specs.Sheet.Texts.{textOf}
+use Rattle.leaves.specs.Sheet.Forest.{Forest, none, tree, count, size, forestOf}
+use Rattle.leaves.specs.Report.Entries.{Entry, listIf, _⊕_}
+use Rattle.leaves.specs.Report.Rules
+use Rattle.leaves.specs.declared.sheet.records.Rec.{Rec}
+use Rattle.leaves.specs.declared.sheet.records.Span.{Span}
+use Rattle.leaves.specs.declared.sheet.records.Text.{Text}
+use Rattle.leaves.proofs.sheet.ForestLaws.{size-at}
+use Rattle.leaves.proofs.sheet.KindLaws.{kind-cases}
+use Rattle.leaves.proofs.report.EntryLaws.{length-join, length-if, few-if}
+use Rattle.inlines.specs.Single.{validateDestination, validateDirectiveName}
+use Rattle.inlines.specs.Attribute.{validateDirectiveAttributes}
+use Rattle.inlines.specs.Depth.{validateCellValues, validateOneLine}
+use Rattle.inlines.specs.Nodes.{allEmpty, validateInlines}
+use Rattle.inlines.proofs.CountLaws.{bit, either-length, sumRoots, spent, spent-none, spent-step, spent-most, inlines-spent, EachInline, entriesOfInline, tagMost, inline-most, Few, no-entry, one-entry, test-entry, both-entry, few-then, few-either}
+use Rattle.blocks.specs.declared.before.Before.{Before}
+use Rattle.blocks.specs.declared.number.Number.{Number}
+use Rattle.blocks.specs.declared.number.Number.the-variants.{Absent, Present}
+use Rattle.blocks.specs.Before.{first, beforeNext, takesIndentedCode, validateTakenBlock}
+use Rattle.blocks.specs.Heads.{validateHeading, validateAlert, validateCodeBlock, validateDefinition}
+use Rattle.blocks.specs.Frontmatter.{validateFrontmatter}
+use Rattle.blocks.specs.Html.{validateTags, validateHtmlContainer}
+use Rattle.blocks.specs.Footnote.{blankLineAt, validateFootnoteDefinition}
+use Rattle.blocks.specs.List.{validateList}
+use Rattle.blocks.specs.Item.{validateBlankLine, validateItemBlankLines, validateTaskItem}
+use Rattle.blocks.specs.Number.{itemNumber, validateItemNumber}
+use Rattle.blocks.specs.Table.{validateCell, validateCells, validateRows, headerWidth, validateTable}
+use Rattle.blocks.specs.Paragraph.{validateParagraph}
+use Rattle.blocks.specs.Label.{beforeBlocks, validateDirective, validateLeafDirective, validateContainerDirective}
+use Rattle.blocks.specs.Block.{validateLeaf, validateHtml, validateContainer, validateOwn}
+use Rattle.blocks.specs.Holds.{holdsBlocks}
+use Rattle.blocks.specs.Walk.{validateBlock, validateItem, validateBlocks, validateListItems, validateDocument}
+
+-- ---- what is charged to one record
+
+-- a blank line of a footnote definition (4) or of an item (51, 52 or 53)
+abbrev pub blankOf : Rec → ℕ
+blankOf r = bit (eqb (r .kind) blankLine)
+
+-- 5 and 8, or 6 and 9, of one of a container's first two children: charged to it where it is a tag, and to the container where it is none
+unfoldable pub emptyParts : Rec → ℕ
+emptyParts r = bit (isEmpty (r .first)) + bit (isEmpty (r .second))
+
+unfoldable pub tagFaults : Rec → ℕ
+tagFaults r = if eqb (r .kind) htmlTag then emptyParts r else 0
+
+unfoldable pub strayFaults : Rec → ℕ
+strayFaults r = if eqb (r .kind) htmlTag then 0 else emptyParts r
+
+unfoldable pub strays : Forest → ℕ
+strays none = 0
+strays (tree opening _ none) = 0
+strays (tree opening _ (tree closing _ _)) = strayFaults opening + strayFaults closing
+
+-- 7 of a container
+unfoldable pub namesEntries : List ℕ → List ℕ → Span → Forest → List Entry
+namesEntries bytes path span none = []
+namesEntries bytes path span (tree opening _ none) = []
+namesEntries bytes path span (tree opening _ (tree closing _ _)) =
+    listIf (not (sameBytes (textOf bytes (opening .first)) (textOf bytes (closing .first)))) Rules.tagNamesDiffer span path
+
+-- 16, or 17 and 18, of a table
+unfoldable pub tableEntries : List ℕ → Span → ℕ → Forest → List Entry
+tableEntries path span a rows =
+    if eqb (count rows) 0
+    then listIf true Rules.tableWithoutRow span path
+    else (listIf (eqb (headerWidth rows) 0) Rules.tableWithoutCell span path ⊕ listIf (not (eqb a (headerWidth rows))) Rules.alignmentCount span path)
+
+-- of the entries of `validateOwn` those with the block's own span
+unfoldable pub ownEntries : List ℕ → List ℕ → Rec → Forest → List Entry
+ownEntries bytes path r kids =
+    if eqb (r .kind) footnoteDefinition
+    then listIf (isEmpty (r .first)) Rules.emptyFootnoteDefinition (r .span) path
+    else if eqb (r .kind) table
+    then tableEntries path (r .span) (r .a) kids
+    else if eqb (r .kind) alert
+    then validateAlert bytes path (r .span) (r .a) (r .first)
+    else if eqb (r .kind) list
+    then validateList path (r .span) (r .c) kids
+    else if eqb (r .kind) htmlContainer
+    then namesEntries bytes path (r .span) kids
+    else if eqb (r .kind) containerDirective
+    then validateDirectiveName bytes path (r .span) (r .first)
+    else if eqb (r .kind) paragraph
+    then listIf (allEmpty kids) Rules.emptyParagraph (r .span) path
+    else if eqb (r .kind) heading
+    then validateHeading path (r .span) (r .a)
+    else if eqb (r .kind) codeBlock
+    then validateCodeBlock bytes path (r .span) (r .a) (r .b) (r .first) (r .second)
+    else if eqb (r .kind) definition
+    then validateDefinition bytes path (r .span) (r .a) (r .first) (r .second)
+    else if eqb (r .kind) frontmatter
+    then validateFrontmatter bytes path (r .span) (r .level) (r .a) (r .first)
+    else if eqb (r .kind) leafDirective
+    then validateDirectiveName bytes path (r .span) (r .first)
+    else []
+
+abbrev pub straysOf : Rec → Forest → ℕ
+straysOf r kids = if eqb (r .kind) htmlContainer then strays kids else 0
+
+-- a record among the blocks, behind the block `before`: 1 and 15, its own, and what its parent lists of it
+unfoldable pub blockCharge : List ℕ → List ℕ → Before → Rec → Forest → ℕ
+blockCharge bytes path before r kids =
+    length (validateTakenBlock path (r .span) before (r .kind) (r .a) (r .b))
+    + length (ownEntries bytes path r kids)
+    + straysOf r kids
+    + blankOf r
+    + tagFaults r
+
+-- an item: 49 or 50, and 14
+unfoldable pub itemEntries : List ℕ → ℕ → Rec → Forest → List Entry
+itemEntries path ordered r kids = validateItemNumber path (r .span) ordered (itemNumber (r .b) (r .c)) ⊕ validateTaskItem path (r .span) (r .a) kids
+
+-- ---- what is listed of a block's children besides their own walk
+
+roots-none : (each : Rec → ℕ) → sumRoots each none ≡ 0
+unfolding sumRoots
+roots-none each = refl
+
+roots-tree : (each : Rec → ℕ) (r : Rec) (kids rest : Forest) → sumRoots each (tree r kids rest) ≡ each r + sumRoots each rest
+unfolding sumRoots
+roots-tree each r kids rest = refl
+
+parts-split : (r : Rec) → emptyParts r ≡ tagFaults r + strayFaults r
+unfolding tagFaults strayFaults
+parts-split r = go (eqb (r .kind) htmlTag) refl
+  where
+    go : (b : Bool) → eqb (r .kind) htmlTag ≡ b → emptyParts r ≡ tagFaults r + strayFaults r
+    go true e = rw e (omega arith)
+    go false e = rw e (omega arith)
+
+tags-few : (bytes path : List ℕ) (span : Span) (kids : Forest) → length (validateHtmlContainer bytes path span kids) ≤ length (namesEntries bytes path span kids) + strays kids + sumRoots tagFaults kids
+unfolding validateHtmlContainer validateTags namesEntries strays emptyParts
+tags-few bytes path span none = omega arith
+tags-few bytes path span (tree opening _ none) = omega arith
+tags-few bytes path span (tree opening under (tree closing under′ rest)) =
+    simp (length-join, length-if)
+    (omega (arith, parts-split opening, parts-split closing, roots-tree tagFaults opening under (tree closing under′ rest), roots-tree tagFaults closing under′ rest))
+
+when-both : (b c : Bool) (x y : List Entry) → length x ≤ 1 → length (if b && c then x else y) ≤ bit b + length y
+when-both true true x y h = omega arith
+when-both true false x y h = omega arith
+when-both false c x y h = omega arith
+
+blank-few : (path : List ℕ) (k : ℕ) (f : Forest) → length (blankLineAt path k f) ≤ sumRoots blankOf f
+unfolding blankLineAt
+blank-few path k none = omega arith
+blank-few path k (tree r kids rest) =
+    let here = listIf true Rules.blankLineInFootnote (r .span) (path ++ k ∷ []) in
+    omega
+    (arith,
+     roots-tree blankOf r kids rest,
+     blank-few path (suc k) rest,
+     when-both (eqb (r .kind) blankLine) (eqb k 0 || eqb (count rest) 0) here (blankLineAt path (suc k) rest) (few-if true Rules.blankLineInFootnote (r .span) (path ++ k ∷ [])))
+
+one-blank : (path : List ℕ) (span : Span) (blank tight first last : Bool) → length (validateBlankLine path span blank tight first last) ≤ bit blank
+unfolding validateBlankLine
+one-blank path span false tight first last = simp (length-join, length-if) (omega arith)
+one-blank path span true true first last = simp (length-join, length-if) (omega arith)
+one-blank path span true false true last = simp (length-join, length-if) (omega arith)
+one-blank path span true false false last = simp (length-join, length-if false) (omega (arith, few-if last Rules.blankLineLast span path))
+
+item-blanks : (path : List ℕ) (tight last : Bool) (k : ℕ) (f : Forest) → length (validateItemBlankLines path tight last k f) ≤ sumRoots blankOf f
+unfolding validateItemBlankLines
+item-blanks path tight last k none = omega arith
+item-blanks path tight last k (tree r kids rest) =
+    simp length-join
+    (omega
+    (arith,
+     roots-tree blankOf r kids rest,
+     item-blanks path tight last (suc k) rest,
+     one-blank (path ++ k ∷ []) (r .span) (eqb (r .kind) blankLine) tight (eqb k 0) (last && eqb (count rest) 0)))
+
+-- ---- a bound for one record is a bound for all
+module _ (bytes : List ℕ) (most : ℕ) (inline : EachInline bytes tagFaults most) where
+  -- inlines and what is asked of them
+  under-most : (path : List ℕ) (rule : ℕ) (f : Forest) → length (validateInlines bytes path f) + length (validateDirectiveAttributes bytes path f) + length (validateOneLine rule path f) + length (validateCellValues bytes path f) + sumRoots tagFaults f ≤ most * size f
+  under-most path rule f = omega (arith, inlines-spent bytes path rule tagFaults f, spent-most bytes tagFaults most inline path rule 0 f)
+
+  cells-most : (path : List ℕ) (k : ℕ) (f : Forest) → length (validateCells bytes path k f) ≤ most * size f
+  unfolding validateCells validateCell size
+  cells-most path k none = omega arith
+  cells-most path k (tree r kids rest) = simp length-join (omega (arith, under-most (path ++ k ∷ []) Rules.breakInCell kids, cells-most path (suc k) rest))
+
+  module _ (row : 1 ≤ most) where
+    rows-most : (path : List ℕ) (width k : ℕ) (f : Forest) → length (validateRows bytes path width k f) ≤ most * size f
+    unfolding validateRows size
+    rows-most path width k none = omega arith
+    rows-most path width k (tree r kids rest) =
+        simp length-join
+        (omega
+        (arith,
+         few-if (not (eqb (count kids) width)) Rules.rowWidth (r .span) (path ++ k ∷ []),
+         cells-most (path ++ k ∷ []) 0 kids,
+         rows-most path width (suc k) rest))
+
+    table-few : (path : List ℕ) (span : Span) (a : ℕ) (rows : Forest) → length (validateTable bytes path span a rows) ≤ length (tableEntries path span a rows) + most * size rows
+    unfolding validateTable tableEntries
+    table-few path span a rows = go (eqb (count rows) 0) refl
+      where
+        go : (b : Bool) → eqb (count rows) 0 ≡ b → length (validateTable bytes path span a rows) ≤ length (tableEntries path span a rows) + most * size rows
+        go true e = rw e (omega arith)
+        go false e = rw e (simp length-join (omega (arith, rows-most path (headerWidth rows) 0 rows)))
+
+    -- one block, from what its items and its blocks list
+    module _ (path : List ℕ) (level : ℕ) (span : Span) (a b c : ℕ) (first second : Text) (kids : Forest) (items blocks : List Entry) (its : length items ≤ most * size kids) (its-blocks : length blocks + sumRoots blankOf kids + sumRoots tagFaults kids ≤ most * size kids) (label : (rule : ℕ) → length (validateDirectiveAttributes bytes path (beforeBlocks kids)) + length (validateInlines bytes path (beforeBlocks kids)) + length (validateOneLine rule path (beforeBlocks kids)) + length blocks ≤ most * size kids) where
+      abbrev of : ℕ → Rec
+      of k = record { kind = k; level = level; span = span; a = a; b = b; c = c; first = first; second = second }
+
+      abbrev Counts : ℕ → Type 0
+      Counts k = length (validateBlock bytes path (of k) kids items blocks) ≤ length (ownEntries bytes path (of k) kids) + straysOf (of k) kids + most * size kids
+
+      html-few : Counts htmlContainer
+      unfolding validateBlock validateOwn validateContainer validateHtml holdsBlocks ownEntries
+      html-few = go (eqb a 0) refl
+        where
+          go : (b : Bool) → eqb a 0 ≡ b → Counts htmlContainer
+          go true e = rw e (simp length-join (omega (arith, tags-few bytes path span kids)))
+          go false e = rw e (simp length-join (omega (arith, tags-few bytes path span kids, under-most path 0 kids)))
+
+      block-few : (k : ℕ) → Counts k
+      unfolding validateBlock validateOwn validateContainer validateLeaf validateFootnoteDefinition validateDirective validateParagraph holdsBlocks ownEntries
+      block-few k =
+          kind-cases Counts k footnoteDefinition (simp length-join (omega (arith, blank-few path 0 kids)))
+          (λ e0. kind-cases Counts k table (simp length-join (omega (arith, table-few path span a kids)))
+          (λ e1. kind-cases Counts k alert (simp length-join (omega arith))
+          (λ e2. kind-cases Counts k list (simp length-join (omega arith))
+          (λ e3. kind-cases Counts k htmlContainer html-few
+          (λ e4. kind-cases Counts k containerDirective (simp length-join (omega (arith, label Rules.breakInContainerLabel)))
+          (λ e5. kind-cases Counts k paragraph (simp length-join (omega (arith, under-most path 0 kids)))
+          (λ e6. kind-cases Counts k heading (simp length-join (omega (arith, under-most path 0 kids)))
+          (λ e7. kind-cases Counts k codeBlock (simp length-join (omega arith))
+          (λ e8. kind-cases Counts k definition (simp length-join (omega arith))
+          (λ e9. kind-cases Counts k frontmatter (simp length-join (omega arith))
+          (λ e10. kind-cases Counts k leafDirective (simp length-join (omega (arith, label Rules.breakInLeafLabel)))
+          (λ e11. kind-cases Counts k blockQuote (simp length-join (omega arith))
+          (λ e12. rw (e0, e1, e2, e3, e4, e5, e6, e7, e8, e9, e10, e11, e12) (simp length-join (omega arith)))))))))))))))
