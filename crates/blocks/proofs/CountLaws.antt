@@ -185,6 +185,12 @@ item-blanks path tight last k (tree r kids rest) =
      one-blank (path ++ k ∷ []) (r .span) (eqb (r .kind) blankLine) tight (eqb k 0) (last && eqb (count rest) 0)))
 
 -- ---- a bound for one record is a bound for all
+-- the three walks over one forest: as blocks, as a directive's label with the blocks behind it (`own` is the directive's path), and as items
+pub record Counted (bytes : List ℕ) (most : ℕ) (f : Forest) : Type 0 where
+  pub blocks : (path : List ℕ) (k : ℕ) (before : Before) → length (validateBlocks bytes path k before f) + sumRoots blankOf f + sumRoots tagFaults f ≤ most * size f
+  pub label : (own path : List ℕ) (rule behind k : ℕ) (before : Before) → spent bytes own rule tagFaults behind (beforeBlocks f) + length (validateBlocks bytes path k before f) ≤ most * size f
+  pub items : (path : List ℕ) (k ordered tight : ℕ) → length (validateListItems bytes path k ordered tight f) ≤ most * size f
+
 module _ (bytes : List ℕ) (most : ℕ) (inline : EachInline bytes tagFaults most) where
   -- inlines and what is asked of them
   under-most : (path : List ℕ) (rule : ℕ) (f : Forest) → length (validateInlines bytes path f) + length (validateDirectiveAttributes bytes path f) + length (validateOneLine rule path f) + length (validateCellValues bytes path f) + sumRoots tagFaults f ≤ most * size f
@@ -248,3 +254,89 @@ module _ (bytes : List ℕ) (most : ℕ) (inline : EachInline bytes tagFaults mo
           (λ e10. kind-cases Counts k leafDirective (simp length-join (omega (arith, label Rules.breakInLeafLabel)))
           (λ e11. kind-cases Counts k blockQuote (simp length-join (omega arith))
           (λ e12. rw (e0, e1, e2, e3, e4, e5, e6, e7, e8, e9, e10, e11, e12) (simp length-join (omega arith)))))))))))))))
+
+    counted-none : Counted bytes most none
+    unfolding validateBlocks validateListItems beforeBlocks sumRoots
+    counted-none =
+        record {
+          blocks = λ path k before. omega arith;
+          label = λ own path rule behind k before. omega (arith, spent-none bytes own rule tagFaults behind);
+          items = λ path k ordered tight. omega arith;
+        }
+
+    -- a tree, from the forests inside and beside it
+    module _ (r : Rec) (kids rest : Forest) (block : (path : List ℕ) (before : Before) → blockCharge bytes path before r kids ≤ most) (item : (path : List ℕ) (ordered : ℕ) → length (itemEntries path ordered r kids) ≤ most) (inside : Counted bytes most kids) (beside : Counted bytes most rest) where
+      of-block : (path : List ℕ) (k : ℕ) (before : Before) → isBlock (r .kind) ≡ true → validateBlocks bytes path k before (tree r kids rest) ≡ validateTakenBlock (path ++ k ∷ []) (r .span) before (r .kind) (r .a) (r .b) ⊕ validateBlock bytes (path ++ k ∷ []) r kids (validateListItems bytes (path ++ k ∷ []) 0 (r .a) (r .c) kids) (validateBlocks bytes (path ++ k ∷ []) 0 first kids) ⊕ validateBlocks bytes path (suc k) (beforeNext before (r .kind) (r .a) (r .b)) rest
+      unfolding validateBlocks
+      of-block path k before e = rw e
+
+      of-other : (path : List ℕ) (k : ℕ) (before : Before) → isBlock (r .kind) ≡ false → validateBlocks bytes path k before (tree r kids rest) ≡ validateBlocks bytes path k before rest
+      unfolding validateBlocks
+      of-other path k before e = rw e
+
+      under-label : (path : List ℕ) (rule : ℕ) → length (validateDirectiveAttributes bytes path (beforeBlocks kids)) + length (validateInlines bytes path (beforeBlocks kids)) + length (validateOneLine rule path (beforeBlocks kids)) + length (validateBlocks bytes path 0 first kids) ≤ most * size kids
+      under-label path rule = omega (arith, inlines-spent bytes path rule tagFaults (beforeBlocks kids), inside .label path path rule 0 0 first)
+
+      own-few : (path : List ℕ) → length (validateBlock bytes path r kids (validateListItems bytes path 0 (r .a) (r .c) kids) (validateBlocks bytes path 0 first kids)) ≤ length (ownEntries bytes path r kids) + straysOf r kids + most * size kids
+      own-few path =
+          block-few path (r .level) (r .span) (r .a) (r .b) (r .c) (r .first) (r .second) kids
+          (validateListItems bytes path 0 (r .a) (r .c) kids) (validateBlocks bytes path 0 first kids)
+          (inside .items path 0 (r .a) (r .c)) (inside .blocks path 0 first) (under-label path) (r .kind)
+
+      tree-blocks : (path : List ℕ) (k : ℕ) (before : Before) → length (validateBlocks bytes path k before (tree r kids rest)) + sumRoots blankOf (tree r kids rest) + sumRoots tagFaults (tree r kids rest) ≤ most * size (tree r kids rest)
+      unfolding size blockCharge
+      tree-blocks path k before = go (isBlock (r .kind)) refl
+        where
+          go : (b : Bool) → isBlock (r .kind) ≡ b → length (validateBlocks bytes path k before (tree r kids rest)) + sumRoots blankOf (tree r kids rest) + sumRoots tagFaults (tree r kids rest) ≤ most * size (tree r kids rest)
+          go true e =
+              rw (of-block path k before e)
+              (simp length-join
+              (omega
+              (arith,
+               roots-tree blankOf r kids rest,
+               roots-tree tagFaults r kids rest,
+               block (path ++ k ∷ []) before,
+               own-few (path ++ k ∷ []),
+               beside .blocks path (suc k) (beforeNext before (r .kind) (r .a) (r .b)))))
+          go false e =
+              rw (of-other path k before e)
+              (omega (arith, roots-tree blankOf r kids rest, roots-tree tagFaults r kids rest, block (path ++ k ∷ []) before, beside .blocks path k before))
+
+      tree-label : (own path : List ℕ) (rule behind k : ℕ) (before : Before) → spent bytes own rule tagFaults behind (beforeBlocks (tree r kids rest)) + length (validateBlocks bytes path k before (tree r kids rest)) ≤ most * size (tree r kids rest)
+      unfolding size beforeBlocks
+      tree-label own path rule behind k before = go (isBlock (r .kind)) refl
+        where
+          go : (b : Bool) → isBlock (r .kind) ≡ b → spent bytes own rule tagFaults behind (beforeBlocks (tree r kids rest)) + length (validateBlocks bytes path k before (tree r kids rest)) ≤ most * size (tree r kids rest)
+          go true e = rw e (omega (arith, spent-none bytes own rule tagFaults behind, tree-blocks path k before))
+          go false e =
+              rw (of-other path k before e, e)
+              (omega
+              (arith,
+               spent-step bytes own rule tagFaults behind r kids (beforeBlocks rest),
+               inline own rule behind r kids,
+               spent-most bytes tagFaults most inline own rule 0 kids,
+               beside .label own path rule (if isInline (r .kind) then r .kind else behind) k before))
+
+      tree-items : (path : List ℕ) (k ordered tight : ℕ) → length (validateListItems bytes path k ordered tight (tree r kids rest)) ≤ most * size (tree r kids rest)
+      unfolding validateListItems validateItem itemEntries size
+      tree-items path k ordered tight =
+          simp length-join
+          (omega
+          (arith,
+           simp length-join at (item (path ++ k ∷ []) ordered),
+           item-blanks (path ++ k ∷ []) (eqb tight 1) (eqb (count rest) 0) 0 kids,
+           inside .blocks (path ++ k ∷ []) 0 first,
+           beside .items path (suc k) ordered tight))
+
+      counted-tree : Counted bytes most (tree r kids rest)
+      counted-tree = record { blocks = tree-blocks; label = tree-label; items = tree-items }
+
+    -- `Fine` is what the bounds for one record may go by: a property of a forest that holds of the forests inside and beside each tree too
+    module _ (Fine : Forest → Type 0) (inside : (r : Rec) (kids rest : Forest) → Fine (tree r kids rest) → Fine kids) (beside : (r : Rec) (kids rest : Forest) → Fine (tree r kids rest) → Fine rest) (block : (path : List ℕ) (before : Before) (r : Rec) (kids rest : Forest) → Fine (tree r kids rest) → blockCharge bytes path before r kids ≤ most) (item : (path : List ℕ) (ordered : ℕ) (r : Rec) (kids : Forest) → length (itemEntries path ordered r kids) ≤ most) where
+      pub counted : (f : Forest) → Fine f → Counted bytes most f
+      counted none fine = counted-none
+      counted (tree r kids rest) fine =
+          counted-tree r kids rest (λ path before. block path before r kids rest fine) (λ path ordered. item path ordered r kids) (counted kids (inside r kids rest fine)) (counted rest (beside r kids rest fine))
+
+      pub walk-few : (f : Forest) → Fine f → length (validateBlocks bytes [] 0 first f) ≤ most * size f
+      walk-few f fine = omega (arith, counted f fine .blocks [] 0 first)
