@@ -1,9 +1,10 @@
 -- How long the list of a sheet is, from the number of its records. Each entry is charged to the record whose span it copies, so that a bound on what one record is charged with is a bound on the whole list.
-use mathlib.Core.Path.{_≡_, refl}
+use mathlib.Core.Path.{_≡_, refl, sym, ap, _∙_}
 use mathlib.Core.Bool.{Bool, true, false, not, _&&_, _||_}
 use mathlib.Core.List.{List, [], _∷_, _++_}
 use Prim.Native.Nat.{ℕ, suc, _+_, _*_, _≤_}
 use native.Mathlib.Omega.{arith}
+use borrow.Author.Tests.{eqb-true}
 use lib.Dec.{eqb}
 use lib.ListN.{length}
 use Rattle.leaves.specs.Text.Lists.{if_then_else_}
@@ -13,6 +14,12 @@ use Rattle.leaves.specs.Sheet.Kinds.{isBlock, isInline, paragraph, heading, blo
 use Rattle.leaves.specs.Sheet.Empty.{isEmpty}
 use Rattle.leaves.specs.Sheet.Texts.{textOf}
 use Rattle.leaves.specs.Sheet.Forest.{Forest, none, tree, count, size, forestOf}
+use Rattle.leaves.specs.Refusal.Groups.{parentGroup}
+use Rattle.leaves.specs.Refusal.Places.{opened, joined}
+use Rattle.leaves.specs.Refusal.Formed.{Formed, Sound}
+use Rattle.leaves.specs.Refusal.Judge.{judgeSheet}
+use Rattle.leaves.specs.declared.refusal.places.Open.{Open}
+use Rattle.leaves.specs.declared.refusal.verdict.Judged.the-variants.{Accepted}
 use Rattle.leaves.specs.Report.Entries.{Entry, listIf, _⊕_}
 use Rattle.leaves.specs.Report.Rules
 use Rattle.leaves.specs.declared.sheet.records.Rec.{Rec}
@@ -20,6 +27,8 @@ use Rattle.leaves.specs.declared.sheet.records.Span.{Span}
 use Rattle.leaves.specs.declared.sheet.records.Text.{Text}
 use Rattle.leaves.proofs.sheet.ForestLaws.{size-at}
 use Rattle.leaves.proofs.sheet.KindLaws.{kind-cases}
+use Rattle.leaves.proofs.refusal.TagLaws.{container-group, container-tag}
+use Rattle.leaves.proofs.refusal.FormedLaws.{accepted}
 use Rattle.leaves.proofs.report.EntryLaws.{length-join, length-if, few-if}
 use Rattle.inlines.specs.Single.{validateDestination, validateDirectiveName}
 use Rattle.inlines.specs.Attribute.{validateDirectiveAttributes}
@@ -340,3 +349,209 @@ module _ (bytes : List ℕ) (most : ℕ) (inline : EachInline bytes tagFaults mo
 
       pub walk-few : (f : Forest) → Fine f → length (validateBlocks bytes [] 0 first f) ≤ most * size f
       walk-few f fine = omega (arith, counted f fine .blocks [] 0 first)
+
+-- ---- the bound for one record, by its kind
+
+bit-most : (b : Bool) → bit b ≤ 1
+bit-most true = omega arith
+bit-most false = omega arith
+
+parts-most : (r : Rec) → emptyParts r ≤ 2
+unfolding emptyParts
+parts-most r = omega (arith, bit-most (isEmpty (r .first)), bit-most (isEmpty (r .second)))
+
+tag-most : (r : Rec) → tagFaults r ≤ tagMost (r .kind)
+unfolding tagFaults
+tag-most r = go (eqb (r .kind) htmlTag) refl
+  where
+    go : (b : Bool) → eqb (r .kind) htmlTag ≡ b → tagFaults r ≤ tagMost (r .kind)
+    go true e = rw e (parts-most r)
+    go false e = rw e (omega arith)
+
+-- 1 is of a list, and 15 of a code block
+middle-entry : (a b c : Bool) (rule : ℕ) (span : Span) (path : List ℕ) → Few (listIf (a && b && c) rule span path) (bit b)
+middle-entry true b c rule span path = both-entry b c rule span path
+middle-entry false true c rule span path = one-entry false rule span path
+middle-entry false false c rule span path = test-entry false rule span path
+
+front-entry : (a b c : Bool) (rule : ℕ) (span : Span) (path : List ℕ) → Few (listIf (a && b && c) rule span path) (bit a)
+front-entry true b c rule span path = one-entry _ rule span path
+front-entry false b c rule span path = test-entry false rule span path
+
+taken-most : (path : List ℕ) (span : Span) (before : Before) (k a b : ℕ) → Few (validateTakenBlock path span before k a b) (bit (eqb k list) + bit (eqb k codeBlock))
+unfolding validateTakenBlock
+taken-most path span before k a b = few-then (middle-entry (eqb (before .kind) list) (eqb k list) _ _ _ _) (front-entry (eqb k codeBlock) _ _ _ _ _)
+
+names-most : (bytes path : List ℕ) (span : Span) (kids : Forest) → Few (namesEntries bytes path span kids) 1
+unfolding namesEntries
+names-most bytes path span none = record { few = omega arith }
+names-most bytes path span (tree opening _ none) = record { few = omega arith }
+names-most bytes path span (tree opening _ (tree closing _ _)) = one-entry _ _ _ _
+
+table-most : (path : List ℕ) (span : Span) (a : ℕ) (rows : Forest) → Few (tableEntries path span a rows) 2
+unfolding tableEntries
+table-most path span a rows = go (eqb (count rows) 0) refl
+  where
+    go : (b : Bool) → eqb (count rows) 0 ≡ b → Few (tableEntries path span a rows) 2
+    go true e = record { few = rw (e, length-if) (omega arith) }
+    go false e = rw e (few-then (one-entry _ _ _ _) (one-entry _ _ _ _))
+
+-- a block's own entries
+unfoldable ownMost : ℕ → ℕ
+ownMost k =
+    if eqb k footnoteDefinition
+    then 1
+    else if eqb k table
+    then 2
+    else if eqb k alert
+    then 1
+    else if eqb k list
+    then 2
+    else if eqb k htmlContainer
+    then 1
+    else if eqb k containerDirective
+    then 1
+    else if eqb k paragraph
+    then 1
+    else if eqb k heading
+    then 1
+    else if eqb k codeBlock
+    then 2
+    else if eqb k definition
+    then 2
+    else if eqb k frontmatter
+    then 2
+    else if eqb k leafDirective
+    then 1
+    else 0
+
+own-most : (bytes path : List ℕ) (r : Rec) (kids : Forest) → Few (ownEntries bytes path r kids) (ownMost (r .kind))
+unfolding ownEntries ownMost validateAlert validateList validateDirectiveName validateHeading validateCodeBlock validateDefinition validateDestination validateFrontmatter
+own-most bytes path r kids =
+    let one : (b : Bool) (rule : ℕ) → Few (listIf b rule (r .span) path) 1 = λ b rule. one-entry b rule (r .span) path in
+    few-either (eqb (r .kind) footnoteDefinition) (one _ _)
+    (few-either (eqb (r .kind) table) (table-most path (r .span) (r .a) kids)
+    (few-either (eqb (r .kind) alert) (one _ _)
+    (few-either (eqb (r .kind) list) (few-then (one _ _) (one _ _))
+    (few-either (eqb (r .kind) htmlContainer) (names-most bytes path (r .span) kids)
+    (few-either (eqb (r .kind) containerDirective) (one _ _)
+    (few-either (eqb (r .kind) paragraph) (one _ _)
+    (few-either (eqb (r .kind) heading) (one _ _)
+    (few-either (eqb (r .kind) codeBlock) (few-then (one _ _) (one _ _))
+    (few-either (eqb (r .kind) definition) (few-then (one _ _) (one _ _))
+    (few-either (eqb (r .kind) frontmatter) (few-then (one _ _) (one _ _))
+    (few-either (eqb (r .kind) leafDirective) (one _ _) no-entry)))))))))))
+
+-- How many entries one record of an accepted sheet may have: a code block 15, 26 and 27, and a line break 20, 30 and 37.
+abbrev pub entriesOfAccepted : ℕ
+entriesOfAccepted = 3
+
+-- .. and one of any sheet: a container is charged with what it lists of its first two children where they are no tags
+abbrev pub entriesOfOne : ℕ
+entriesOfOne = 5
+
+unfoldable kindMost : ℕ → ℕ
+kindMost k = bit (eqb k list) + bit (eqb k codeBlock) + ownMost k + bit (eqb k blankLine) + tagMost k
+
+-- with two to spare for a container
+kind-most : (k : ℕ) → kindMost k + 2 * bit (eqb k htmlContainer) ≤ entriesOfAccepted
+unfolding kindMost ownMost
+kind-most k =
+    let Most : ℕ → Type 0 = λ k. kindMost k + 2 * bit (eqb k htmlContainer) ≤ entriesOfAccepted in
+    kind-cases Most k list (omega arith)
+    (λ e0. kind-cases Most k codeBlock (omega arith)
+    (λ e1. kind-cases Most k footnoteDefinition (omega arith)
+    (λ e2. kind-cases Most k table (omega arith)
+    (λ e3. kind-cases Most k alert (omega arith)
+    (λ e4. kind-cases Most k htmlContainer (omega arith)
+    (λ e5. kind-cases Most k containerDirective (omega arith)
+    (λ e6. kind-cases Most k paragraph (omega arith)
+    (λ e7. kind-cases Most k heading (omega arith)
+    (λ e8. kind-cases Most k definition (omega arith)
+    (λ e9. kind-cases Most k frontmatter (omega arith)
+    (λ e10. kind-cases Most k leafDirective (omega arith)
+    (λ e11. kind-cases Most k blankLine (omega arith)
+    (λ e12. kind-cases Most k htmlTag (omega arith)
+    (λ e13. rw (e0, e1, e2, e3, e4, e5, e6, e7, e8, e9, e10, e11, e12, e13) (omega arith)))))))))))))))
+
+block-most : (bytes path : List ℕ) (before : Before) (r : Rec) (kids : Forest) → blockCharge bytes path before r kids + 2 * bit (eqb (r .kind) htmlContainer) ≤ entriesOfAccepted + straysOf r kids
+unfolding blockCharge kindMost
+block-most bytes path before r kids =
+    omega
+    (arith, kind-most (r .kind), taken-most path (r .span) before (r .kind) (r .a) (r .b) .few, own-most bytes path r kids .few, tag-most r)
+
+item-most : (path : List ℕ) (ordered : ℕ) (r : Rec) (kids : Forest) → length (itemEntries path ordered r kids) ≤ entriesOfAccepted
+unfolding itemEntries validateTaskItem validateItemNumber
+item-most path ordered r kids = few-then (number-most (itemNumber (r .b) (r .c))) (one-entry _ _ _ _) .few
+  where
+    number-most : (n : Number) → Few (validateItemNumber path (r .span) ordered n) 2
+    number-most Absent = record { few = omega arith }
+    number-most (Present number) = few-then (one-entry _ _ _ _) (one-entry _ _ _ _)
+
+-- ---- any sheet
+
+stray-most : (r : Rec) → strayFaults r ≤ 2
+stray-most r = omega (arith, parts-split r, parts-most r)
+
+strays-most : (kids : Forest) → strays kids ≤ 4
+unfolding strays
+strays-most none = omega arith
+strays-most (tree opening _ none) = omega arith
+strays-most (tree opening _ (tree closing _ _)) = omega (arith, stray-most opening, stray-most closing)
+
+strays-of : (r : Rec) (kids : Forest) → straysOf r kids ≤ 4 * bit (eqb (r .kind) htmlContainer)
+strays-of r kids = go (eqb (r .kind) htmlContainer) refl
+  where
+    go : (b : Bool) → eqb (r .kind) htmlContainer ≡ b → straysOf r kids ≤ 4 * bit (eqb (r .kind) htmlContainer)
+    go true e = rw e (strays-most kids)
+    go false e = rw e (omega arith)
+
+size-of : (w : List ℕ) → size (forestOf w) ≡ recordsOf w
+unfolding forestOf
+size-of w = size-at w (recordsOf w) 0
+
+pub few-listed : (w bytes : List ℕ) → length (validateDocument w bytes) ≤ entriesOfOne * recordsOf w
+unfolding validateDocument
+few-listed w bytes =
+    rw (← size-of w)
+    (walk-few bytes entriesOfOne (λ path rule before r kids. omega (arith, inline-most bytes tagFaults tag-most path rule before r kids)) (omega arith)
+    (λ f. Unit {0}) (λ r kids rest fine. tt) (λ r kids rest fine. tt)
+    (λ path before r kids rest fine. omega (arith, block-most bytes path before r kids, strays-of r kids, bit-most (eqb (r .kind) htmlContainer)))
+    (λ path ordered r kids. omega (arith, item-most path ordered r kids))
+    (forestOf w) tt)
+
+-- ---- an accepted sheet: the first two children of a container are tags
+
+container-strays : (bytes : List ℕ) (l a : ℕ) (kids : Forest) → Formed bytes l (opened (parentGroup htmlContainer a)) kids → strays kids ≡ 0
+unfolding Formed strays strayFaults opened joined
+container-strays bytes l a none h = refl
+container-strays bytes l a (tree opening _ none) h = refl
+container-strays bytes l a (tree opening _ (tree closing _ _)) h =
+    let o = opened (parentGroup htmlContainer a) in
+    let p : eqb (opening .kind) htmlTag ≡ true = container-tag o (opening .kind) (container-group a) refl (h .0 .place) in
+    let q : eqb (closing .kind) htmlTag ≡ true = container-tag (joined o htmlTag) (closing .kind) (container-group a) refl (rw (eqb-true (opening .kind) htmlTag p) at (h .2 .0 .place)) in
+    rw (p, q)
+
+no-strays : (bytes : List ℕ) (l : ℕ) (r : Rec) (kids : Forest) → Formed bytes l (opened (parentGroup (r .kind) (r .a))) kids → straysOf r kids ≡ 0
+no-strays bytes l r kids h = go (eqb (r .kind) htmlContainer) refl
+  where
+    go : (b : Bool) → eqb (r .kind) htmlContainer ≡ b → straysOf r kids ≡ 0
+    go true e = rw e (container-strays bytes l (r .a) kids (rw (eqb-true (r .kind) htmlContainer e) at h))
+    go false e = rw e
+
+-- a forest of an accepted sheet, wherever it stands
+record Stands (bytes : List ℕ) (f : Forest) : Type 0 where
+  level : ℕ
+  state : Open
+  formed : Formed bytes level state f
+
+pub few-accepted : (w bytes : List ℕ) → judgeSheet w bytes ≡ Accepted → length (validateDocument w bytes) ≤ entriesOfAccepted * recordsOf w
+unfolding validateDocument Formed
+few-accepted w bytes a =
+    rw (← size-of w)
+    (walk-few bytes entriesOfAccepted (inline-most bytes tagFaults tag-most) (omega arith) (Stands bytes)
+    (λ r kids rest fine. record { level = fine .level + 1; state = opened (parentGroup (r .kind) (r .a)); formed = fine .formed .1 })
+    (λ r kids rest fine. record { level = fine .level; state = joined (fine .state) (r .kind); formed = fine .formed .2 })
+    (λ path before r kids rest fine. omega (arith, block-most bytes path before r kids, no-strays bytes (fine .level + 1) r kids (fine .formed .1)))
+    item-most
+    (forestOf w) (record { level = 0; state = _; formed = accepted w bytes a .tree }))
