@@ -5,6 +5,7 @@ pub mod BlockExamples
 pub mod BlockLaws
 pub mod BlockWalkLaws
 pub mod CheckLaws
+pub mod CountLaws
 pub mod DocumentLaws
 pub mod FootnoteLaws
 pub mod FrontmatterLaws

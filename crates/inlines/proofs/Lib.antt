@@ -1,5 +1,6 @@
 pub mod AttributeLaws
 pub mod ContentLaws
+pub mod CountLaws
 pub mod DepthLaws
 pub mod GatherLaws
 pub mod InlineExamples

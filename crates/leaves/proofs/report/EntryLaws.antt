@@ -14,7 +14,7 @@ use borrow.Author.Tests.{leb-true, leb-false, le-leb, lt-leb, not-true, not-fals
 use borrow.Rule.Slice.PartMut.{putMid}
 use Rattle.leaves.specs.declared.sheet.records.Span.{Span}
 use Rattle.leaves.specs.Report.Entries.{Entry, words, headWords, flat, _⊕_, listIf, cap, capped, start, counted, after, put, Lists, fitting, entriesIn}
-use Rattle.leaves.specs.Text.Lists.{over}
+use Rattle.leaves.specs.Text.Lists.{if_then_else_, over}
 use Rattle.leaves.specs.declared.report.entries.Tally.{Tally}
 use Rattle.leaves.proofs.text.OverLaws.{length-over, over-fits, over-nil, over-not, over-two}
 
@@ -31,6 +31,20 @@ join-none es = append-nil es
 pub none-join : (es : List Entry) → [] ⊕ es ≡ es
 unfolding _⊕_
 none-join es = refl
+
+pub length-join : (es fs : List Entry) → length (es ⊕ fs) ≡ length es + length fs
+unfolding _⊕_
+length-join es fs = length-append es fs
+
+pub length-if : (b : Bool) (rule : ℕ) (span : Span) (path : List ℕ) → length (listIf b rule span path) ≡ (if b then 1 else 0)
+unfolding listIf
+length-if true rule span path = refl
+length-if false rule span path = refl
+
+pub few-if : (b : Bool) (rule : ℕ) (span : Span) (path : List ℕ) → length (listIf b rule span path) ≤ 1
+unfolding listIf
+few-if true rule span path = omega arith
+few-if false rule span path = omega arith
 
 pub after-append : (s : Tally) (es fs : List Entry) → after s (es ⊕ fs) ≡ after (after s es) fs
 unfolding after _⊕_
