@@ -24,7 +24,7 @@ use Rattle.leaves.specs.Sheet.Texts.{textOf, textOutside, textIllFormed}
 use Rattle.leaves.specs.Refusal.Fields.{mostA, mostB, mostC, hasFirst, hasSecond, badText, badSpan, isSurrogate, badNumber, badField}
 use Rattle.leaves.specs.Refusal.Groups.{parentGroup, otherGroup, childGroup}
 use Rattle.leaves.specs.Refusal.Judge.{judgeAt, judgeFrom, judgeSheet}
-use Rattle.leaves.specs.Refusal.Places.{places, placeOf, opened, joined, misplaced, openAt}
+use Rattle.leaves.specs.Refusal.Places.{holds, placeIn, placeOf, opened, joined, misplaced, openAt}
 use Rattle.leaves.specs.Refusal.Record.{levelBefore, badLevel, judgeTexts, judge}
 use Rattle.leaves.specs.Refusal.Tags.{lacksTags, tagsFrom}
 use Rattle.leaves.specs.Refusal.Verdict.{Answer, answer, orElse}
@@ -54,7 +54,7 @@ use Rattle.blocks.specs.Walk.{validateBlock, validateBlocks, validateDoc
 
 -- the check; a declaration that unfolds this unfolds all that the answer and the report compute with
 unfoldable pub checks : List ℕ → List ℕ → List ℕ → Answer × List ℕ
-unfolding outcome flat words judgeSheet orElse judgeFrom judgeAt judge judgeTexts levelBefore badLevel tagsFrom lacksTags countKind misplaced openAt gather opened joined parentGroup otherGroup childGroup places placeOf badField badNumber mostA mostB mostC isSurrogate badSpan hasFirst hasSecond badText textOutside textIllFormed isUtf8 wellFormed follow Rattle.leaves.specs.Text.Utf8.table none trim trimCons trimEnd trimStart holdsFenceLine isFence hasBlankEdgeLine holdsLineEnding isBlank isCrOfCrlf lines longer startsWith all any firstOr lastOr isAttributeName isBlankIdentifier isDirectiveName isRun runs partOf hasOddEscapedPipe oddPipeAfter sameBytes isAlertTitle textOf count deeper forestAt forestOf grow past listIf _⊕_ recordAt validateCodeInline validateDestination validateDirectiveName validateLinkText validateSiblings validateText isBadAttribute isUnwritable eachRecord validateCellValues validateDirectiveAttributes validateOneLine validateEmphasisContainer allEmpty startsWithWhitespace endsWithWhitespace endsWithWhitespaceAfter startsWhite endsWhite holdsJoined startsWithWhite endsWithWhite isWhite scalars decode emit leadBits trailBits finalBreak finalBreakAfter noInline validateInline validateInlineValues validateInlineNodes validateInlineNodesAfter validateInlines validateNode blankLineAt countFull frontmatterKind holdsOneBlock opensWithParagraph takesIndentedCode validateAlert validateCodeBlock validateDefinition validateFootnoteDefinition validateFrontmatter validateHeading validateHtmlContainer validateItemBlankLines validateItemNumber validateList validateTakenBlock validateTaskItem writtenMarker headerWidth validateCell validateCells validateRows validateTable beforeNext validateTags itemNumber validateBlankLine beforeBlocks validateParagraph holdsBlocks validateContainer validateHtml validateLeaf validateOwn validateBlock validateBlocks validateDirective validateDocument validateItem validateListItems
+unfolding outcome flat words judgeSheet orElse judgeFrom judgeAt judge judgeTexts levelBefore badLevel tagsFrom lacksTags countKind misplaced openAt gather opened joined parentGroup otherGroup childGroup holds placeIn placeOf badField badNumber mostA mostB mostC isSurrogate badSpan hasFirst hasSecond badText textOutside textIllFormed isUtf8 wellFormed follow Rattle.leaves.specs.Text.Utf8.table none trim trimCons trimEnd trimStart holdsFenceLine isFence hasBlankEdgeLine holdsLineEnding isBlank isCrOfCrlf lines longer startsWith all any firstOr lastOr isAttributeName isBlankIdentifier isDirectiveName isRun runs partOf hasOddEscapedPipe oddPipeAfter sameBytes isAlertTitle textOf count deeper forestAt forestOf grow past listIf _⊕_ recordAt validateCodeInline validateDestination validateDirectiveName validateLinkText validateSiblings validateText isBadAttribute isUnwritable eachRecord validateCellValues validateDirectiveAttributes validateOneLine validateEmphasisContainer allEmpty startsWithWhitespace endsWithWhitespace endsWithWhitespaceAfter startsWhite endsWhite holdsJoined startsWithWhite endsWithWhite isWhite scalars decode emit leadBits trailBits finalBreak finalBreakAfter noInline validateInline validateInlineValues validateInlineNodes validateInlineNodesAfter validateInlines validateNode blankLineAt countFull frontmatterKind holdsOneBlock opensWithParagraph takesIndentedCode validateAlert validateCodeBlock validateDefinition validateFootnoteDefinition validateFrontmatter validateHeading validateHtmlContainer validateItemBlankLines validateItemNumber validateList validateTakenBlock validateTaskItem writtenMarker headerWidth validateCell validateCells validateRows validateTable beforeNext validateTags itemNumber validateBlankLine beforeBlocks validateParagraph holdsBlocks validateContainer validateHtml validateLeaf validateOwn validateBlock validateBlocks validateDirective validateDocument validateItem validateListItems
 checks w bytes report = outcome w bytes report
 
 -- ---- sheets over the text `a \ | \ \ |`, and a report of nine words, each 77

@@ -1,8 +1,8 @@
--- Number and value tell which answer it is. How large they are: a refusal's record is one of the sheet, and a list that was written has no more entries than the report has words.
+-- Number and value tell which answer it is. How large they are: a refusal's record is one of the sheet, and a list has at most three entries for each record.
 use mathlib.Core.Path.{_≡_, refl, ap}
 use mathlib.Core.Bool.{Bool, true, false, not, _||_}
 use mathlib.Core.List.{List}
-use Prim.Native.Nat.{ℕ, zero, suc, _+_, _*_, _^_, _%_, _<_, _≤_}
+use Prim.Native.Nat.{ℕ, zero, suc, _+_, _^_, _%_, _<_, _≤_}
 use native.Mathlib.Omega.{arith}
 use borrow.Author.Tests.{ltb-false}
 use lib.Dec.{eqb, ltb}
@@ -16,7 +16,7 @@ use Rattle.leaves.specs.Sheet.Texts.{textOutside, textIllFormed}
 use Rattle.leaves.specs.declared.sheet.records.Rec.{Rec}
 use Rattle.leaves.specs.declared.refusal.places.Open.{Open}
 use Rattle.leaves.specs.Report.Entries.{flat}
-use Rattle.leaves.proofs.report.EntryLaws.{few-entries}
+use Rattle.leaves.proofs.refusal.FormedLaws.{accepted}
 use Rattle.leaves.specs.Refusal.Verdict.{Answer, judgedAnswer, isAccepted, orElse}
 use Rattle.leaves.specs.Refusal.Limits.{mostRecords, mostBytes}
 use Rattle.leaves.specs.Refusal.Record.{badLevel, judgeTexts, judge}
@@ -25,16 +25,12 @@ use Rattle.leaves.specs.Refusal.Tags.{lacksTags, tagsFrom}
 use Rattle.leaves.specs.declared.refusal.verdict.Judged.{Judged}
 use Rattle.leaves.specs.declared.refusal.verdict.Judged.the-variants.{Accepted, Refused as Refuses}
 use Rattle.leaves.specs.declared.refusal.verdict.Refusal.the-variants.{OddSheet, LongSheet, LongText, UnknownKind, BadLevel, Misplaced, BadField, TextOutside, NotUtf8, TagsMissing}
-use Rattle.leaves.proofs.refusal.VerdictLaws.{refusal-numbered, refusal-one}
+use Rattle.leaves.proofs.refusal.VerdictLaws.{is-accepted, refusal-numbered, refusal-one}
 use Rattle.blocks.specs.Walk.{validateDocument}
 use Rattle.blocks.specs.Check.{shortReport, checkedAnswer, outcome}
+use Rattle.blocks.proofs.CountLaws.{few-accepted}
 use Rattle.blocks.specs.declared.answer.Checked.{Checked}
 use Rattle.blocks.specs.declared.answer.Checked.the-variants.{Listed, Refused, ShortReport}
-
-pub number-small : (c : Checked) → checkedAnswer c .number ≤ shortReport
-number-small (Listed entries) = omega arith
-number-small (Refused refusal) = omega (arith, refusal-numbered refusal .most)
-number-small ShortReport = omega arith
 
 -- ---- number and value tell which answer it is
 same-number : {a b : Answer} → a ≡ b → a .number ≡ b .number
@@ -106,19 +102,14 @@ judged-record w bytes = go (ltb mostRecords (recordsOf w)) refl
         let three : judgedAnswer judged .value ≤ 65535 = else-record (judgeFrom w bytes (recordsOf w) 0) (tagsFrom w (recordsOf w) (recordsOf w) 0) 65535 one two in
         rw e (either (not (eqb (length w % recordWords) 0)) (Refuses OddSheet) (if ltb mostBytes (length bytes) then Refuses LongText else judged) 65535 (omega arith) (either (ltb mostBytes (length bytes)) (Refuses LongText) judged 65535 (omega arith) three))
 
--- ---- the value of an answer
-value-most : (w bytes x : List ℕ) → outcome w bytes x .0 .value ≤ 65535 + length x
+-- ---- the value of an answer: a list has at most three entries for each record, so that its count always fits in half of a number for C
+pub value-word : (w bytes x : List ℕ) → outcome w bytes x .0 .value < 2 ^ 32
 unfolding outcome
-value-most w bytes x = go (isAccepted (judgeSheet w bytes)) refl (ltb (length x) (length (flat (validateDocument w bytes)))) refl
+value-word w bytes x = go (isAccepted (judgeSheet w bytes)) refl (ltb (length x) (length (flat (validateDocument w bytes)))) refl
   where
-    go : (b : Bool) → isAccepted (judgeSheet w bytes) ≡ b → (c : Bool) → ltb (length x) (length (flat (validateDocument w bytes))) ≡ c → outcome w bytes x .0 .value ≤ 65535 + length x
+    go : (b : Bool) → isAccepted (judgeSheet w bytes) ≡ b → (c : Bool) → ltb (length x) (length (flat (validateDocument w bytes))) ≡ c → outcome w bytes x .0 .value < 2 ^ 32
     go false e c f = rw e (omega (arith, judged-record w bytes))
     go true e true f = rw (e, f) (omega arith)
-    go true e false f = let l = ltb-false (length x) (length (flat (validateDocument w bytes))) f in rw (e, f) (omega (arith, few-entries (validateDocument w bytes)))
-
-pub value-small : (w bytes x : List ℕ) → length x * 4 < 2 ^ 63 → outcome w bytes x .0 .value < 2 ^ 62
-value-small w bytes x room = omega (arith, value-most w bytes x)
-
--- in a report that has fewer than 2^32 - 65535 words
-pub value-word : (w bytes x : List ℕ) → 65535 + length x < 2 ^ 32 → outcome w bytes x .0 .value < 2 ^ 32
-value-word w bytes x room = omega (arith, value-most w bytes x)
+    go true e false f =
+        let ok = is-accepted (judgeSheet w bytes) e in
+        rw (e, f) (omega (arith, few-accepted w bytes ok, accepted w bytes ok .few))
