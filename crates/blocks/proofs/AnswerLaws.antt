@@ -1,8 +1,8 @@
--- How large the answer's number and value are: a refusal's record is one of the sheet, and a list that was written has no more entries than the report has words.
+-- How large the answer's number and value are: a refusal's record is one of the sheet, and a list has no more entries than the sheet's records may have.
 use mathlib.Core.Path.{_≡_, refl}
 use mathlib.Core.Bool.{Bool, true, false, not, _||_}
 use mathlib.Core.List.{List}
-use Prim.Native.Nat.{ℕ, zero, suc, _+_, _*_, _^_, _%_, _<_, _≤_}
+use Prim.Native.Nat.{ℕ, zero, suc, _+_, _^_, _%_, _<_, _≤_}
 use native.Mathlib.Omega.{arith}
 use borrow.Author.Tests.{ltb-false}
 use lib.Dec.{eqb, ltb}
@@ -16,7 +16,8 @@ use Rattle.leaves.specs.Sheet.Texts.{textOutside, textIllFormed}
 use Rattle.leaves.specs.declared.sheet.records.Rec.{Rec}
 use Rattle.leaves.specs.declared.refusal.places.Open.{Open}
 use Rattle.leaves.specs.Report.Entries.{flat}
-use Rattle.leaves.proofs.report.EntryLaws.{few-entries}
+use Rattle.leaves.proofs.refusal.VerdictLaws.{is-accepted}
+use Rattle.leaves.proofs.refusal.FormedLaws.{accepted}
 use Rattle.leaves.specs.Refusal.Verdict.{numberOf, recordOf, isAccepted, orElse}
 use Rattle.leaves.specs.Refusal.Limits.{mostRecords, mostBytes}
 use Rattle.leaves.specs.Refusal.Record.{badLevel, judgeTexts, judge}
@@ -28,6 +29,7 @@ use Rattle.blocks.specs.Walk.{validateDocument}
 use Rattle.blocks.specs.Check.{answerNumber, answerValue, outcome}
 use Rattle.blocks.specs.declared.answer.Checked.{Checked}
 use Rattle.blocks.specs.declared.answer.Checked.the-variants.{Listed, Refused, ShortReport}
+use Rattle.blocks.proofs.CountLaws.{few-listed}
 
 pub few-numbers : (j : Judged) → numberOf j ≤ 10
 few-numbers Accepted = omega arith
@@ -102,19 +104,12 @@ judged-record w bytes = go (ltb mostRecords (recordsOf w)) refl
         let three : recordOf judged ≤ 65535 = else-record (judgeFrom w bytes (recordsOf w) 0) (tagsFrom w (recordsOf w) (recordsOf w) 0) 65535 one two in
         rw e (either (not (eqb (length w % recordWords) 0)) OddSheet (if ltb mostBytes (length bytes) then LongText else judged) 65535 (omega arith) (either (ltb mostBytes (length bytes)) LongText judged 65535 (omega arith) three))
 
--- ---- the value of an answer
-value-most : (w bytes x : List ℕ) → answerValue (outcome w bytes x .0) ≤ 65535 + length x
+-- ---- the value of an answer: of 65,535 records at most, each with its few entries
+pub value-word : (w bytes x : List ℕ) → answerValue (outcome w bytes x .0) < 2 ^ 32
 unfolding outcome
-value-most w bytes x = go (isAccepted (judgeSheet w bytes)) refl (ltb (length x) (length (flat (validateDocument w bytes)))) refl
+value-word w bytes x = go (isAccepted (judgeSheet w bytes)) refl (ltb (length x) (length (flat (validateDocument w bytes)))) refl
   where
-    go : (b : Bool) → isAccepted (judgeSheet w bytes) ≡ b → (c : Bool) → ltb (length x) (length (flat (validateDocument w bytes))) ≡ c → answerValue (outcome w bytes x .0) ≤ 65535 + length x
+    go : (b : Bool) → isAccepted (judgeSheet w bytes) ≡ b → (c : Bool) → ltb (length x) (length (flat (validateDocument w bytes))) ≡ c → answerValue (outcome w bytes x .0) < 2 ^ 32
     go false e c f = rw e (omega (arith, judged-record w bytes))
     go true e true f = rw (e, f) (omega arith)
-    go true e false f = let l = ltb-false (length x) (length (flat (validateDocument w bytes))) f in rw (e, f) (omega (arith, few-entries (validateDocument w bytes)))
-
-pub value-small : (w bytes x : List ℕ) → length x * 4 < 2 ^ 63 → answerValue (outcome w bytes x .0) < 2 ^ 62
-value-small w bytes x room = omega (arith, value-most w bytes x)
-
--- in a report that has fewer than 2^32 - 65535 words
-pub value-word : (w bytes x : List ℕ) → 65535 + length x < 2 ^ 32 → answerValue (outcome w bytes x .0) < 2 ^ 32
-value-word w bytes x room = omega (arith, value-most w bytes x)
+    go true e false f = rw (e, f) (omega (arith, few-listed w bytes, accepted w bytes (is-accepted (judgeSheet w bytes) e) .few))

@@ -15,7 +15,7 @@ use Rattle.setter.specs.Setting.{answerOf, afterRun, settingOf}
 use Rattle.setter.specs.declared.answer.Setting.{Setting}
 use Rattle.blocks.specs.Check.{answerNumber, answerValue, outcome}
 use Rattle.blocks.specs.declared.answer.Checked.{Checked}
-use Rattle.blocks.proofs.AnswerLaws.{judged-record, number-small, value-small, value-word}
+use Rattle.blocks.proofs.AnswerLaws.{judged-record, number-small, value-word}
 use Rattle.setter.specs.Packed.{packed, packedSetting, refusedAt}
 
 module _ (w bytes x : List ℕ) {c : Checked} {y : List ℕ} (e : (c, y) ≡ outcome w bytes x) {n : ℕ} (a : n ≡ answerNumber c) where
@@ -23,20 +23,20 @@ module _ (w bytes x : List ℕ) {c : Checked} {y : List ℕ} (e : (c, y) ≡ out
   number-fits = rw a (number-small c)
 
   module _ {v : ℕ} (b : v ≡ answerValue c) where
-    pub value-fits : length x * 4 < 2 ^ 63 → v < 2 ^ 62
-    value-fits room = let o : c ≡ outcome w bytes x .0 = ap (λ (p : Checked × List ℕ). p .0) e in rw (b, o) (value-small w bytes x room)
+    pub value-fits : v < 2 ^ 32
+    value-fits = let o : c ≡ outcome w bytes x .0 = ap (λ (p : Checked × List ℕ). p .0) e in rw (b, o) (value-word w bytes x)
 
     pub packed-done : (n * 4294967296 + v ≡ packed (outcome w bytes x .0)) × (y ≡ outcome w bytes x .1)
     unfolding packed
     packed-done = let o : c ≡ outcome w bytes x .0 = ap (λ (p : Checked × List ℕ). p .0) e in (rw (← o, a, b), ap (λ (p : Checked × List ℕ). p .1) e)
 
--- Number and value are read back from the one number, whatever the sheet and text, where the report has fewer than 2^32 - 65535 words.
+-- Number and value are read back from the one number, whatever the sheet, the text and the report.
 unpacked : (n v : ℕ) → v < 2 ^ 32 → ((n * 2 ^ 32 + v) / 2 ^ 32 ≡ n) × ((n * 2 ^ 32 + v) % 2 ^ 32 ≡ v)
 unpacked n v h = (omega arith, omega arith)
 
-pub packed-read : (w bytes x : List ℕ) → 65535 + length x < 2 ^ 32 → (packed (outcome w bytes x .0) / 2 ^ 32 ≡ answerNumber (outcome w bytes x .0)) × (packed (outcome w bytes x .0) % 2 ^ 32 ≡ answerValue (outcome w bytes x .0))
+pub packed-read : (w bytes x : List ℕ) → (packed (outcome w bytes x .0) / 2 ^ 32 ≡ answerNumber (outcome w bytes x .0)) × (packed (outcome w bytes x .0) % 2 ^ 32 ≡ answerValue (outcome w bytes x .0))
 unfolding packed
-packed-read w bytes x room = unpacked (answerNumber (outcome w bytes x .0)) (answerValue (outcome w bytes x .0)) (value-word w bytes x room)
+packed-read w bytes x = unpacked (answerNumber (outcome w bytes x .0)) (answerValue (outcome w bytes x .0)) (value-word w bytes x)
 
 -- ---- the machine's answer: the record of a refusal is one of the sheet
 pub refused-small : (w bytes x : List ℕ) {s : Setting} {y : List ℕ} → (s, y) ≡ settingOf w bytes x → refusedAt s ≤ 65535

@@ -90,7 +90,7 @@ module _ (w bytes x : List ℕ) {y : List ℕ} {c : Checked} {number value : ℕ
   checked-is = answer-same w bytes (replicate reportWords 0) x (length-replicate {A = ℕ} reportWords 0 ∙ sym long) ∙ sym answer-is
 
   pub value-fits : Fits w32 value
-  value-fits = record { fits = rw (b, answer-is) (value-word w bytes x (omega arith)) }
+  value-fits = record { fits = rw (b, answer-is) (value-word w bytes x) }
 
   pub refusal-printed : {old new : List ℕ} {r : ℕ} → (number ≡ 0 → ⊥) → Prints old (refusalLine number value) new r → Prints old (sheetLines w bytes) new r
   unfolding sheetLines

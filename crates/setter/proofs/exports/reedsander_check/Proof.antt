@@ -5,7 +5,7 @@ use Rattle.setter.proofs.exports.reedsander_check.Statement.{statement}
 use Rattle.setter.proofs.exports.reedsander_check.Tie as tie
 
 add-result : tie.Need-add-result
-add-result c = let n = number-fits _ _ _ (c .before .before .before .before .check .ensures) (c .before .answer-number .ensures) in let v = value-fits _ _ _ (c .before .before .before .before .check .ensures) (c .before .answer-number .ensures) (c .answer-value .ensures) (search needs) in search needs
+add-result c = let n = number-fits _ _ _ (c .before .before .before .before .check .ensures) (c .before .answer-number .ensures) in let v = value-fits _ _ _ (c .before .before .before .before .check .ensures) (c .before .answer-number .ensures) (c .answer-value .ensures) in search needs
 
 returns : tie.Need-returns
 returns c = packed-done _ _ _ (c .before .before .before .before .check .ensures) (c .before .answer-number .ensures) (c .answer-value .ensures)
