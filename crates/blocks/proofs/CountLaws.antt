@@ -1,5 +1,5 @@
 -- How long the list of a sheet is, from the number of its records. Each entry is charged to the record whose span it copies, so that a bound on what one record is charged with is a bound on the whole list.
-use mathlib.Core.Path.{_≡_, refl, sym, ap, _∙_}
+use mathlib.Core.Path.{_≡_, refl}
 use mathlib.Core.Bool.{Bool, true, false, not, _&&_, _||_}
 use mathlib.Core.List.{List, [], _∷_, _++_}
 use Prim.Native.Nat.{ℕ, suc, _+_, _*_, _≤_}
@@ -16,7 +16,7 @@ use Rattle.leaves.specs.Sheet.Texts.{textOf}
 use Rattle.leaves.specs.Sheet.Forest.{Forest, none, tree, count, size, forestOf}
 use Rattle.leaves.specs.Refusal.Groups.{parentGroup}
 use Rattle.leaves.specs.Refusal.Places.{opened, joined}
-use Rattle.leaves.specs.Refusal.Formed.{Formed, Sound}
+use Rattle.leaves.specs.Refusal.Formed.{Formed}
 use Rattle.leaves.specs.Refusal.Judge.{judgeSheet}
 use Rattle.leaves.specs.declared.refusal.places.Open.{Open}
 use Rattle.leaves.specs.declared.refusal.verdict.Judged.the-variants.{Accepted}
@@ -34,11 +34,11 @@ use Rattle.inlines.specs.Single.{validateDestination, validateDirectiveName}
 use Rattle.inlines.specs.Attribute.{validateDirectiveAttributes}
 use Rattle.inlines.specs.Depth.{validateCellValues, validateOneLine}
 use Rattle.inlines.specs.Nodes.{allEmpty, validateInlines}
-use Rattle.inlines.proofs.CountLaws.{bit, either-length, sumRoots, spent, spent-none, spent-step, spent-most, inlines-spent, EachInline, entriesOfInline, tagMost, inline-most, Few, no-entry, one-entry, test-entry, both-entry, few-then, few-either}
+use Rattle.inlines.proofs.CountLaws.{bit, sumRoots, spent, spent-none, spent-step, spent-most, inlines-spent, EachInline, tagMost, inline-most, Few, no-entry, one-entry, test-entry, both-entry, few-then, few-either}
 use Rattle.blocks.specs.declared.before.Before.{Before}
 use Rattle.blocks.specs.declared.number.Number.{Number}
 use Rattle.blocks.specs.declared.number.Number.the-variants.{Absent, Present}
-use Rattle.blocks.specs.Before.{first, beforeNext, takesIndentedCode, validateTakenBlock}
+use Rattle.blocks.specs.Before.{first, beforeNext, validateTakenBlock}
 use Rattle.blocks.specs.Heads.{validateHeading, validateAlert, validateCodeBlock, validateDefinition}
 use Rattle.blocks.specs.Frontmatter.{validateFrontmatter}
 use Rattle.blocks.specs.Html.{validateTags, validateHtmlContainer}
@@ -48,7 +48,7 @@ use Rattle.blocks.specs.Item.{validateBlankLine, validateItemBlankLines,
 use Rattle.blocks.specs.Number.{itemNumber, validateItemNumber}
 use Rattle.blocks.specs.Table.{validateCell, validateCells, validateRows, headerWidth, validateTable}
 use Rattle.blocks.specs.Paragraph.{validateParagraph}
-use Rattle.blocks.specs.Label.{beforeBlocks, validateDirective, validateLeafDirective, validateContainerDirective}
+use Rattle.blocks.specs.Label.{beforeBlocks, validateDirective}
 use Rattle.blocks.specs.Block.{validateLeaf, validateHtml, validateContainer, validateOwn}
 use Rattle.blocks.specs.Holds.{holdsBlocks}
 use Rattle.blocks.specs.Walk.{validateBlock, validateItem, validateBlocks, validateListItems, validateDocument}
@@ -169,11 +169,12 @@ unfolding blankLineAt
 blank-few path k none = omega arith
 blank-few path k (tree r kids rest) =
     let here = listIf true Rules.blankLineInFootnote (r .span) (path ++ k ∷ []) in
-    omega
-    (arith,
-     roots-tree blankOf r kids rest,
-     blank-few path (suc k) rest,
-     when-both (eqb (r .kind) blankLine) (eqb k 0 || eqb (count rest) 0) here (blankLineAt path (suc k) rest) (few-if true Rules.blankLineInFootnote (r .span) (path ++ k ∷ [])))
+    omega (
+      arith,
+      roots-tree blankOf r kids rest,
+      blank-few path (suc k) rest,
+      when-both (eqb (r .kind) blankLine) (eqb k 0 || eqb (count rest) 0) here (blankLineAt path (suc k) rest) (few-if true Rules.blankLineInFootnote (r .span) (path ++ k ∷ [])),
+    )
 
 one-blank : (path : List ℕ) (span : Span) (blank tight first last : Bool) → length (validateBlankLine path span blank tight first last) ≤ bit blank
 unfolding validateBlankLine
@@ -187,11 +188,12 @@ unfolding validateItemBlankLines
 item-blanks path tight last k none = omega arith
 item-blanks path tight last k (tree r kids rest) =
     simp length-join
-    (omega
-    (arith,
-     roots-tree blankOf r kids rest,
-     item-blanks path tight last (suc k) rest,
-     one-blank (path ++ k ∷ []) (r .span) (eqb (r .kind) blankLine) tight (eqb k 0) (last && eqb (count rest) 0)))
+    (omega (
+      arith,
+      roots-tree blankOf r kids rest,
+      item-blanks path tight last (suc k) rest,
+      one-blank (path ++ k ∷ []) (r .span) (eqb (r .kind) blankLine) tight (eqb k 0) (last && eqb (count rest) 0),
+    ))
 
 -- ---- a bound for one record is a bound for all
 -- the three walks over one forest: as blocks, as a directive's label with the blocks behind it (`own` is the directive's path), and as items
@@ -216,11 +218,12 @@ module _ (bytes : List ℕ) (most : ℕ) (inline : EachInline bytes tagFaults mo
     rows-most path width k none = omega arith
     rows-most path width k (tree r kids rest) =
         simp length-join
-        (omega
-        (arith,
-         few-if (not (eqb (count kids) width)) Rules.rowWidth (r .span) (path ++ k ∷ []),
-         cells-most (path ++ k ∷ []) 0 kids,
-         rows-most path width (suc k) rest))
+        (omega (
+          arith,
+          few-if (not (eqb (count kids) width)) Rules.rowWidth (r .span) (path ++ k ∷ []),
+          cells-most (path ++ k ∷ []) 0 kids,
+          rows-most path width (suc k) rest,
+        ))
 
     table-few : (path : List ℕ) (span : Span) (a : ℕ) (rows : Forest) → length (validateTable bytes path span a rows) ≤ length (tableEntries path span a rows) + most * size rows
     unfolding validateTable tableEntries
@@ -300,13 +303,14 @@ module _ (bytes : List ℕ) (most : ℕ) (inline : EachInline bytes tagFaults mo
           go true e =
               rw (of-block path k before e)
               (simp length-join
-              (omega
-              (arith,
-               roots-tree blankOf r kids rest,
-               roots-tree tagFaults r kids rest,
-               block (path ++ k ∷ []) before,
-               own-few (path ++ k ∷ []),
-               beside .blocks path (suc k) (beforeNext before (r .kind) (r .a) (r .b)))))
+              (omega (
+                arith,
+                roots-tree blankOf r kids rest,
+                roots-tree tagFaults r kids rest,
+                block (path ++ k ∷ []) before,
+                own-few (path ++ k ∷ []),
+                beside .blocks path (suc k) (beforeNext before (r .kind) (r .a) (r .b)),
+              )))
           go false e =
               rw (of-other path k before e)
               (omega (arith, roots-tree blankOf r kids rest, roots-tree tagFaults r kids rest, block (path ++ k ∷ []) before, beside .blocks path k before))
@@ -319,23 +323,25 @@ module _ (bytes : List ℕ) (most : ℕ) (inline : EachInline bytes tagFaults mo
           go true e = rw e (omega (arith, spent-none bytes own rule tagFaults behind, tree-blocks path k before))
           go false e =
               rw (of-other path k before e, e)
-              (omega
-              (arith,
-               spent-step bytes own rule tagFaults behind r kids (beforeBlocks rest),
-               inline own rule behind r kids,
-               spent-most bytes tagFaults most inline own rule 0 kids,
-               beside .label own path rule (if isInline (r .kind) then r .kind else behind) k before))
+              (omega (
+                arith,
+                spent-step bytes own rule tagFaults behind r kids (beforeBlocks rest),
+                inline own rule behind r kids,
+                spent-most bytes tagFaults most inline own rule 0 kids,
+                beside .label own path rule (if isInline (r .kind) then r .kind else behind) k before,
+              ))
 
       tree-items : (path : List ℕ) (k ordered tight : ℕ) → length (validateListItems bytes path k ordered tight (tree r kids rest)) ≤ most * size (tree r kids rest)
       unfolding validateListItems validateItem itemEntries size
       tree-items path k ordered tight =
           simp length-join
-          (omega
-          (arith,
-           simp length-join at (item (path ++ k ∷ []) ordered),
-           item-blanks (path ++ k ∷ []) (eqb tight 1) (eqb (count rest) 0) 0 kids,
-           inside .blocks (path ++ k ∷ []) 0 first,
-           beside .items path (suc k) ordered tight))
+          (omega (
+            arith,
+            simp length-join at (item (path ++ k ∷ []) ordered),
+            item-blanks (path ++ k ∷ []) (eqb tight 1) (eqb (count rest) 0) 0 kids,
+            inside .blocks (path ++ k ∷ []) 0 first,
+            beside .items path (suc k) ordered tight,
+          ))
 
       counted-tree : Counted bytes most (tree r kids rest)
       counted-tree = record { blocks = tree-blocks; label = tree-label; items = tree-items }

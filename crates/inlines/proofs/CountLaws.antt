@@ -10,7 +10,7 @@ use lib.Dec.{eqb}
 use lib.ListN.{length}
 use Rattle.leaves.specs.Text.Lists.{if_then_else_}
 use Rattle.leaves.specs.Sheet.Kinds.{isInline, htmlTag, attribute, text, escape, emphasis, strong, delete, mark, code, link, autolink, image, linkReference, imageReference, html, softBreak, lineBreak, math, footnoteReference, inlineFootnote, wikiLink, textDirective}
-use Rattle.leaves.specs.Sheet.Classes.{isBreak, isPlainBreak, isLink, isEmphasisContainer, namesOwnValue, namesLabel}
+use Rattle.leaves.specs.Sheet.Classes.{isBreak, isLink, isEmphasisContainer, namesOwnValue, namesLabel}
 use Rattle.leaves.specs.Sheet.Forest.{Forest, none, tree, size}
 use Rattle.leaves.specs.Report.Entries.{Entry, listIf, _⊕_}
 use Rattle.leaves.specs.Report.Rules
@@ -98,7 +98,7 @@ spent bytes path rule extra before f =
     + length (validateCellValues bytes path f)
     + sumRoots extra f
 
-pub either-length : (b : Bool) (x y : List Entry) → length (if b then x else y) ≤ length x + length y
+either-length : (b : Bool) (x y : List Entry) → length (if b then x else y) ≤ length x + length y
 either-length true x y = omega arith
 either-length false x y = omega arith
 
@@ -228,7 +228,7 @@ inlines-spent bytes path rule extra f = simp length-join (omega (arith, final-fe
 -- ---- the bound for one record, by its kind
 
 -- an inline's own entries
-ownMost : ℕ → ℕ
+unfoldable ownMost : ℕ → ℕ
 ownMost k =
     if isEmphasisContainer k
     then 2
@@ -310,7 +310,7 @@ own-most bytes path r kids =
     (few-either (eqb (r .kind) math) (few-then (one _ _) (one-of-two _ _ _ _ _ _ _ (fences-apart (r .a) (eqb (r .b) 0) _))) no-entry))))))))))))
 
 -- as one of the inlines side by side: 37 is of a break, and 38 of a strikethrough
-siblingsMost : ℕ → ℕ
+unfoldable siblingsMost : ℕ → ℕ
 siblingsMost k = if isBreak k then 1 else if eqb k delete then 1 else 0
 
 siblings-most : (path : List ℕ) (span : Span) (before k a : ℕ) → Few (validateSiblings path span before k a) (siblingsMost k)
@@ -339,7 +339,7 @@ both-entry true c rule span path = one-entry c rule span path
 both-entry false c rule span path = test-entry false rule span path
 
 -- the kinds whose values a cell asks for
-inCell : ℕ → Bool
+unfoldable inCell : ℕ → Bool
 inCell k = namesOwnValue k || namesLabel k || eqb k wikiLink
 
 cell-entry : (own label wiki b c : Bool) (rule : ℕ) (span : Span) (path : List ℕ) → Few (listIf ((own || wiki) && b || (label || wiki) && c) rule span path) (if own || label || wiki then 1 else 0)
@@ -351,7 +351,7 @@ cell-entry false false false b c rule span path = test-entry false rule span pat
 abbrev pub bit : Bool → ℕ
 bit b = if b then 1 else 0
 
-chargedMost : ℕ → ℕ
+unfoldable chargedMost : ℕ → ℕ
 chargedMost k = siblingsMost k + ownMost k + (bit (eqb k lineBreak) + (bit (eqb k attribute) + (bit (isLink k) + (bit (isBreak k) + bit (inCell k)))))
 
 charged-most : (bytes path : List ℕ) (rule before : ℕ) (r : Rec) (kids : Forest) → Few (charged bytes path rule before r kids) (chargedMost (r .kind))
