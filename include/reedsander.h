@@ -86,8 +86,8 @@ enum {
  *
  *   0        accepted. The lower 32 bits say how many entries the list has.
  *            The whole list stands at the front of the report; the words
- *            behind it are as they were. (A report of 2^32 - 65,535 words or
- *            more could hold a list whose count has more than 32 bits.)
+ *            behind it are as they were. A list has at most three entries for
+ *            each record, so the count always fits.
  *   1 to 11  refused. The lower 32 bits are the record that it is about,
  *            counted from 0; for 1, 2, 3 and 11 they are 0. No word of the
  *            report is changed.

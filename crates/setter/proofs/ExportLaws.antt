@@ -12,8 +12,7 @@ use Rattle.leaves.specs.Refusal.Verdict.{Answer, answer, isAccepted}
 use Rattle.leaves.specs.Refusal.Judge.{judgeSheet}
 use Rattle.leaves.specs.declared.refusal.verdict.Judged.the-variants.{Accepted}
 use Rattle.leaves.proofs.refusal.VerdictLaws.{is-accepted}
-use Rattle.blocks.specs.Check.{checkedAnswer, outcome}
-use Rattle.blocks.specs.declared.answer.Checked.{Checked}
+use Rattle.blocks.specs.Check.{outcome}
 use Rattle.blocks.proofs.AnswerLaws.{judged-record, value-word}
 use Rattle.setter.specs.Machine.{run, runAnswer}
 use Rattle.setter.specs.Answer.{settingAnswer, Answers}
@@ -28,7 +27,7 @@ pub halves : (n v r : ℕ) → v < 2 ^ 32 → r ≡ n * 4294967296 + v → Halve
 halves n v r h e = record { number = omega arith; value = omega arith }
 
 -- ---- the check
-module _ (w bytes x : List ℕ) {c : Checked} {y : List ℕ} (e : (checkedAnswer c, y) ≡ outcome w bytes x) {n v : ℕ} (a : n ≡ checkedAnswer c .number) (b : v ≡ checkedAnswer c .value) where
+module _ (w bytes x : List ℕ) {c : Answer} {y : List ℕ} (e : (c, y) ≡ outcome w bytes x) {n v : ℕ} (a : n ≡ c .number) (b : v ≡ c .value) where
   of-check : answer n v ≡ outcome w bytes x .0
   of-check = rw (a, b) (ap (λ (p : Answer × List ℕ). p .0) e)
 

@@ -16,7 +16,7 @@ pub struct Both {
 pub fn check_and_set(sheet: &[u32], text: &[u8], report: &mut [u32], marks: &mut [u32]) -> Both
     ensures { λ r.
         ⌜ ChecksAndSets (now (sheet .entry)) (now (text .entry)) (now (report .entry)) (now (marks .entry))
-            (r .checked) (now (report .exit)) (r .set) (now (marks .exit)) ⌝ }
+        (r .checked) (now (report .exit)) (r .set) (now (marks .exit)) ⌝ }
 {
     let checked = check(sheet, text, report);
     let set = set(sheet, text, marks);

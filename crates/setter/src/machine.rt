@@ -34,9 +34,7 @@ fn next_level(sheet: &[u32], n: usize, i: usize) -> u32
 // Opens and closes the records one after another, a turn for each opening and closing, until one stops. `open` has, by
 // level, what is kept of each open record, and `depth` is the innermost's level.
 fn run_records(sheet: &[u32], text: &[u8], marks: &mut [u32], n: usize) -> Setting
-    requires {
-        ⌜ (judgeSheet (now sheet) (now text) ≡ Accepted) × (n ≡ recordsOf (now sheet)) × (n ≤ length (now marks)) ⌝
-    }
+    requires { ⌜ (judgeSheet (now sheet) (now text) ≡ Accepted) × (n ≡ recordsOf (now sheet)) × (n ≤ length (now marks)) ⌝ }
     ensures { λ r.
         ⌜ Answers (afterRun (now (sheet .entry)) (now (text .entry)) (now (marks .entry))) r (now (marks .exit)) ⌝ }
 {

@@ -22,8 +22,7 @@ use Rattle.setter.specs.Machine.{run, runAnswer}
 use Rattle.setter.specs.Answer.{settingAnswer, Answers}
 use Rattle.setter.specs.Setting.{afterRun, settingOf}
 use Rattle.setter.specs.declared.answer.Setting.{Setting}
-use Rattle.blocks.specs.Check.{checkedAnswer, outcome}
-use Rattle.blocks.specs.declared.answer.Checked.{Checked}
+use Rattle.blocks.specs.Check.{outcome}
 use Rattle.blocks.proofs.AnswerLaws.{value-word}
 use Rattle.leaves.specs.Text.Columns.{line}
 use Rattle.setter.specs.Listing.Film.{recordCount, behindCounts, filmSheet, textBehind, filmText, mostRecords, mostInput, filmOf, Reads}
@@ -56,11 +55,11 @@ unfolding settingOf afterRun
 ran w bytes m a h = rw (a, le-ltb _ _ h)
 
 -- ---- `list_sheet`: x is the report before the check, and y after it
-module _ (w bytes x : List ℕ) {y : List ℕ} {c : Checked} {number value : ℕ} (e : (checkedAnswer c, y) ≡ outcome w bytes x) (long : length x ≡ reportWords) (a : number ≡ checkedAnswer c .number) (b : value ≡ checkedAnswer c .value) where
-  answer-is : checkedAnswer c ≡ outcome w bytes x .0
+module _ (w bytes x : List ℕ) {y : List ℕ} {c : Answer} {number value : ℕ} (e : (c, y) ≡ outcome w bytes x) (long : length x ≡ reportWords) (a : number ≡ c .number) (b : value ≡ c .value) where
+  answer-is : c ≡ outcome w bytes x .0
   answer-is = ap (λ (u : Answer × List ℕ). u .0) e
 
-  checked-is : checkedWith w bytes ≡ checkedAnswer c
+  checked-is : checkedWith w bytes ≡ c
   checked-is = answer-same w bytes (replicate reportWords 0) x (length-replicate {A = ℕ} reportWords 0 ∙ sym long) ∙ sym answer-is
 
   pub value-fits : Fits w32 value

@@ -49,7 +49,13 @@ fn list_sheet(sheet: &[u32], text: &[u8], output: &mut [u8; OUTPUT_BYTES]) -> us
     if number != 0 {
         return write_refusal(output, number, value as u32);
     }
-    write_list(output, &report, value, setting_number(run), setting_value(run) as u32)
+    write_list(
+        output,
+        &report,
+        value,
+        setting_number(run),
+        setting_value(run) as u32,
+    )
 }
 
 // Prints what is found in a film, or why it is refused; answers how many bytes are printed.

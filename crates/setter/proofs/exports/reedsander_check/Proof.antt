@@ -1,14 +1,14 @@
 -- `setter::exports::reedsander_check` meets its contract.
-use Rattle.setter.proofs.PackedLaws.{number-fits, packed-done, value-fits}
+use Rattle.setter.proofs.ExportLaws.{check-fits, check-promise}
 use borrow.Author.Needs.{needs}
 use Rattle.setter.proofs.exports.reedsander_check.Statement.{statement}
 use Rattle.setter.proofs.exports.reedsander_check.Tie as tie
 
-add-result : tie.Need-add-result
-add-result c = let n = number-fits _ _ _ (c .before .before .before .before .check .ensures) (c .before .answer-number .ensures) in let v = value-fits _ _ _ (c .before .before .before .before .check .ensures) (c .before .answer-number .ensures) (c .answer-value .ensures) (search needs) in search needs
+packed-requires : tie.Need-packed-requires
+packed-requires c κs = check-fits _ _ _ (c .before .before .before .before .check .ensures) (c .before .answer-number .ensures) (c .answer-value .ensures)
 
 returns : tie.Need-returns
-returns c = packed-done _ _ _ (c .before .before .before .before .check .ensures) (c .before .answer-number .ensures) (c .answer-value .ensures)
+returns c = check-promise _ _ _ (c .before .before .before .before .before .check .ensures) (c .before .before .answer-number .ensures) (c .before .answer-value .ensures) (c .packed .ensures)
 
 pub reedsander-check-spec : {M : Type 1} → statement M
 reedsander-check-spec =
@@ -16,9 +16,7 @@ reedsander-check-spec =
     (tie.spec
     (λ c κs. search needs)
     (λ c κs. search needs)
-    (λ c. search needs)
     (λ c κs. search needs)
-    (λ c. search needs)
-    add-result
+    packed-requires
     (λ c. search needs)
     returns)

@@ -1,5 +1,5 @@
 -- `setter::listing::program::list_sheet` meets its contract.
-use Rattle.setter.proofs.listing.ProgramLaws.{value-fits, refusal-printed, list-few, list-printed}
+use Rattle.setter.proofs.listing.ProgramLaws.{value-fits, refusal-printed, list-few, at-fits, list-printed}
 use borrow.Author.Needs.{needs}
 use Rattle.setter.proofs.listing.program.list_sheet.Statement.{statement}
 use Rattle.setter.proofs.listing.program.list_sheet.Tie as tie
@@ -13,8 +13,11 @@ returns c = refusal-printed _ _ _ (c .before .before .before .before .before .be
 few : tie.Need-write-list-requires
 few c κs = list-few _ _ _ (c .before .before .before .before .before .before .before .before .before .check-and-set .ensures .check) (search needs) (c .before .before .before .before .before .before .answer-number .ensures) (c .before .before .before .before .before .answer-value .ensures) (c .before .before .before .before .if1 .left)
 
+at-word : tie.Need-cast-write-list
+at-word c = at-fits _ _ _ (c .before .before .before .before .before .before .before .before .before .check-and-set .ensures .check) (search needs) (c .before .before .before .before .before .before .answer-number .ensures) (c .before .before .before .before .before .answer-value .ensures) (c .before .before .before .before .if1 .left) _ (c .before .before .before .before .before .before .before .before .before .check-and-set .ensures .machine) (c .before .before .before .before .before .before .before .before .before .before .before .before .before .before .before .before .pre) (search needs) (c .before .setting-number .ensures) (c .setting-value .ensures)
+
 returns-2 : tie.Need-returns-2
-returns-2 c = list-printed _ _ _ (c .before .before .before .before .before .before .before .before .before .before .check-and-set .ensures .check) (search needs) (c .before .before .before .before .before .before .before .answer-number .ensures) (c .before .before .before .before .before .before .answer-value .ensures) (c .before .before .before .before .before .if1 .left) _ (c .before .before .before .before .before .before .before .before .before .before .check-and-set .ensures .machine) (c .before .before .before .before .before .before .before .before .before .before .before .before .before .before .before .before .before .pre) (search needs) (c .before .before .stop-number .ensures) (c .before .run-record .ensures) (c .write-list .ensures)
+returns-2 c = list-printed _ _ _ (c .before .before .before .before .before .before .before .before .before .before .check-and-set .ensures .check) (search needs) (c .before .before .before .before .before .before .before .answer-number .ensures) (c .before .before .before .before .before .before .answer-value .ensures) (c .before .before .before .before .before .if1 .left) _ (c .before .before .before .before .before .before .before .before .before .before .check-and-set .ensures .machine) (c .before .before .before .before .before .before .before .before .before .before .before .before .before .before .before .before .before .pre) (search needs) (c .before .before .setting-number .ensures) (c .before .setting-value .ensures) (c .write-list .ensures)
 
 pub list-sheet-spec : {M : Type 1} → statement M
 list-sheet-spec =
@@ -32,5 +35,6 @@ list-sheet-spec =
     returns
     (λ c κs. search needs)
     (λ c κs. search needs)
+    at-word
     few
     returns-2)
