@@ -43,7 +43,7 @@ module _ (w bytes report : List ℕ) where
     listed-some e s q left n d = rw (le-ltb (recordsOf w) 1 some, sym (ap isAccepted (judged .enum)) ∙ sym told ∙ e) (record { first = rw (← n) (ap (λ (u : Words). u .words) (d .lists .tally)); second = rw (← n) (d .lists .written) })
 
     pub list-starts : t ≡ true → Start w (0 ∷ []) (recordsOf w) 1
-    list-starts e = start-of (accepted w bytes (sym judged ∙ is-accepted j (sym told ∙ e))) refl (search needs) (search needs)
+    list-starts e = start-of (accepted w bytes (sym (judged .enum) ∙ is-accepted j (sym told ∙ e))) refl (search needs) (search needs)
 
 pub list-record : (r w text filled part wanted left : List ℕ) (n k m found : ℕ) (same : Bool) (t t₁ t₂ t₃ : Tally) → t₃ ≡ comparing same t₂ → t₂ ≡ comparing (leb n 800 && leb m 800 && eqb found m) t₁ → t₁ ≡ recorded t → same ≡ sameWords left wanted 0 → wanted ≡ partOf r (6 + n * 4 + k) (m * 4) → Gives (listedOf w text (replicate 800 0)) found left → w ≡ firstOf filled n → filled ≡ wordsOf 800 part → part ≡ partOf r 6 (n * 4) → text ≡ partOf r (6 + n * 4) k → n ≡ pairAt r 0 → k ≡ pairAt r 2 → m ≡ pairAt r 4 → t₃ ≡ listReplayed r t
 unfolding listReplayed listOf sheetIn
