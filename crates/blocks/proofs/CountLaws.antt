@@ -449,21 +449,16 @@ own-most bytes path r kids =
     (few-either (eqb (r .kind) leafDirective) (one _ _) no-entry)))))))))))
 
 -- How many entries one record of an accepted sheet may have: a code block 15, 26 and 27, and a line break 20, 30 and 37.
-abbrev pub entriesOfAccepted : ℕ
-entriesOfAccepted = 3
-
--- .. and one of any sheet: a container is charged with what it lists of its first two children where they are no tags
 abbrev pub entriesOfOne : ℕ
-entriesOfOne = 5
+entriesOfOne = 3
 
 unfoldable kindMost : ℕ → ℕ
 kindMost k = bit (eqb k list) + bit (eqb k codeBlock) + ownMost k + bit (eqb k blankLine) + tagMost k
 
--- with two to spare for a container
-kind-most : (k : ℕ) → kindMost k + 2 * bit (eqb k htmlContainer) ≤ entriesOfAccepted
+kind-most : (k : ℕ) → kindMost k ≤ entriesOfOne
 unfolding kindMost ownMost
 kind-most k =
-    let Most : ℕ → Type 0 = λ k. kindMost k + 2 * bit (eqb k htmlContainer) ≤ entriesOfAccepted in
+    let Most : ℕ → Type 0 = λ k. kindMost k ≤ entriesOfOne in
     kind-cases Most k list (omega arith)
     (λ e0. kind-cases Most k codeBlock (omega arith)
     (λ e1. kind-cases Most k footnoteDefinition (omega arith)
@@ -480,13 +475,13 @@ kind-most k =
     (λ e12. kind-cases Most k htmlTag (omega arith)
     (λ e13. rw (e0, e1, e2, e3, e4, e5, e6, e7, e8, e9, e10, e11, e12, e13) (omega arith)))))))))))))))
 
-block-most : (bytes path : List ℕ) (before : Before) (r : Rec) (kids : Forest) → blockCharge bytes path before r kids + 2 * bit (eqb (r .kind) htmlContainer) ≤ entriesOfAccepted + straysOf r kids
+block-most : (bytes path : List ℕ) (before : Before) (r : Rec) (kids : Forest) → blockCharge bytes path before r kids ≤ entriesOfOne + straysOf r kids
 unfolding blockCharge kindMost
 block-most bytes path before r kids =
     omega
     (arith, kind-most (r .kind), taken-most path (r .span) before (r .kind) (r .a) (r .b) .few, own-most bytes path r kids .few, tag-most r)
 
-item-most : (path : List ℕ) (ordered : ℕ) (r : Rec) (kids : Forest) → length (itemEntries path ordered r kids) ≤ entriesOfAccepted
+item-most : (path : List ℕ) (ordered : ℕ) (r : Rec) (kids : Forest) → length (itemEntries path ordered r kids) ≤ entriesOfOne
 unfolding itemEntries validateTaskItem validateItemNumber
 item-most path ordered r kids = few-then (number-most (itemNumber (r .b) (r .c))) (one-entry _ _ _ _) .few
   where
@@ -494,39 +489,10 @@ item-most path ordered r kids = few-then (number-most (itemNumber (r .b) (r .c))
     number-most Absent = record { few = omega arith }
     number-most (Present number) = few-then (one-entry _ _ _ _) (one-entry _ _ _ _)
 
--- ---- any sheet
-
-stray-most : (r : Rec) → strayFaults r ≤ 2
-stray-most r = omega (arith, parts-split r, parts-most r)
-
-strays-most : (kids : Forest) → strays kids ≤ 4
-unfolding strays
-strays-most none = omega arith
-strays-most (tree opening _ none) = omega arith
-strays-most (tree opening _ (tree closing _ _)) = omega (arith, stray-most opening, stray-most closing)
-
-strays-of : (r : Rec) (kids : Forest) → straysOf r kids ≤ 4 * bit (eqb (r .kind) htmlContainer)
-strays-of r kids = go (eqb (r .kind) htmlContainer) refl
-  where
-    go : (b : Bool) → eqb (r .kind) htmlContainer ≡ b → straysOf r kids ≤ 4 * bit (eqb (r .kind) htmlContainer)
-    go true e = rw e (strays-most kids)
-    go false e = rw e (omega arith)
-
+-- ---- an accepted sheet: the first two children of a container are tags
 size-of : (w : List ℕ) → size (forestOf w) ≡ recordsOf w
 unfolding forestOf
 size-of w = size-at w (recordsOf w) 0
-
-pub few-listed : (w bytes : List ℕ) → length (validateDocument w bytes) ≤ entriesOfOne * recordsOf w
-unfolding validateDocument
-few-listed w bytes =
-    rw (← size-of w)
-    (walk-few bytes entriesOfOne (λ path rule before r kids. omega (arith, inline-most bytes tagFaults tag-most path rule before r kids)) (omega arith)
-    (λ f. Unit {0}) (λ r kids rest fine. tt) (λ r kids rest fine. tt)
-    (λ path before r kids rest fine. omega (arith, block-most bytes path before r kids, strays-of r kids, bit-most (eqb (r .kind) htmlContainer)))
-    (λ path ordered r kids. omega (arith, item-most path ordered r kids))
-    (forestOf w) tt)
-
--- ---- an accepted sheet: the first two children of a container are tags
 
 container-strays : (bytes : List ℕ) (l a : ℕ) (kids : Forest) → Formed bytes l (opened (parentGroup htmlContainer a)) kids → strays kids ≡ 0
 unfolding Formed strays strayFaults opened joined
@@ -551,11 +517,11 @@ record Stands (bytes : List ℕ) (f : Forest) : Type 0 where
   state : Open
   formed : Formed bytes level state f
 
-pub few-accepted : (w bytes : List ℕ) → judgeSheet w bytes ≡ Accepted → length (validateDocument w bytes) ≤ entriesOfAccepted * recordsOf w
+pub few-accepted : (w bytes : List ℕ) → judgeSheet w bytes ≡ Accepted → length (validateDocument w bytes) ≤ entriesOfOne * recordsOf w
 unfolding validateDocument Formed
 few-accepted w bytes a =
     rw (← size-of w)
-    (walk-few bytes entriesOfAccepted (inline-most bytes tagFaults tag-most) (omega arith) (Stands bytes)
+    (walk-few bytes entriesOfOne (inline-most bytes tagFaults tag-most) (omega arith) (Stands bytes)
     (λ r kids rest fine. record { level = fine .level + 1; state = opened (parentGroup (r .kind) (r .a)); formed = fine .formed .1 })
     (λ r kids rest fine. record { level = fine .level; state = joined (fine .state) (r .kind); formed = fine .formed .2 })
     (λ path before r kids rest fine. omega (arith, block-most bytes path before r kids, no-strays bytes (fine .level + 1) r kids (fine .formed .1)))

@@ -136,10 +136,10 @@ everything =
     ++ plain text 2
     ++ plain paragraph 2
 
--- it is accepted; with an inline under the sheet behind it, that record, 68, is misplaced
-every-kind : (judgeSheet everything euro ≡ Accepted) × (judgeSheet (everything ++ plain text 1) euro ≡ Refused (Misplaced 68))
+-- it is accepted
+every-kind : judgeSheet everything euro ≡ Accepted
 unfolding computed
-every-kind = (refl, refl)
+every-kind = refl
 
 -- ---- 1: odd sheet; 2: long sheet; 3: long text
 
@@ -196,10 +196,10 @@ deepest = (refl, refl)
 
 -- ---- 6: misplaced
 
--- an item, an attribute, a tag and an inline under the sheet; an item under a list
-under-sheet : (judgeSheet (plain item 1) [] ≡ Refused (Misplaced 0)) × (judgeSheet (plain attribute 1) [] ≡ Refused (Misplaced 0)) × (judgeSheet (plain htmlTag 1) [] ≡ Refused (Misplaced 0)) × (judgeSheet (plain text 1) [] ≡ Refused (Misplaced 0)) × (judgeSheet (plain list 1 ++ plain item 2) [] ≡ Accepted)
+-- an item, an attribute, a tag and an inline under the sheet (`known` has an item under a list)
+under-sheet : (judgeSheet (plain item 1) [] ≡ Refused (Misplaced 0)) × (judgeSheet (plain attribute 1) [] ≡ Refused (Misplaced 0)) × (judgeSheet (plain htmlTag 1) [] ≡ Refused (Misplaced 0)) × (judgeSheet (plain text 1) [] ≡ Refused (Misplaced 0))
 unfolding computed
-under-sheet = (refl, refl, refl, refl, refl)
+under-sheet = (refl, refl, refl, refl)
 
 -- a paragraph in a paragraph, in a list and in an item; an inline in a block quote; an inline under a text and under a strong
 under-block : (judgeSheet (plain paragraph 1 ++ plain paragraph 2) [] ≡ Refused (Misplaced 1)) × (judgeSheet (plain list 1 ++ plain paragraph 2) [] ≡ Refused (Misplaced 1)) × (judgeSheet (plain list 1 ++ plain item 2 ++ plain paragraph 3) [] ≡ Accepted) × (judgeSheet (plain blockQuote 1 ++ plain text 2) [] ≡ Refused (Misplaced 1)) × (judgeSheet (plain paragraph 1 ++ plain text 2 ++ plain text 3) [] ≡ Refused (Misplaced 2)) × (judgeSheet (plain paragraph 1 ++ plain strong 2 ++ plain text 3) [] ≡ Accepted)
@@ -226,10 +226,10 @@ tags : (judgeSheet (plain htmlContainer 1 ++ plain htmlTag 2 ++ plain htmlTag 2 
 unfolding computed
 tags = (refl, refl, refl, refl, refl, refl)
 
--- content of its sort: an inline in a container of blocks and in one of inlines; a block in each
-sorts : (judgeSheet (plain htmlContainer 1 ++ plain htmlTag 2 ++ plain htmlTag 2 ++ plain text 2) [] ≡ Refused (Misplaced 3)) × (judgeSheet (valued htmlContainer 1 1 0 0 ++ plain htmlTag 2 ++ plain htmlTag 2 ++ plain text 2) [] ≡ Accepted) × (judgeSheet (valued htmlContainer 1 1 0 0 ++ plain htmlTag 2 ++ plain htmlTag 2 ++ plain paragraph 2) [] ≡ Refused (Misplaced 3)) × (judgeSheet (plain htmlContainer 1 ++ plain htmlTag 2 ++ plain htmlTag 2 ++ plain paragraph 2) [] ≡ Accepted)
+-- content of its sort: an inline in a container of blocks and in one of inlines; a block in one of inlines (`tags` has one in a container of blocks)
+sorts : (judgeSheet (plain htmlContainer 1 ++ plain htmlTag 2 ++ plain htmlTag 2 ++ plain text 2) [] ≡ Refused (Misplaced 3)) × (judgeSheet (valued htmlContainer 1 1 0 0 ++ plain htmlTag 2 ++ plain htmlTag 2 ++ plain text 2) [] ≡ Accepted) × (judgeSheet (valued htmlContainer 1 1 0 0 ++ plain htmlTag 2 ++ plain htmlTag 2 ++ plain paragraph 2) [] ≡ Refused (Misplaced 3))
 unfolding computed
-sorts = (refl, refl, refl, refl)
+sorts = (refl, refl, refl)
 
 -- ---- 7: bad field
 

@@ -6,7 +6,7 @@ use Rattle.leaves.proofs.refusal.fields.has_first.Tie as tie
 
 returns : tie.Need-returns
 unfolding hasFirst
-returns c = cc
+returns c = rw (c .names-link .ensures, c .before .names-name .ensures, c .before .before .names-identifier .ensures, c .before .before .before .names-value .ensures)
 
 pub has-first-spec : {M : Type 1} → statement M
 has-first-spec =

@@ -6,7 +6,7 @@ use Rattle.leaves.proofs.refusal.fields.most_a.Tie as tie
 
 returns : tie.Need-returns
 unfolding mostA
-returns c = cc
+returns c = rw (c .pick5 .ensures, c .before .pick4 .ensures, c .before .before .pick3 .ensures, c .before .before .before .pick2 .ensures, c .before .before .before .before .pick .ensures)
 
 pub most-a-spec : {M : Type 1} → statement M
 most-a-spec =

@@ -6,7 +6,7 @@ use Rattle.leaves.proofs.refusal.fields.most_b.Tie as tie
 
 returns : tie.Need-returns
 unfolding mostB
-returns c = cc
+returns c = rw (c .pick3 .ensures, c .before .pick2 .ensures, c .before .before .pick .ensures)
 
 pub most-b-spec : {M : Type 1} → statement M
 most-b-spec =

@@ -6,7 +6,7 @@ use Rattle.leaves.proofs.refusal.fields.most_c.Tie as tie
 
 returns : tie.Need-returns
 unfolding mostC
-returns c = cc
+returns c = rw (c .pick2 .ensures, c .before .pick .ensures)
 
 pub most-c-spec : {M : Type 1} → statement M
 most-c-spec =

@@ -6,7 +6,7 @@ use Rattle.leaves.proofs.refusal.places.place_of.Tie as tie
 
 returns : tie.Need-returns
 unfolding placeOf
-returns c = cc
+returns c = rw (c .place-at .ensures, c .before .child-group .ensures)
 
 pub place-of-spec : {M : Type 1} → statement M
 place-of-spec =

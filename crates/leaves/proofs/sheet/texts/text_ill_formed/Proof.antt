@@ -7,7 +7,7 @@ use Rattle.leaves.proofs.sheet.texts.text_ill_formed.Tie as tie
 
 returns-2 : tie.Need-returns-2
 unfolding textIllFormed
-returns-2 c = cc
+returns-2 c = rw (c .is-utf8 .ensures, c .before .text-of .ensures)
 
 pub text-ill-formed-spec : {M : Type 1} → statement M
 text-ill-formed-spec =

@@ -6,7 +6,7 @@ use Rattle.leaves.proofs.sheet.texts.text_of.Tie as tie
 
 returns : tie.Need-returns
 unfolding textOf
-returns c = cc
+returns c = c .part .ensures
 
 pub text-of-spec : {M : Type 1} → statement M
 text-of-spec =
