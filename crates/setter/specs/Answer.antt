@@ -36,8 +36,8 @@ isProper (Stopped stop i) = between 1 lastStop stop
 isProper (Refused refusal) = true
 isProper ShortMarks = true
 
--- the answer s, with the marks after it, is the answer and the marks of p. No other answer has its number and value, since
--- it is one that can be.
+-- the answer s and the marks after it are the answer and the marks of p; and s can be, so that its number and value tell
+-- which answer it is (`setting-one` in proofs/SetLaws.antt)
 pub record Answers (p : Answer × List ℕ) (s : Setting) (marked : List ℕ) : Type 0 where
   pub answer : (settingAnswer s, marked) ≡ p
   pub proper : isProper s ≡ true
