@@ -17,18 +17,18 @@ leadBits b = if ltb b 0x80 then b else if ltb b 0xE0 then b % 0x20 else if ltb b
 unfoldable pub trailBits : ℕ → ℕ → ℕ
 trailBits value b = value * 0x40 + b % 0x40
 
--- a sequence with nothing owed is whole, and its value comes first
+-- a sequence with nothing expected is whole, and its value comes first
 unfoldable pub emit : List Range → ℕ → List ℕ → List ℕ
 emit [] value rest = value ∷ rest
-emit (r ∷ owed) value rest = rest
+emit (r ∷ expected) value rest = rest
 
--- The scalar values, where the columns `owed` of a row have still to come and its bytes so far give `value`.
+-- The scalar values, where the columns `expected` of a row have still to come and its bytes so far give `value`.
 unfoldable pub decode : List Range → ℕ → List ℕ → List ℕ
 decode [] value [] = []
-decode (r ∷ owed) value [] = replacement ∷ []
+decode (r ∷ expected) value [] = replacement ∷ []
 decode [] value (b ∷ s) = emit (follow table b) (leadBits b) (decode (follow table b) (leadBits b) s)
-decode (r ∷ owed) value (b ∷ s) =
-    let goes-on = emit owed (trailBits value b) (decode owed (trailBits value b) s) in
+decode (r ∷ expected) value (b ∷ s) =
+    let goes-on = emit expected (trailBits value b) (decode expected (trailBits value b) s) in
     let begins = emit (follow table b) (leadBits b) (decode (follow table b) (leadBits b) s) in
     if within r b then goes-on else replacement ∷ begins
 

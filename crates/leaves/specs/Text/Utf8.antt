@@ -46,12 +46,12 @@ follow [] b = nothing ∷ []
 follow ([] ∷ rows) b = follow rows b
 follow ((first ∷ others) ∷ rows) b = if within first b then others else follow rows b
 
--- Whether bytes are well-formed where the columns `owed` of a row have still to come.
+-- Whether bytes are well-formed where the columns `expected` of a row have still to come.
 unfoldable pub wellFormed : List Range → List ℕ → Bool
 wellFormed [] [] = true
 wellFormed [] (b ∷ s) = wellFormed (follow table b) s
-wellFormed (r ∷ owed) [] = false
-wellFormed (r ∷ owed) (b ∷ s) = within r b && wellFormed owed s
+wellFormed (r ∷ expected) [] = false
+wellFormed (r ∷ expected) (b ∷ s) = within r b && wellFormed expected s
 
 -- Whether a text is well-formed by itself.
 unfoldable pub isUtf8 : List ℕ → Bool

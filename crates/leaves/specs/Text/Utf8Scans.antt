@@ -5,12 +5,12 @@ use mathlib.Core.List.{List, [], _∷_}
 use Rattle.leaves.specs.Text.Lists.{if_then_else_}
 use Rattle.leaves.specs.Text.Utf8.{Range, within, follow, table}
 
--- b is not what is owed
+-- b is not what is expected
 unfoldable pub breaks : List Range → ℕ → Bool
 breaks [] b = false
-breaks (r ∷ owed) b = not (within r b)
+breaks (r ∷ expected) b = not (within r b)
 
--- what is owed after b: less by one, or what follows a first byte
-unfoldable pub owedAfter : List Range → ℕ → List Range
-owedAfter [] b = follow table b
-owedAfter (r ∷ owed) b = if within r b then owed else follow table b
+-- what is expected after b: less by one, or what follows a first byte
+unfoldable pub expectedAfter : List Range → ℕ → List Range
+expectedAfter [] b = follow table b
+expectedAfter (r ∷ expected) b = if within r b then expected else follow table b
