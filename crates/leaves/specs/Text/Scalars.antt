@@ -1,5 +1,7 @@
--- The scalar values that bytes encode: The Unicode Standard, section 3.9, tables 3-6 ('UTF-8 Bit Distribution') and 3-7.
--- Of well-formed bytes these are their characters. An ill-formed sequence gives U+FFFD and ends before the byte that does not fit, which begins the next (the standard's 'Substitution of Maximal Subparts'), so that every list of bytes has its scalar values.
+-- The scalar values that bytes encode: The Unicode Standard, section 3.9, tables 3-6 ('UTF-8 Bit Distribution') and
+-- 3-7. For well-formed bytes these are their characters. An ill-formed sequence gives U+FFFD and ends before the byte
+-- that does not fit; that byte begins the next sequence (the standard's 'Substitution of Maximal Subparts'). So every
+-- list of bytes has its scalar values.
 use Prim.Native.Nat.{ℕ, _+_, _*_, _%_}
 use mathlib.Core.List.{List, [], _∷_}
 use lib.Dec.{ltb}
@@ -17,12 +19,12 @@ leadBits b = if ltb b 0x80 then b else if ltb b 0xE0 then b % 0x20 else if ltb b
 unfoldable pub trailBits : ℕ → ℕ → ℕ
 trailBits value b = value * 0x40 + b % 0x40
 
--- a sequence with nothing expected is whole, and its value comes first
+-- a sequence that expects no more bytes is whole, and its value comes first
 unfoldable pub emit : List Range → ℕ → List ℕ → List ℕ
 emit [] value rest = value ∷ rest
 emit (r ∷ expected) value rest = rest
 
--- The scalar values, where the columns `expected` of a row have still to come and its bytes so far give `value`.
+-- The scalar values, where the columns `expected` of a row are still to come and its bytes so far give `value`.
 unfoldable pub decode : List Range → ℕ → List ℕ → List ℕ
 decode [] value [] = []
 decode (r ∷ expected) value [] = replacement ∷ []

@@ -3,21 +3,22 @@ ghost use mathlib.Core.Path.{_≡_};
 ghost use Prim.Native.Nat.{_+_, _<_, _≤_, min};
 ghost use lib.ListN.{length, drop};
 ghost use Rattle.leaves.specs.Text.Utf8.{isUtf8, wellFormed, follow, table};
-ghost use Rattle.leaves.specs.Text.Utf8Scans.{breaks, expectedAfter};
+ghost use Rattle.leaves.specs.Text.Utf8Scans.{breaks, expectedAfter, stretch};
 ghost use Rattle.leaves.specs.Text.Utf8Expected.{expectedOf, Expects};
 use crate::text::chunk;
 
+// How many bytes are read one at a time before chunks of ASCII are looked for again.
 const STRETCH: usize = 64;
 
-// What is expected of a sequence that has begun: how many bytes, and the range of the next.
-// Those after the next are from 0x80 to 0xBF, and so is the range where nothing is expected.
+// What a sequence that has begun expects: how many more bytes, and the range of the next one. The bytes after the next
+// must be from 0x80 to 0xBF. Where no more bytes are expected, the range is 0x80 to 0xBF too.
 pub(crate) struct Expected {
     pub more: u8,
     pub low: u8,
     pub high: u8,
 }
 
-// What follows a first byte. A byte that begins no sequence is followed by nothing that fits.
+// What is expected after the first byte of a sequence. After a byte that begins none: a range that no byte fits.
 fn follow(b: u8) -> Expected
     ensures { λ r. ⌜ Expects (follow table b) r ⌝ }
 {
@@ -105,7 +106,7 @@ fn follow_of_four(b: u8) -> Expected
     }
 }
 
-// Whether `b` is not what is expected.
+// Whether a byte is expected and `b` does not fit.
 pub(crate) fn breaks(expected: Expected, b: u8) -> bool
     ensures { λ r. ⌜ r ≡ breaks (expectedOf expected) b ⌝ }
 {
@@ -132,12 +133,13 @@ pub(crate) fn expected_after(expected: Expected, b: u8) -> Expected
     }
 }
 
-// What is expected at `end`, where `expected` is expected at `from`: what no byte fits, where a byte between them is not
-// what was expected. By which numbers the answer says so is left open; what holds of it is that the bytes from `end`
-// on are well-formed after it exactly where those from `from` on are after `expected`.
+// What is expected at `end`, where `expected` is expected at `from`. Where a byte between them does not fit, the answer
+// is a range that no byte fits; which one is left open. What holds of the answer is that the bytes from `end` on are
+// well-formed after it exactly where the bytes from `from` on are well-formed after `expected`.
 fn expected_at(s: &[u8], from: usize, end: usize, expected: Expected) -> Expected
     requires { ⌜ (from ≤ end) × (end ≤ length (now s)) ⌝ }
-    ensures { λ r. ⌜ wellFormed (expectedOf r) (drop end (now (s .entry))) ≡ wellFormed (expectedOf expected) (drop from (now (s .entry))) ⌝ }
+    ensures { λ r. ⌜ wellFormed (expectedOf r) (drop end (now (s .entry)))
+        ≡ wellFormed (expectedOf expected) (drop from (now (s .entry))) ⌝ }
 {
     let mut o = expected;
     let mut i = from;
@@ -155,7 +157,7 @@ fn expected_at(s: &[u8], from: usize, end: usize, expected: Expected) -> Expecte
 // The end of a stretch of at most `STRETCH` bytes from `i` on.
 fn stretch_end(len: usize, i: usize) -> usize
     requires { ⌜ i ≤ len ⌝ }
-    ensures { λ r. ⌜ r ≡ min len (i + 64) ⌝ }
+    ensures { λ r. ⌜ r ≡ min len (i + stretch) ⌝ }
 {
     if len - i < STRETCH {
         return len;
@@ -163,12 +165,15 @@ fn stretch_end(len: usize, i: usize) -> usize
     i + STRETCH
 }
 
-// Past ASCII, sixteen bytes at once, where nothing is expected. How far is left open: only speed depends on it. What
-// holds of the answer is that it lies between `i` and the end, and that passing over the bytes between changes
-// nothing: the rest is well-formed after `expected` exactly where all from `i` on is.
+// Passes over chunks of ASCII where no more bytes are expected. How far it goes is left open: only speed depends on it.
+// What holds of the answer is that it lies between `i` and the end, and that the bytes from it on are well-formed after
+// `expected` exactly where the bytes from `i` on are.
 fn past_ascii(s: &[u8], i: usize, expected: Expected) -> usize
     requires { ⌜ i ≤ length (now s) ⌝ }
-    ensures { λ r. ⌜ (i ≤ r) × (r ≤ length (now (s .entry))) × (wellFormed (expectedOf expected) (drop i (now (s .entry))) ≡ wellFormed (expectedOf expected) (drop r (now (s .entry)))) ⌝ }
+    ensures { λ r. ⌜ (i ≤ r)
+        × (r ≤ length (now (s .entry)))
+        × (wellFormed (expectedOf expected) (drop i (now (s .entry)))
+        ≡ wellFormed (expectedOf expected) (drop r (now (s .entry)))) ⌝ }
 {
     if expected.more == 0 {
         return chunk::past_ascii(s, i);
@@ -176,8 +181,8 @@ fn past_ascii(s: &[u8], i: usize, expected: Expected) -> usize
     i
 }
 
-// ASCII is passed over, and then a stretch is read a byte at a time: among other characters a chunk is seldom
-// all ASCII.
+// Passes over chunks of ASCII, then reads a stretch a byte at a time: among other characters a chunk is seldom all
+// ASCII.
 pub fn is_utf8(s: &[u8]) -> bool
     ensures { λ r. ⌜ r ≡ isUtf8 (now (s .entry)) ⌝ }
 {

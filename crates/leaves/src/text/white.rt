@@ -45,7 +45,7 @@ fn lead_bits(b: u8) -> u32
     wide % 0x08
 }
 
-// The value of the bits so far, with those of `b`.
+// The value of a character's bits so far, with those of `b`.
 fn value_after(expected: Expected, value: u32, b: u8) -> u32
     requires { ⌜ value < room (expected .more) ⌝ }
     ensures { λ r. ⌜ Valued (expectedOf expected) value b r ⌝ }
@@ -105,7 +105,7 @@ fn wide(b: u8) -> u32
     b as u32
 }
 
-// The last scalar value so far: that of a sequence that is whole, or of one that was broken.
+// The last scalar value so far: `value` where a sequence is now whole, U+FFFD where one was broken, else `last`.
 fn last_after(whole: bool, broken: bool, value: u32, last: u32) -> u32
     ensures { λ r. ⌜ r ≡ (if whole then value else if broken then replacement else last) ⌝ }
 {
@@ -118,7 +118,7 @@ fn last_after(whole: bool, broken: bool, value: u32, last: u32) -> u32
     last
 }
 
-// The same as `ends_with_white`, from the first byte on.
+// The same as `ends_with_white`, but reads every byte.
 fn last_is_white(s: &[u8]) -> bool
     ensures { λ r. ⌜ r ≡ endsWithWhite (now (s .entry)) ⌝ }
 {
@@ -141,7 +141,7 @@ fn last_is_white(s: &[u8]) -> bool
     (expected.more == 0) & is_white(last)
 }
 
-// Only the bytes of the last character are read.
+// Reads the bytes of the last character only.
 pub fn ends_with_white(s: &[u8]) -> bool
     ensures { λ r. ⌜ r ≡ endsWithWhite (now (s .entry)) ⌝ }
 {
