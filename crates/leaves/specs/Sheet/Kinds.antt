@@ -144,7 +144,7 @@ textDirective = 52
 abbrev pub tag : ℕ
 tag = 53
 
--- one of the kinds listed
+-- whether k is one of the kinds listed
 abbrev pub orAmong : Bool → ℕ → List ℕ → Bool
 orAmong found k [] = found
 orAmong found k (n ∷ ns) = orAmong (found || eqb k n) k ns

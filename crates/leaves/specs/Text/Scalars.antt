@@ -15,7 +15,7 @@ replacement = 0xFFFD
 unfoldable pub leadBits : ℕ → ℕ
 leadBits b = if ltb b 0x80 then b else if ltb b 0xE0 then b % 0x20 else if ltb b 0xF0 then b % 0x10 else b % 0x08
 
--- the value with the six bits of one byte more
+-- the value with the six bits of one more byte
 unfoldable pub trailBits : ℕ → ℕ → ℕ
 trailBits value b = value * 0x40 + b % 0x40
 

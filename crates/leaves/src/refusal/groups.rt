@@ -72,7 +72,7 @@ const GROUPS: [[u32; 2]; 54] = [
 ];
 
 // The table of groups. A constant array is copied at each mention, so `judge_records` makes it once and lends it to the
-// functions that read it. They ask only that their parameter `groups` is this table.
+// functions that read it. All that they ask of their parameter `groups` is that it is this table.
 pub(crate) fn groups() -> [[u32; 2]; 54]
     ensures { λ r. ⌜ r ≡ kindGroups ⌝ }
 {

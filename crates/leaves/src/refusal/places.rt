@@ -44,7 +44,7 @@ pub struct Open {
 }
 
 // The table of places. A constant array is copied at each mention, so `judge_records` makes it once and lends it to the
-// functions that read it. They ask only that their parameter `table` is this table.
+// functions that read it. All that they ask of their parameter `table` is that it is this table.
 pub(crate) fn table() -> [[u32; 7]; 10]
     ensures { λ r. ⌜ r ≡ placeTable ⌝ }
 {

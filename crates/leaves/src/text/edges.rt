@@ -8,7 +8,7 @@ ghost use Rattle.leaves.specs.Text.EdgeScans.{lastBlank, Led, Ended};
 use crate::text::bytes;
 use crate::text::lines::is_cr_of_crlf;
 
-// Where the first byte stands that is no space and no tab; the length where there is none.
+// The place of the first byte that is no space and no tab; the length where there is none.
 fn leading_blanks(s: &[u8]) -> usize
     ensures { λ r. ⌜ Led (now (s .entry)) r ⌝ }
 {
@@ -44,8 +44,8 @@ fn last_line_is_blank(s: &[u8], from: usize) -> bool
     last
 }
 
-// Where the last byte after `at` stands that is neither blank nor a line ending; `at` where there is none. Reading
-// from there on tells whether the last line is blank.
+// The place of the last byte after `at` that is neither blank nor a line ending; `at` where there is none. The last
+// line is blank exactly where it is blank when read from there on.
 fn last_solid(s: &[u8], at: usize) -> usize
     requires { ⌜ at < length (now s) ⌝ }
     ensures { λ r. ⌜ Ended (now (s .entry)) at r ⌝ }

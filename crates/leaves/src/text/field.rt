@@ -64,7 +64,7 @@ fn read_digits(s: &[u8]) -> Column
     Column::Number(n as u32)
 }
 
-// The number of at least one digit, with no 0 in front of other digits.
+// The number of one or more digits; malformed where a 0 stands in front of other digits.
 fn read_number(s: &[u8]) -> Column
     ensures { λ r. ⌜ r ≡ readNumber (now (s .entry)) ⌝ }
 {
