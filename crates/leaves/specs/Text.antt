@@ -20,7 +20,7 @@ pub mod Scalars
 pub mod Title
 pub mod Trim
 pub mod Utf8
-pub mod Utf8Owed
+pub mod Utf8Expected
 pub mod Utf8Scans
 pub mod White
 pub mod WhiteScans

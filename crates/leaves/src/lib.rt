@@ -1,4 +1,5 @@
-// The leaves: what is asked of bytes and texts; the sheet's records; which sheets are refused; the report. Each module's definitions are in the file of specs/ that bears its name.
+// The leaves: what the rules ask of bytes and texts, the sheet's records, which sheets are refused, and the report.
+// The definitions of each module are in the file of specs/ that has its name.
 pub mod refusal;
 pub mod report;
 pub mod sheet;

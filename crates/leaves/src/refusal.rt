@@ -2,6 +2,7 @@
 mod fields;
 mod groups;
 pub mod judge;
+mod limits;
 pub mod places;
 mod record;
 mod tags;

@@ -12,9 +12,9 @@ use Rattle.leaves.specs.Text.Bytes.{between}
 use Rattle.leaves.specs.Text.Lists.{if_then_else_, none, firstOr, lastOr}
 use Rattle.leaves.specs.Text.Utf8.{Range, within, trail, table, follow}
 use Rattle.leaves.specs.Text.Scalars.{replacement, leadBits, trailBits, emit, decode, scalars}
-use Rattle.leaves.specs.Text.Utf8Scans.{breaks, owedAfter}
+use Rattle.leaves.specs.Text.Utf8Scans.{breaks, expectedAfter}
 use Rattle.leaves.specs.Text.WhiteScans.{valueAfter, room, Valued, Begins}
-use Rattle.leaves.specs.Text.Utf8Owed.{columns}
+use Rattle.leaves.specs.Text.Utf8Expected.{columns}
 use Rattle.leaves.specs.Text.White.{isWhite, endsWithWhite}
 use Rattle.leaves.proofs.text.ScanLaws.{next}
 use Rattle.leaves.proofs.text.TestLaws.{allBelow, each, and-left, and-right}
@@ -54,12 +54,12 @@ lead-fits : (b : ℕ) → b < 256 → leadBits b < room (length (follow table b)
 unfolding allBelow lead-test leadBits follow table
 lead-fits b h = ltb-true _ _ (each lead-test 256 refl b h)
 
-fits-after : (o : List Range) (value b : ℕ) → b < 256 → value < room (length o) → valueAfter o value b < room (length (owedAfter o b))
-unfolding valueAfter owedAfter
+fits-after : (o : List Range) (value b : ℕ) → b < 256 → value < room (length o) → valueAfter o value b < room (length (expectedAfter o b))
+unfolding valueAfter expectedAfter
 fits-after [] value b h k = lead-fits b h
 fits-after (r ∷ o) value b h k = go (within r b) refl
   where
-    go : (t : Bool) → within r b ≡ t → valueAfter (r ∷ o) value b < room (length (owedAfter (r ∷ o) b))
+    go : (t : Bool) → within r b ≡ t → valueAfter (r ∷ o) value b < room (length (expectedAfter (r ∷ o) b))
     go true e = rw e (room-falls (length o) value b k)
     go false e = rw e (lead-fits b h)
 
@@ -107,8 +107,8 @@ module _ (more low high value b : ℕ) (h : value < room more) (k : b < 256) whe
   pub valued-next : (more ≡ 0 → ⊥) → (ltb b low || ltb high b) ≡ false → Valued (columns more low high) value b (value * 0x40 + b % 0x40)
   valued-next e n = kept (value-next more low high value b e n)
 
--- the columns of `more` bytes are what is owed after b
-pub room-kept : (more low high : ℕ) (o : List Range) (value b v : ℕ) → Valued o value b v → columns more low high ≡ owedAfter o b → v < room more
+-- the columns of `more` bytes are what is expected after b
+pub room-kept : (more low high : ℕ) (o : List Range) (value b v : ℕ) → Valued o value b v → columns more low high ≡ expectedAfter o b → v < room more
 room-kept more low high o value b v d e = rw (← long more low high, e) (d .small)
 
 -- ---- one byte more
@@ -117,12 +117,12 @@ unfolding emit lastOr none
 last-emit [] v d s = refl
 last-emit (r ∷ o) v d s = refl
 
-last-step : (o : List Range) (v d b : ℕ) (s : List ℕ) → lastOr d (decode o v (b ∷ s)) ≡ lastOr (if none (owedAfter o b) then valueAfter o v b else if breaks o b then replacement else d) (decode (owedAfter o b) (valueAfter o v b) s)
-unfolding decode owedAfter valueAfter breaks lastOr
+last-step : (o : List Range) (v d b : ℕ) (s : List ℕ) → lastOr d (decode o v (b ∷ s)) ≡ lastOr (if none (expectedAfter o b) then valueAfter o v b else if breaks o b then replacement else d) (decode (expectedAfter o b) (valueAfter o v b) s)
+unfolding decode expectedAfter valueAfter breaks lastOr
 last-step [] v d b s = last-emit (follow table b) (leadBits b) d (decode (follow table b) (leadBits b) s)
 last-step (r ∷ o) v d b s = go (within r b) refl
   where
-    go : (t : Bool) → within r b ≡ t → lastOr d (decode (r ∷ o) v (b ∷ s)) ≡ lastOr (if none (owedAfter (r ∷ o) b) then valueAfter (r ∷ o) v b else if breaks (r ∷ o) b then replacement else d) (decode (owedAfter (r ∷ o) b) (valueAfter (r ∷ o) v b) s)
+    go : (t : Bool) → within r b ≡ t → lastOr d (decode (r ∷ o) v (b ∷ s)) ≡ lastOr (if none (expectedAfter (r ∷ o) b) then valueAfter (r ∷ o) v b else if breaks (r ∷ o) b then replacement else d) (decode (expectedAfter (r ∷ o) b) (valueAfter (r ∷ o) v b) s)
     go true e = rw e (last-emit o (trailBits v b) d (decode o (trailBits v b) s))
     go false e = rw e (last-emit (follow table b) (leadBits b) replacement (decode (follow table b) (leadBits b) s))
 
@@ -135,12 +135,12 @@ unfolding emit firstOr none
 first-emit [] v d s = refl
 first-emit (r ∷ o) v d s = refl
 
-first-step : (o : List Range) (v b : ℕ) (s : List ℕ) → firstOr replacement (decode o v (b ∷ s)) ≡ (if breaks o b then replacement else if none (owedAfter o b) then valueAfter o v b else firstOr replacement (decode (owedAfter o b) (valueAfter o v b) s))
-unfolding decode owedAfter valueAfter breaks firstOr
+first-step : (o : List Range) (v b : ℕ) (s : List ℕ) → firstOr replacement (decode o v (b ∷ s)) ≡ (if breaks o b then replacement else if none (expectedAfter o b) then valueAfter o v b else firstOr replacement (decode (expectedAfter o b) (valueAfter o v b) s))
+unfolding decode expectedAfter valueAfter breaks firstOr
 first-step [] v b s = first-emit (follow table b) (leadBits b) replacement (decode (follow table b) (leadBits b) s)
 first-step (r ∷ o) v b s = go (within r b) refl
   where
-    go : (t : Bool) → within r b ≡ t → firstOr replacement (decode (r ∷ o) v (b ∷ s)) ≡ (if breaks (r ∷ o) b then replacement else if none (owedAfter (r ∷ o) b) then valueAfter (r ∷ o) v b else firstOr replacement (decode (owedAfter (r ∷ o) b) (valueAfter (r ∷ o) v b) s))
+    go : (t : Bool) → within r b ≡ t → firstOr replacement (decode (r ∷ o) v (b ∷ s)) ≡ (if breaks (r ∷ o) b then replacement else if none (expectedAfter (r ∷ o) b) then valueAfter (r ∷ o) v b else firstOr replacement (decode (expectedAfter (r ∷ o) b) (valueAfter (r ∷ o) v b) s))
     go true e = rw e (first-emit o (trailBits v b) replacement (decode o (trailBits v b) s))
     go false e = rw e
 
@@ -150,7 +150,7 @@ unfolding none
 pick [] w c d s later = refl
 pick (r ∷ p) w c d s later = later c d refl
 
--- where something is owed a scalar value is to come, so what stands for none does not matter
+-- where something is expected a scalar value is to come, so what stands for none does not matter
 settled-end : (o : List Range) (v c d : ℕ) → none o ≡ false → lastOr c (decode o v []) ≡ lastOr d (decode o v [])
 unfolding none decode lastOr
 settled-end [] v c d h = absurd (true≢false h)
@@ -160,17 +160,17 @@ settled : (o : List Range) (v c d : ℕ) (s : List ℕ) → none o ≡ false →
 settled o v c d [] h = settled-end o v c d h
 settled o v c d (b ∷ s) h =
     last-step o v c b s
-    ∙ pick (owedAfter o b) (valueAfter o v b) _ _ s (λ x y k. settled (owedAfter o b) (valueAfter o v b) x y s k)
+    ∙ pick (expectedAfter o b) (valueAfter o v b) _ _ s (λ x y k. settled (expectedAfter o b) (valueAfter o v b) x y s k)
     ∙ sym (last-step o v d b s)
 
 fresh : (v w c d b : ℕ) (s : List ℕ) → lastOr c (decode [] v (b ∷ s)) ≡ lastOr d (decode [] w (b ∷ s))
-unfolding owedAfter valueAfter breaks
+unfolding expectedAfter valueAfter breaks
 fresh v w c d b s =
     last-step [] v c b s
     ∙ pick (follow table b) (leadBits b) c d s (λ x y k. settled (follow table b) (leadBits b) x y s k)
     ∙ sym (last-step [] w d b s)
 
--- only bytes from 0x80 to 0xBF are ever owed
+-- only bytes from 0x80 to 0xBF are ever expected
 trails : List Range → Bool
 trails [] = true
 trails (r ∷ o) = leb 0x80 (r .low) && leb (r .high) 0xBF && trails o
@@ -194,16 +194,16 @@ table-trails : (b : ℕ) → trails (follow table b) ≡ true
 unfolding table rows-trail trails
 table-trails b = follow-trails table b refl
 
-after-trails : (o : List Range) (b : ℕ) → trails o ≡ true → trails (owedAfter o b) ≡ true
-unfolding trails owedAfter
+after-trails : (o : List Range) (b : ℕ) → trails o ≡ true → trails (expectedAfter o b) ≡ true
+unfolding trails expectedAfter
 after-trails [] b h = table-trails b
 after-trails (r ∷ o) b h = go (within r b) refl
   where
-    go : (t : Bool) → within r b ≡ t → trails (owedAfter (r ∷ o) b) ≡ true
+    go : (t : Bool) → within r b ≡ t → trails (expectedAfter (r ∷ o) b) ≡ true
     go true e = rw e (and-right (leb 0x80 (r .low) && leb (r .high) 0xBF) (trails o) h)
     go false e = rw e (table-trails b)
 
--- a byte that is none of these breaks what is owed
+-- a byte that is none of these breaks what is expected
 no-trail : (r : Range) (o : List Range) (b : ℕ) → trails (r ∷ o) ≡ true → within trail b ≡ false → within r b ≡ false
 unfolding trails
 no-trail r o b h f = go (within r b) refl
@@ -224,7 +224,7 @@ resync [] (r ∷ o) v c d b s h f = broken
   where
     broken : lastOr c (decode (r ∷ o) v (b ∷ s)) ≡ lastOr d (decode [] 0 (b ∷ s))
     broken = last-broken r o v c b s (no-trail r o b h f) ∙ fresh 0 0 replacement d b s
-resync (x ∷ xs) o v c d b s h f = last-step o v c x (xs ++ b ∷ s) ∙ resync xs (owedAfter o x) (valueAfter o v x) _ d b s (after-trails o x h) f
+resync (x ∷ xs) o v c d b s h f = last-step o v c x (xs ++ b ∷ s) ∙ resync xs (expectedAfter o x) (valueAfter o v x) _ d b s (after-trails o x h) f
 
 pub ends-from : (s : List ℕ) (at : ℕ) → Begins s at → endsWithWhite (drop at s) ≡ endsWithWhite s
 unfolding endsWithWhite scalars trails
@@ -258,7 +258,7 @@ module _ (o : List Range) (v b : ℕ) (s : List ℕ) {r : Bool} (e : r ≡ break
   unfolding startFrom
   start-broken y = rw (first-step o v b s, ← e, y) (sym no-white)
 
-  module _ (more low high : ℕ) {v′ : ℕ} (n : r ≡ false) (f : columns more low high ≡ owedAfter o b) (g : Valued o v b v′) where
+  module _ (more low high : ℕ) {v′ : ℕ} (n : r ≡ false) (f : columns more low high ≡ expectedAfter o b) (g : Valued o v b v′) where
     pub start-whole : {w : Bool} → more ≡ 0 → w ≡ isWhite v′ → w ≡ startFrom o v (b ∷ s)
     unfolding startFrom
     start-whole z h = h ∙ rw (first-step o v b s, ← e, n, ← f, whole more low high 0, eq-eqb more 0 z, ← (g .is))
@@ -267,16 +267,16 @@ module _ (o : List Range) (v b : ℕ) (s : List ℕ) {r : Bool} (e : r ≡ break
     unfolding startFrom
     start-more z = rw (first-step o v b s, ← e, n, ← f, whole more low high 0, ne-eqb more 0 z, ← (g .is))
 
-start-owed : (o : List Range) (v : ℕ) → firstOr replacement (decode o v []) ≡ replacement
+start-expected : (o : List Range) (v : ℕ) → firstOr replacement (decode o v []) ≡ replacement
 unfolding firstOr decode
-start-owed [] v = refl
-start-owed (r ∷ o) v = refl
+start-expected [] v = refl
+start-expected (r ∷ o) v = refl
 
 pub start-none : (o : List Range) (v : ℕ) → false ≡ startFrom o v []
 unfolding startFrom
-start-none o v = rw start-owed (sym no-white)
+start-none o v = rw start-expected (sym no-white)
 
-pub end-turn : (d : ℕ) (o : List Range) (v b : ℕ) (s : List ℕ) (more low high : ℕ) {r : Bool} {v′ d′ : ℕ} → d′ ≡ (if eqb more 0 then v′ else if r then replacement else d) → r ≡ breaks o b → Valued o v b v′ → columns more low high ≡ owedAfter o b → endFrom d o v (b ∷ s) ≡ endFrom d′ (columns more low high) v′ s
+pub end-turn : (d : ℕ) (o : List Range) (v b : ℕ) (s : List ℕ) (more low high : ℕ) {r : Bool} {v′ d′ : ℕ} → d′ ≡ (if eqb more 0 then v′ else if r then replacement else d) → r ≡ breaks o b → Valued o v b v′ → columns more low high ≡ expectedAfter o b → endFrom d o v (b ∷ s) ≡ endFrom d′ (columns more low high) v′ s
 unfolding endFrom
 end-turn d o v b s more low high e f g h = rw (last-step o v d b s, e, f, ← h, whole more low high 0, ← (g .is))
 
@@ -293,7 +293,7 @@ begins-start s = record { inside = omega arith; fresh = λ h. absurd (omega arit
 pub begins-back : (s : List ℕ) (at : ℕ) {r : Bool} {w : ℕ} → 0 < at → at ≤ length s → r ≡ false → r ≡ between 0x80 0xBF w → w ≡ getD s (at - 1) 0 → Begins s (at - 1)
 begins-back s at h k n e f = record { inside = omega arith; fresh = λ z. (omega arith, rw (← f) (sym e ∙ n)) }
 
--- a value that still owes a byte has room for its bits
+-- a value that still expects a byte has room for its bits
 pub room-small : (more value : ℕ) → (more ≡ 0 → ⊥) → value < room more → value < 0x8000
 room-small zero value h k = absurd (h refl)
 room-small (suc zero) value h k = k

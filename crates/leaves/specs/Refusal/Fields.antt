@@ -5,18 +5,28 @@ use mathlib.Core.List.{[], _∷_}
 use lib.Dec.{eqb, ltb}
 use Rattle.leaves.specs.Text.Bytes.{between}
 use Rattle.leaves.specs.Text.Lists.{if_then_else_}
-use Rattle.leaves.specs.Sheet.Kinds.{among, heading, alert, list, codeBlock, htmlContainer, definition, footnoteDefinition, table, frontmatter, leafDirective, containerDirective, item, htmlTag, attribute, text, escape, emphasis, strong, code, link, autolink, image, linkReference, imageReference, html, lineBreak, math, footnoteReference, wikiLink, textDirective, tag}
+use Rattle.leaves.specs.Sheet.Kinds.{among, heading, alert, list, codeBlock, htmlContainer, definition}
+use Rattle.leaves.specs.Sheet.Kinds.{footnoteDefinition, table, frontmatter, leafDirective}
+use Rattle.leaves.specs.Sheet.Kinds.{containerDirective, item, htmlTag, attribute, text, escape, emphasis}
+use Rattle.leaves.specs.Sheet.Kinds.{strong, code, link, autolink, image, linkReference, imageReference}
+use Rattle.leaves.specs.Sheet.Kinds.{html, lineBreak, math, footnoteReference, wikiLink, textDirective, tag}
 use Rattle.leaves.specs.declared.sheet.records.Rec.{Rec}
 use Rattle.leaves.specs.declared.sheet.records.Span.{Span}
 use Rattle.leaves.specs.declared.sheet.records.Text.{Text}
 
--- Document 01: "A: heading depth, 0–255; alert title present; list ordered; code block 0 fenced, 1 indented; HTML container 0 blocks, 1 inlines; destination 0 bare, 1 angle, 2 omitted (definition, link, image); table's alignment count; frontmatter 0 YAML, 1 TOML; item checked 0 none, 1 false, 2 true; escape's scalar value (to 10FFFF hexadecimal, no surrogate); delimiter 0 asterisk, 1 underscore (emphasis, strong); line break 0 backslash, 1 spaces; math 0 dollar, 1 code."
+-- Document 01: "A: heading depth, 0–255; alert title present; list ordered; code block 0 fenced, 1 indented; HTML
+-- container 0 blocks, 1 inlines; destination 0 bare, 1 angle, 2 omitted (definition, link, image); table's alignment
+-- count; frontmatter 0 YAML, 1 TOML; item checked 0 none, 1 false, 2 true; escape's scalar value (to 10FFFF
+-- hexadecimal, no surrogate); delimiter 0 asterisk, 1 underscore (emphasis, strong); line break 0 backslash, 1 spaces;
+-- math 0 dollar, 1 code."
 -- The most that A may be; 0 where it is not used.
 unfoldable pub mostA : ℕ → ℕ
 mostA kind =
     if eqb kind heading
     then 255
-    else if among kind (alert ∷ list ∷ codeBlock ∷ htmlContainer ∷ frontmatter ∷ emphasis ∷ strong ∷ lineBreak ∷ math ∷ [])
+    else if among kind
+    (alert ∷ list ∷ codeBlock ∷ htmlContainer ∷ frontmatter
+    ∷ emphasis ∷ strong ∷ lineBreak ∷ math ∷ [])
     then 1
     else if among kind (definition ∷ item ∷ link ∷ image ∷ [])
     then 2
@@ -46,7 +56,9 @@ mostC kind b =
     then 0xFFFFFFFF
     else 0
 
--- "First text: title (alert); value (code block, frontmatter, text, code, HTML inline, math); identifier (definition, footnote definition, the three references); name (directives, HTML tag, attribute, tag); destination (link, image); text (autolink); target (wikilink)." An alert's title is there where A is 1.
+-- "First text: title (alert); value (code block, frontmatter, text, code, HTML inline, math); identifier (definition,
+-- footnote definition, the three references); name (directives, HTML tag, attribute, tag); destination (link, image);
+-- text (autolink); target (wikilink)." An alert's title is there where A is 1.
 unfoldable pub hasFirst : ℕ → ℕ → Bool
 hasFirst kind a =
     eqb kind alert && eqb a 1
@@ -55,11 +67,13 @@ hasFirst kind a =
     || among kind (leafDirective ∷ containerDirective ∷ textDirective ∷ htmlTag ∷ attribute ∷ tag ∷ [])
     || among kind (link ∷ image ∷ autolink ∷ wikiLink ∷ [])
 
--- "Second: info; definition's destination; HTML tag's raw; label (references, wikilink)." The info is there where B is 1.
+-- "Second: info; definition's destination; HTML tag's raw; label (references, wikilink)." The info is there where B
+-- is 1.
 unfoldable pub hasSecond : ℕ → ℕ → Bool
 hasSecond kind b =
     eqb kind codeBlock && eqb b 1
-    || among kind (definition ∷ htmlTag ∷ linkReference ∷ imageReference ∷ footnoteReference ∷ wikiLink ∷ [])
+    || among kind
+    (definition ∷ htmlTag ∷ linkReference ∷ imageReference ∷ footnoteReference ∷ wikiLink ∷ [])
 
 -- "An absent text is 0, 0."
 unfoldable pub badText : Bool → Text → Bool
@@ -68,7 +82,9 @@ badText has t = not has && not (eqb (t .start) 0 && eqb (t .len) 0)
 -- "Flags are 0 or 1. Without a span, start and end are 0." An attribute has no span.
 unfoldable pub badSpan : ℕ → Span → Bool
 badSpan kind s =
-    ltb 1 (s .flag) || eqb (s .flag) 0 && not (eqb (s .start) 0 && eqb (s .end) 0) || eqb kind attribute && not (eqb (s .flag) 0)
+    ltb 1 (s .flag)
+    || eqb (s .flag) 0 && not (eqb (s .start) 0 && eqb (s .end) 0)
+    || eqb kind attribute && not (eqb (s .flag) 0)
 
 -- "no surrogate"
 unfoldable pub isSurrogate : ℕ → ℕ → Bool
@@ -77,7 +93,10 @@ isSurrogate kind a = eqb kind escape && between 0xD800 0xDFFF a
 -- A, B or C is out of range
 unfoldable pub badNumber : Rec → Bool
 badNumber r =
-    ltb (mostA (r .kind)) (r .a) || ltb (mostB (r .kind) (r .a)) (r .b) || ltb (mostC (r .kind) (r .b)) (r .c) || isSurrogate (r .kind) (r .a)
+    ltb (mostA (r .kind)) (r .a)
+    || ltb (mostB (r .kind) (r .a)) (r .b)
+    || ltb (mostC (r .kind) (r .b)) (r .c)
+    || isSurrogate (r .kind) (r .a)
 
 unfoldable pub badField : Rec → Bool
 badField r =

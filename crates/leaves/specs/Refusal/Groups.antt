@@ -1,4 +1,7 @@
--- The groups of kinds, for placement (refusal 6). Document 01: "Children: blocks under the sheet, quote, alert, item and footnote definition; items under list; rows, then cells; inlines under paragraph, heading, cell and what `Inline::children` lists. Directives: attributes, then inlines, then (container only) blocks. HTML container: opening tag, closing tag, content of its sort."
+-- The groups of kinds, for placement (refusal 6).
+-- Document 01: "Children: blocks under the sheet, quote, alert, item and footnote definition; items under list; rows,
+-- then cells; inlines under paragraph, heading, cell and what `Inline::children` lists. Directives: attributes, then
+-- inlines, then (container only) blocks. HTML container: opening tag, closing tag, content of its sort."
 use Prim.Native.Nat.{ℕ}
 use mathlib.Core.List.{[], _∷_}
 use lib.Dec.{eqb}
@@ -67,7 +70,9 @@ parentGroup kind a =
     then holdsRows
     else if eqb kind row
     then holdsCells
-    else if among kind (paragraph ∷ heading ∷ cell ∷ emphasis ∷ strong ∷ delete ∷ mark ∷ link ∷ image ∷ linkReference ∷ imageReference ∷ inlineFootnote ∷ [])
+    else if among kind
+    (paragraph ∷ heading ∷ cell ∷ emphasis ∷ strong ∷ delete ∷ mark
+    ∷ link ∷ image ∷ linkReference ∷ imageReference ∷ inlineFootnote ∷ [])
     then holdsInlines
     else otherGroup kind a
 

@@ -1,4 +1,5 @@
--- Which sheets are refused, with which number and record. Document 01, 'The call': "Order: 1, 2, 3; then 4 to 9 record by record; then 10 over all records, giving the first such container".
+-- Which sheets are refused, with which number and record. Document 01, 'The call': "Order: 1, 2, 3; then 4 to 9 record
+-- by record; then 10 over all records, giving the first such container".
 use Prim.Native.Nat.{ℕ, zero, suc, _%_}
 use mathlib.Core.Path.{_≡_}
 use mathlib.Core.Bool.{not}

@@ -1,5 +1,5 @@
--- The groups of each kind, from 0 on: as a parent whose A is 0, and as a child. The code reads them here.
--- A reader need not believe these: the proofs equate them with `parentGroup` and `childGroup`.
+-- The table that the code reads: the two groups of each kind, from kind 0 on, as a parent whose A is 0 and as a child.
+-- A reader need not believe it: the proofs equate it with `parentGroup` and `childGroup`.
 use Prim.Native.Nat.{ℕ}
 use mathlib.Core.List.{List, [], _∷_}
 

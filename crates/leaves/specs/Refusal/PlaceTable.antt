@@ -1,4 +1,5 @@
--- The places that the code reads. A reader need not believe these: the proofs equate them with `placeIn` and `holds`.
+-- The table of places that the code reads. A reader need not believe it: the proofs equate it with `placeIn` and
+-- `holds`.
 -- A row for each group of parents, by what it holds; a column for each group of children, in the order block, item,
 -- row, cell, HTML tag, attribute, inline. 0: not allowed there.
 use Prim.Native.Nat.{ℕ}

@@ -32,7 +32,7 @@ levelBefore w (suc i) = recordAt w i .level
 unfoldable pub badLevel : ℕ → ℕ → Bool
 badLevel before level = eqb level 0 || ltb mostLevel level || ltb (before + 1) level
 
--- the tests 8 and 9: each is made of both texts before the next
+-- the tests 8 and 9: test 8 is made of both texts before test 9
 unfoldable pub judgeTexts : List ℕ → ℕ → Rec → Judged
 judgeTexts bytes i r =
     if textOutside bytes (r .first) || textOutside bytes (r .second)
@@ -41,7 +41,8 @@ judgeTexts bytes i r =
     then Refused (NotUtf8 i)
     else Accepted
 
--- The tests 4 to 9 of record i: r, after a record of the level `before`, with o before it under its parent.
+-- The tests 4 to 9 of record i, which is r. `before` is the level of the record before it, and o is what stands before
+-- it under its parent.
 unfoldable pub judge : List ℕ → ℕ → Rec → ℕ → Open → Judged
 judge bytes i r before o =
     if not (isKind (r .kind))

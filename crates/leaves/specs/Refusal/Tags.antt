@@ -13,7 +13,9 @@ use Rattle.leaves.specs.declared.refusal.verdict.Judged.the-variants.{Ac
 
 -- 10: "HTML container with fewer than two tags"
 unfoldable pub lacksTags : List ℕ → ℕ → ℕ → Bool
-lacksTags w n i = eqb (recordAt w i .kind) htmlContainer && ltb (countKind htmlTag (under w n (suc i) (recordAt w i .level))) 2
+lacksTags w n i =
+    eqb (recordAt w i .kind) htmlContainer
+    && ltb (countKind htmlTag (under w n (suc i) (recordAt w i .level))) 2
 
 -- of k records from record i on, the first such container; n is how many records there are in all
 unfoldable pub tagsFrom : List ℕ → ℕ → ℕ → ℕ → Judged

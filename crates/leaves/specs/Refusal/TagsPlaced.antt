@@ -1,4 +1,5 @@
--- What the code knows when it looks for tags. A reader need not believe these: `accept` gives what `judge_tags` asks for here, and its own promise does not cite it.
+-- What the code knows when it looks for tags. A reader need not believe these: `judge_tags` asks for them, `accept`
+-- gives them, and the promise of `accept` does not cite them.
 use mathlib.Core.Path.{_≡_}
 use Prim.Native.Nat.{ℕ, _*_, _<_, _≤_}
 use mathlib.Core.Bool.{Bool, false, _&&_}

@@ -18,7 +18,8 @@ pub record Entry : Type 0 where
   pub span : Span
   pub path : List ℕ
 
--- Document 01: "Report entry: rule, span flag, start, end, path length, path." A word that is added to an entry is added here.
+-- Document 01: "Report entry: rule, span flag, start, end, path length, path." To give entries another word, add it
+-- here.
 unfoldable pub words : Entry → List ℕ
 words e = e .rule ∷ e .span .flag ∷ e .span .start ∷ e .span .end ∷ length (e .path) ∷ e .path
 
@@ -43,7 +44,7 @@ listIf false rule span path = []
 
 -- ---- the tally: how many words and entries the list has so far
 
--- what a sum of the tally stops at: no report is as long
+-- the most that a sum of the tally can be; no report has so many words
 abbrev pub cap : ℕ
 cap = 2 ^ 62
 
@@ -66,12 +67,13 @@ after s (e ∷ es) = after (counted s (length (words e))) es
 
 -- ---- the report
 
--- the report once the entries are listed: each is written behind those before it, where it fits whole. Document 01: "Otherwise words past the list stay."
+-- The report once the entries are listed: each is written behind those before it, if the whole entry fits.
+-- Document 01: "Otherwise words past the list stay."
 unfoldable pub put : List ℕ → Tally → List Entry → List ℕ
 put w s [] = w
 put w s (e ∷ es) = put (over w (s .words) (words e)) (counted s (length (words e))) es
 
--- from one tally and report to the next the entries are listed
+-- listing the entries makes t of the tally s, and `new` of the report `old`
 pub record Lists (s t : Tally) (old new : List ℕ) (es : List Entry) : Type 0 where
   pub tally : t ≡ after s es
   pub written : new ≡ put old s es

@@ -1,9 +1,11 @@
--- What an inline is by its kind, and by the A of a break or an emphasis.
+-- Classes of inlines, by kind and, for breaks and emphasis, by A.
 use Prim.Native.Nat.{ℕ}
 use mathlib.Core.Bool.{Bool, _&&_, _||_}
 use mathlib.Core.List.{[], _∷_}
 use lib.Dec.{eqb}
-use Rattle.leaves.specs.Sheet.Kinds.{among, emphasis, strong, delete, mark, code, link, autolink, linkReference, imageReference, html, softBreak, lineBreak, math, footnoteReference, wikiLink}
+use Rattle.leaves.specs.Sheet.Kinds.{among, emphasis, strong, delete, mark, code, link, autolink}
+use Rattle.leaves.specs.Sheet.Kinds.{linkReference, imageReference, html, softBreak, lineBreak, math}
+use Rattle.leaves.specs.Sheet.Kinds.{footnoteReference, wikiLink}
 
 -- `Inline::SoftBreak(_) | Inline::LineBreak(_)`
 abbrev pub isBreak : ℕ → Bool
@@ -21,14 +23,15 @@ isEmphasisContainer kind = among kind (emphasis ∷ strong ∷ delete ∷ mark �
 abbrev pub isLink : ℕ → Bool
 isLink kind = among kind (link ∷ autolink ∷ linkReference ∷ wikiLink ∷ [])
 
--- the match of `validate_cell_values`: the inlines whose first text a cell writes as it is, and those whose label
+-- The match of `validate_cell_values`: a cell writes the first text of some inlines as it is, and the label of others.
 abbrev pub namesOwnValue : ℕ → Bool
 namesOwnValue kind = among kind (code ∷ math ∷ html ∷ autolink ∷ [])
 
 abbrev pub namesLabel : ℕ → Bool
 namesLabel kind = among kind (linkReference ∷ imageReference ∷ footnoteReference ∷ [])
 
--- the match of `validate_emphasis_container` on a container and its only child: one delimiter, or two strikethroughs, or two marks
+-- the match of `validate_emphasis_container` on a container and its only child: one delimiter, or two strikethroughs,
+-- or two marks
 abbrev pub isJoined : ℕ → ℕ → ℕ → ℕ → Bool
 isJoined outer outerA inner innerA =
     among outer (emphasis ∷ strong ∷ []) && eqb inner emphasis && eqb outerA innerA

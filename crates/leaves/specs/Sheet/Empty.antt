@@ -10,10 +10,10 @@ use Rattle.leaves.specs.declared.sheet.records.Text.{Text}
 abbrev pub isEmpty : Text → Bool
 isEmpty t = eqb (t .len) 0
 
--- `is_empty_text`
+-- `is_empty_text` of validate.rs
 abbrev pub isEmptyText : Rec → Bool
 isEmptyText r = eqb (r .kind) text && isEmpty (r .first)
 
--- the text where it counts, and one of no bytes where it does not
+-- the text where `counts` holds, else a text of no bytes
 abbrev pub onlyIf : Bool → Text → Text
 onlyIf counts t = if counts then t else record { start = 0; len = 0 }

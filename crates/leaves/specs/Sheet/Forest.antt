@@ -1,4 +1,5 @@
--- The tree that a sheet holds: a record, the records under it, and the siblings after it. Document 01: "Parent: nearest earlier record one level up."
+-- The tree that a sheet holds: a record, the records under it, and the siblings after it.
+-- Document 01: "Parent: nearest earlier record one level up."
 use mathlib.Core.List.{List, [], _∷_, _++_}
 use Prim.Native.Nat.{ℕ, zero, suc, _+_, _-_}
 use lib.Dec.{ltb, eqb}
@@ -15,7 +16,7 @@ unfoldable pub deeper : ℕ → Forest → Forest
 deeper l none = none
 deeper l (tree r kids rest) = let t = tree r kids (deeper l rest) in if ltb l (r .level) then t else none
 
--- what is left after them
+-- the trees after those
 unfoldable pub past : ℕ → Forest → Forest
 past l none = none
 past l (tree r kids rest) = let t = past l rest in if ltb l (r .level) then t else tree r kids rest
@@ -47,12 +48,12 @@ unfoldable pub count : Forest → ℕ
 count none = 0
 count (tree r kids rest) = suc (count rest)
 
--- how many of them are of a kind
+-- how many trees side by side have a record of a kind at their top
 unfoldable pub countKind : ℕ → Forest → ℕ
 countKind k none = 0
 countKind k (tree r kids rest) = if eqb (r .kind) k then suc (countKind k rest) else countKind k rest
 
--- the records again, in their order
+-- the records of a forest, in their order
 unfoldable pub recordsIn : Forest → List Rec
 recordsIn none = []
 recordsIn (tree r kids rest) = r ∷ recordsIn kids ++ recordsIn rest

@@ -1,4 +1,5 @@
--- Kinds of records. Document 01: "Blocks 1–17 in the order of `Block` in `src/ast.rs`, inlines 31–53 in the order of `Inline`, and 20 item, 21 row, 22 cell, 23 HTML tag, 24 attribute (no span)."
+-- Kinds of records. Document 01: "Blocks 1–17 in the order of `Block` in `src/ast.rs`, inlines 31–53 in the order
+-- of `Inline`, and 20 item, 21 row, 22 cell, 23 HTML tag, 24 attribute (no span)."
 use Prim.Native.Nat.{ℕ}
 use mathlib.Core.Bool.{Bool, false, _||_}
 use mathlib.Core.List.{List, [], _∷_}
@@ -143,7 +144,7 @@ textDirective = 52
 abbrev pub tag : ℕ
 tag = 53
 
--- one of the kinds listed
+-- whether k is one of the kinds listed
 abbrev pub orAmong : Bool → ℕ → List ℕ → Bool
 orAmong found k [] = found
 orAmong found k (n ∷ ns) = orAmong (found || eqb k n) k ns

@@ -1,4 +1,5 @@
--- The records of a sheet. Document 01: "Record: kind, level, span flag, start, end, A, B, C, first text start and length, second text start and length."
+-- The records of a sheet. Document 01: "Record: kind, level, span flag, start, end, A, B, C, first text start and
+-- length, second text start and length."
 use Prim.Native.Nat.{ℕ, _+_, _*_, _/_}
 use mathlib.Core.List.{List}
 use lib.ListN.{length, getD}

@@ -6,8 +6,10 @@ use Rattle.leaves.specs.Text.Lists.{if_then_else_}
 use Rattle.leaves.specs.Sheet.Records.{recordAt}
 use Rattle.leaves.specs.declared.sheet.records.Rec.{Rec}
 
--- Of the records before record i, the nearest that is one level above `level` is the parent (document 01: "Parent: nearest earlier record one level up"), and those of `level` since then are the earlier children.
--- Gathered from left to right: `sheet` where no record is the parent, `first` at a parent, and `next` at each earlier child.
+-- Of the records before record i, the parent is the nearest that is one level above `level` (document 01: "Parent:
+-- nearest earlier record one level up"); the records of `level` after it are the earlier children.
+-- `gather` goes through them from left to right. It begins with `sheet`, takes `first` at a parent, and takes `next` at
+-- each child.
 unfoldable pub gather : {A : Type 0} → A → (Rec → A) → (A → Rec → A) → List ℕ → ℕ → ℕ → A
 gather sheet first next w level zero = sheet
 gather sheet first next w level (suc i) =

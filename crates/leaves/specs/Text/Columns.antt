@@ -20,7 +20,7 @@ fields (n ∷ ns) = field n ++ fields ns
 unfoldable pub line : List ℕ → List ℕ
 line ns = fields ns ++ lf ∷ []
 
--- from place `at` of the output on these bytes are written, up to place `next`
+-- the bytes are written into the output from place `at` on, and end before place `next`
 pub record Writes (old : List ℕ) (at : ℕ) (bytes new : List ℕ) (next : ℕ) : Type 0 where
   pub written : new ≡ over old at bytes
   pub ends : next ≡ at + length bytes

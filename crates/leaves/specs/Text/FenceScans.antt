@@ -1,4 +1,5 @@
--- How the code reads a text, a byte at a time. The proofs equate each of these with a definition of another file, and no promise to a caller cites them.
+-- How the code reads a text, a byte at a time. The proofs equate each of these with a definition of another file, and
+-- no promise to a caller cites them.
 use Prim.Native.Nat.{ℕ, _-_}
 use mathlib.Core.Bool.{Bool, _&&_, _||_}
 use mathlib.Core.List.{List, [], _∷_}
@@ -7,11 +8,16 @@ use Rattle.leaves.specs.Text.Bytes.{isBlankByte, isLineEndingByte}
 use Rattle.leaves.specs.Text.Lists.{if_then_else_}
 use Rattle.leaves.specs.Text.Lines.{isCrOfCrlf}
 
--- how many bytes of a fence are still to come in the line, after b; 4: the line is no fence
+-- how many bytes of a fence are still to come in the line, after b; 4 where the line is no fence
 unfoldable pub fenceLeft : ℕ → ℕ → ℕ → ℕ
-fenceLeft c left b = if eqb left 0 then (if isBlankByte b then 0 else 4) else if eqb b c && leb left 3 then left - 1 else 4
+fenceLeft c left b =
+    if eqb left 0
+    then (if isBlankByte b then 0 else 4)
+    else if eqb b c && leb left 3
+    then left - 1
+    else 4
 
--- a line from here on is a fence, where `left` bytes of one are to come in the line being read
+-- Whether a line from here on is a fence. `left`: how many bytes of a fence are still to come in the line being read.
 unfoldable pub fenceFrom : ℕ → ℕ → List ℕ → Bool
 fenceFrom c left [] = eqb left 0
 fenceFrom c left (b ∷ s) =

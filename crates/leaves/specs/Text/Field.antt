@@ -1,6 +1,8 @@
 -- A field of the program's lines, as it is written and as it is read.
 -- Document 01: "Fields are decimal, at most 4,294,967,295, right-justified in 11 places, no leading zeros".
--- The two are one (proofs/text/FieldReadLaws.antt): a number that was written is read (`written-read`), what is read as a number is just what that number is written as (`read-written`), and no number is written as what is malformed (`malformed-unwritten`).
+-- Writing and reading agree (proofs/text/FieldReadLaws.antt): a written number is read back (`written-read`), bytes
+-- that are read as a number are that number written (`read-written`), and no number is written as malformed bytes
+-- (`malformed-unwritten`).
 use Prim.Native.Nat.{ℕ, zero, suc, _+_, _-_, _*_, _/_, _%_}
 use mathlib.Core.Bool.{Bool, true, false, _&&_, _||_}
 use mathlib.Core.List.{List, [], _∷_, _++_}
@@ -19,7 +21,7 @@ places = 11
 abbrev pub mostNumber : ℕ
 mostNumber = 4294967295
 
--- the byte `0`, and that of any digit
+-- the byte `0`, and the byte of each digit
 abbrev pub digitZero : ℕ
 digitZero = 48
 
@@ -28,7 +30,7 @@ digit d = digitZero + d
 
 -- ---- a field as it is written
 
--- the place of a number's last digit; a space where nothing is left of the number
+-- the byte of a number's last digit; a space where nothing is left of the number
 abbrev pub lastPlace : ℕ → ℕ
 lastPlace n = if eqb n 0 then space else digit (n % 10)
 
@@ -43,21 +45,24 @@ field n = front 10 (n / 10) ++ digit (n % 10) ∷ []
 
 -- ---- a field as it is read
 
--- what stands behind the spaces in front
+-- the bytes without their leading spaces
 unfoldable pub pastSpaces : List ℕ → List ℕ
 pastSpaces [] = []
 pastSpaces (b ∷ s) = if eqb b space then pastSpaces s else b ∷ s
 
--- the number whose digits are those of n and then these: "decimal, at most 4,294,967,295"
+-- the number that has the digits of n and then these: "decimal, at most 4,294,967,295"
 unfoldable pub readDigits : ℕ → List ℕ → Column
 readDigits n [] = Number n
 readDigits n (b ∷ s) =
     let more = n * 10 + (b - digitZero) in
     if isDigit b && leb more mostNumber then readDigits more s else Malformed
 
--- some digits, of which the first is no 0 that others follow: "no leading zeros"
+-- at least one digit, and no 0 in front of other digits: "no leading zeros"
 unfoldable pub readNumber : List ℕ → Column
-readNumber s = if eqb (length s) 0 || (eqb (getD s 0 0) digitZero && ltb 1 (length s)) then Malformed else readDigits 0 s
+readNumber s =
+    if eqb (length s) 0 || (eqb (getD s 0 0) digitZero && ltb 1 (length s))
+    then Malformed
+    else readDigits 0 s
 
 -- "right-justified in 11 places": spaces, and then the number up to the last place
 unfoldable pub readField : List ℕ → Column

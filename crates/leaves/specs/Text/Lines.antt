@@ -10,7 +10,8 @@ use Rattle.leaves.specs.Text.Lists.{if_then_else_, all, any}
 unfoldable pub holdsLineEnding : List ℕ → Bool
 holdsLineEnding s = any isLineEndingByte s
 
--- Document 01: "Blank is spaces and tabs only." (CommonMark 0.31.2, 2.1: "A line containing no characters, or a line containing only spaces (U+0020) or tabs (U+0009), is called a blank line.")
+-- Document 01: "Blank is spaces and tabs only." (CommonMark 0.31.2, 2.1: "A line containing no characters, or a line
+-- containing only spaces (U+0020) or tabs (U+0009), is called a blank line.")
 unfoldable pub isBlank : List ℕ → Bool
 isBlank s = all isBlankByte s
 
@@ -28,8 +29,10 @@ longer b (l ∷ ls) = (b ∷ l) ∷ ls
 unfoldable pub isCrOfCrlf : ℕ → List ℕ → Bool
 isCrOfCrlf b s = eqb b cr && startsWith lf s
 
--- CommonMark 0.31.2, 2.1: "A line is a sequence of zero or more characters other than line feed (U+000A) or carriage return (U+000D), followed by a line ending or by the end of file. A line ending is a line feed (U+000A), a carriage return (U+000D) not followed by a line feed, or a carriage return and a following line feed."
--- The CR of a CRLF is passed over, and its LF is the ending. What follows the last ending is a line where it holds a byte.
+-- CommonMark 0.31.2, 2.1: "A line is a sequence of zero or more characters other than line feed (U+000A) or carriage
+-- return (U+000D), followed by a line ending or by the end of file. A line ending is a line feed (U+000A), a carriage
+-- return (U+000D) not followed by a line feed, or a carriage return and a following line feed."
+-- The CR of a CRLF is passed over, and its LF is the ending. What follows the last ending is a line if it holds a byte.
 unfoldable pub lines : List ℕ → List (List ℕ)
 lines [] = []
 lines (b ∷ s) =

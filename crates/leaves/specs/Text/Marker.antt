@@ -3,7 +3,8 @@ use Prim.Native.Nat.{ℕ}
 use lib.Dec.{eqb}
 use Rattle.leaves.specs.Text.Lists.{if_then_else_}
 
--- Document 01: "written marker `*` or `+` for such bullets, `-` for other bullets, `)` for ordered paren, `.` for other ordered."
+-- Document 01: "written marker `*` or `+` for such bullets, `-` for other bullets, `)` for ordered paren, `.` for other
+-- ordered."
 unfoldable pub writtenMarker : ℕ → ℕ → ℕ
 writtenMarker ordered delimiter =
     if eqb ordered 1

@@ -34,7 +34,7 @@ isDirectiveName s = all isRun (runs s)
 abbrev pub beginsAttribute : ℕ → Bool
 beginsAttribute b = isLetter b || eqb b underscore || eqb b hyphen
 
--- .. and `char.is_ascii_alphanumeric() || char == '_' || char == '-' || char == ':'`
+-- and for each later character: `char.is_ascii_alphanumeric() || char == '_' || char == '-' || char == ':'`
 abbrev pub continuesAttribute : ℕ → Bool
 continuesAttribute b = isLetter b || isDigit b || eqb b underscore || eqb b hyphen || eqb b colon
 

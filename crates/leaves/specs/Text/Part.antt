@@ -1,5 +1,6 @@
 -- The part of a text that a record names.
--- Document 01, 'What form to use where': "Given text, start and length it returns that part of the caller's slice to the byte rules."
+-- Document 01, 'What form to use where': "Given text, start and length it returns that part of the caller's slice to
+-- the byte rules."
 -- A part that does not lie inside the text (refusal 8: "start plus length past the text") is empty.
 use Prim.Native.Nat.{ℕ, _+_}
 use mathlib.Core.List.{List, []}

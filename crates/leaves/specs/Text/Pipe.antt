@@ -5,7 +5,7 @@ use mathlib.Core.List.{List, [], _∷_}
 use lib.Dec.{eqb}
 use Rattle.leaves.specs.Text.Bytes.{backslash, pipe}
 
--- the same of the bytes that come next; `odd`: the run of backslashes before them is odd
+-- Whether the bytes that come next hold such a `|`. `odd`: the run of backslashes before them is odd.
 unfoldable pub oddPipeAfter : Bool → List ℕ → Bool
 oddPipeAfter odd [] = false
 oddPipeAfter odd (b ∷ s) = eqb b pipe && odd || oddPipeAfter (eqb b backslash && not odd) s

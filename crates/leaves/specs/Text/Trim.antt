@@ -4,7 +4,7 @@ use mathlib.Core.List.{List, [], _∷_}
 use Rattle.leaves.specs.Text.Bytes.{isBlankByte}
 use Rattle.leaves.specs.Text.Lists.{if_then_else_}
 
--- b in front of what is left of the bytes after it: nothing where all are blank
+-- b in front of the bytes after it, which are trimmed already; nothing where none is left of them and b is blank
 unfoldable pub trimCons : ℕ → List ℕ → List ℕ
 trimCons b [] = if isBlankByte b then [] else b ∷ []
 trimCons b (x ∷ xs) = b ∷ x ∷ xs

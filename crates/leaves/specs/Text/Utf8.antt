@@ -39,19 +39,19 @@ table =
 abbrev pub nothing : Range
 nothing = 0xBF to 0x80
 
--- What must follow a first byte: the other columns of the row that has it in its first.
--- A byte that no row begins with is followed by nothing that fits.
+-- What must follow a first byte: the other columns of the row whose first column has it.
+-- After a byte that no row begins with comes a cell that no byte fits.
 unfoldable pub follow : List (List Range) → ℕ → List Range
 follow [] b = nothing ∷ []
 follow ([] ∷ rows) b = follow rows b
 follow ((first ∷ others) ∷ rows) b = if within first b then others else follow rows b
 
--- Whether bytes are well-formed where the columns `owed` of a row have still to come.
+-- Whether bytes are well-formed where the columns `expected` of a row are still to come.
 unfoldable pub wellFormed : List Range → List ℕ → Bool
 wellFormed [] [] = true
 wellFormed [] (b ∷ s) = wellFormed (follow table b) s
-wellFormed (r ∷ owed) [] = false
-wellFormed (r ∷ owed) (b ∷ s) = within r b && wellFormed owed s
+wellFormed (r ∷ expected) [] = false
+wellFormed (r ∷ expected) (b ∷ s) = within r b && wellFormed expected s
 
 -- Whether a text is well-formed by itself.
 unfoldable pub isUtf8 : List ℕ → Bool

@@ -7,7 +7,8 @@ use Rattle.leaves.specs.Text.Bytes.{between}
 use Rattle.leaves.specs.Text.Lists.{firstOr, lastOr}
 use Rattle.leaves.specs.Text.Scalars.{scalars, replacement}
 
--- Document 01: "White space (rule 40) is U+0009–000D, 0020, 0085, 00A0, 1680, 2000–200A, 2028, 2029, 202F, 205F, 3000 (hexadecimal)."
+-- Document 01: "White space (rule 40) is U+0009–000D, 0020, 0085, 00A0, 1680, 2000–200A, 2028, 2029, 202F, 205F,
+-- 3000 (hexadecimal)."
 unfoldable pub isWhite : ℕ → Bool
 isWhite c =
     between 0x0009 0x000D c
@@ -22,7 +23,8 @@ isWhite c =
     || eqb c 0x205F
     || eqb c 0x3000
 
--- validate.rs: `text.value.starts_with(char::is_whitespace)`. An empty text has no first character, and U+FFFD, which stands for it here, is not white.
+-- validate.rs: `text.value.starts_with(char::is_whitespace)`. An empty text has no first character; U+FFFD stands for
+-- it here, which is not white.
 unfoldable pub startsWithWhite : List ℕ → Bool
 startsWithWhite s = isWhite (firstOr replacement (scalars s))
 

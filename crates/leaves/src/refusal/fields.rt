@@ -27,7 +27,8 @@ ghost use Rattle.leaves.specs.Sheet.Kinds.{
   textDirective,
   tag,
 };
-ghost use Rattle.leaves.specs.Refusal.Fields.{mostA, mostB, mostC, hasFirst, hasSecond, badText, badSpan, isSurrogate, badNumber, badField};
+ghost use Rattle.leaves.specs.Refusal.Fields.{mostA, mostB, mostC, hasFirst, hasSecond};
+ghost use Rattle.leaves.specs.Refusal.Fields.{badText, badSpan, isSurrogate, badNumber, badField};
 use crate::sheet::kinds;
 use crate::sheet::records::Rec;
 use crate::sheet::records::Span;
@@ -86,7 +87,8 @@ fn names_value(kind: u32) -> bool
 }
 
 fn names_identifier(kind: u32) -> bool
-    ensures { λ r. ⌜ r ≡ among kind (definition ∷ footnoteDefinition ∷ linkReference ∷ imageReference ∷ footnoteReference ∷ []) ⌝ }
+    ensures { λ r. ⌜ r ≡ among kind
+        (definition ∷ footnoteDefinition ∷ linkReference ∷ imageReference ∷ footnoteReference ∷ []) ⌝ }
 {
     (kind == kinds::DEFINITION)
         | (kind == kinds::FOOTNOTE_DEFINITION)
@@ -96,7 +98,8 @@ fn names_identifier(kind: u32) -> bool
 }
 
 fn names_name(kind: u32) -> bool
-    ensures { λ r. ⌜ r ≡ among kind (leafDirective ∷ containerDirective ∷ textDirective ∷ htmlTag ∷ attribute ∷ tag ∷ []) ⌝ }
+    ensures { λ r. ⌜ r ≡ among kind
+        (leafDirective ∷ containerDirective ∷ textDirective ∷ htmlTag ∷ attribute ∷ tag ∷ []) ⌝ }
 {
     (kind == kinds::LEAF_DIRECTIVE)
         | (kind == kinds::CONTAINER_DIRECTIVE)
@@ -127,7 +130,8 @@ fn has_first(kind: u32, a: u32) -> bool
 }
 
 fn names_second(kind: u32) -> bool
-    ensures { λ r. ⌜ r ≡ among kind (definition ∷ htmlTag ∷ linkReference ∷ imageReference ∷ footnoteReference ∷ wikiLink ∷ []) ⌝ }
+    ensures { λ r. ⌜ r ≡ among kind
+        (definition ∷ htmlTag ∷ linkReference ∷ imageReference ∷ footnoteReference ∷ wikiLink ∷ []) ⌝ }
 {
     (kind == kinds::DEFINITION)
         | (kind == kinds::HTML_TAG)
@@ -150,7 +154,7 @@ fn is_absent(t: Text) -> bool
     (t.start == 0) & (t.len == 0)
 }
 
-// A text that is 0, 0 is good whatever the kind, so the kind is asked only of others.
+// Every kind may have the text 0, 0, so the kind is tested only for other texts.
 fn bad_first(kind: u32, a: u32, t: Text) -> bool
     ensures { λ r. ⌜ r ≡ badText (hasFirst kind a) t ⌝ }
 {
@@ -183,7 +187,7 @@ fn is_surrogate(kind: u32, a: u32) -> bool
     (kind == kinds::ESCAPE) & between(0xD800, 0xDFFF, a)
 }
 
-// Three zeros are in range whatever the kind, so the kind is asked only of others.
+// Three zeros are in range for every kind, so the kind is tested only for other numbers.
 fn bad_number(r: Rec) -> bool
     ensures { λ q. ⌜ q ≡ badNumber r ⌝ }
 {

@@ -7,11 +7,13 @@ ghost use Rattle.leaves.specs.Refusal.KindGroups.{kindGroups};
 use crate::sheet::kinds;
 use crate::text::bytes::pick;
 
+pub(crate) const HOLDS_BLOCKS: u32 = 0;
+
 pub(crate) const HOLDS_TAGS_AND_BLOCKS: u32 = 7;
 
 pub(crate) const HOLDS_TAGS_AND_INLINES: u32 = 8;
 
-// The groups of each kind, from 0 on: as a parent whose A is 0, and as a child.
+// The two groups of each kind, from kind 0 on: as a parent whose A is 0, and as a child.
 const GROUPS: [[u32; 2]; 54] = [
     [9, 7], // 0: no kind
     [4, 0], // paragraph
@@ -69,15 +71,15 @@ const GROUPS: [[u32; 2]; 54] = [
     [9, 6], // tag
 ];
 
-// The groups, made once. A constant array is copied at each mention, so the functions that read it are lent it:
-// their parameter `groups` is always this table, and their `requires` says that it is, and nothing else of it.
+// The table of groups. A constant array is copied at each mention, so `judge_records` makes it once and lends it to the
+// functions that read it. All that they ask of their parameter `groups` is that it is this table.
 pub(crate) fn groups() -> [[u32; 2]; 54]
     ensures { λ r. ⌜ r ≡ kindGroups ⌝ }
 {
     GROUPS
 }
 
-// What a record of the kind may hold; an HTML container, inlines where its A is not 0.
+// What a record of the kind may hold. An HTML container holds inlines where its A is not 0.
 pub(crate) fn parent_group(groups: &[[u32; 2]; 54], kind: u32, a: u32) -> u32
     requires { ⌜ (now groups ≡ kindGroups) × (isKind kind ≡ true) ⌝ }
     ensures { λ r. ⌜ r ≡ parentGroup kind a ⌝ }

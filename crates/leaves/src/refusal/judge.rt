@@ -7,6 +7,10 @@ ghost use Rattle.leaves.specs.Refusal.Limits.{mostRecords};
 ghost use Rattle.leaves.specs.Refusal.Judge.{judgeFrom, Judges};
 ghost use Rattle.leaves.specs.Refusal.Judging.{Slot};
 use crate::refusal::groups;
+use crate::refusal::groups::HOLDS_BLOCKS;
+use crate::refusal::limits::MOST_BYTES;
+use crate::refusal::limits::MOST_LEVEL;
+use crate::refusal::limits::MOST_RECORDS;
 use crate::refusal::places;
 use crate::refusal::record::judge;
 use crate::refusal::tags::judge_tags;
@@ -16,26 +20,29 @@ use crate::refusal::verdict::is_accepted;
 use crate::sheet::records;
 use crate::sheet::records::RECORD_WORDS;
 
-const MOST_RECORDS: usize = 65535;
+// How many slots `open` of `judge_records` has: for the levels from 0 to `MOST_LEVEL` plus 1.
+const SLOTS: usize = MOST_LEVEL as usize + 2;
 
-const MOST_BYTES: usize = 16777216;
-
-// Where a level's open record is kept; 0 where there is no such level.
+// The slot of a level; 0 where the level is over `MOST_LEVEL`.
 fn slot_of(level: u32) -> usize
     ensures { λ r. ⌜ Slot level r ⌝ }
 {
-    if level <= 64 { level as usize } else { 0 }
+    if level <= MOST_LEVEL {
+        level as usize
+    } else {
+        0
+    }
 }
 
-// The tests 4 to 9, record by record: the first that is refused. `open` has, for each level that a record
-// could have now, what stands before it under its parent.
+// Makes the tests 4 to 9, record by record, and answers the first refusal. `open` has, for each level that the next
+// record could have, what stands before it under its parent.
 fn judge_records(sheet: &[u32], bytes: &[u8], n: usize) -> Judged
     requires { ⌜ (n * recordWords ≤ length (now sheet)) × (n ≤ mostRecords) ⌝ }
     ensures { λ j. ⌜ j ≡ judgeFrom (now (sheet .entry)) (now (bytes .entry)) n 0 ⌝ }
 {
     let table = places::table();
     let groups = groups::groups();
-    let mut open = [places::opened(0); 66];
+    let mut open = [places::opened(HOLDS_BLOCKS); SLOTS];
     let mut before: u32 = 0;
     let mut i: usize = 0;
     while i < n {

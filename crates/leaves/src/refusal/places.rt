@@ -35,15 +35,16 @@ const PLACES: [[u32; 7]; 10] = [
     [0, 0, 0, 0, 0, 0, 0],
 ];
 
-// What stands before a record under its parent: the parent's group, the place of the child before it, and how many HTML tags.
+// What stands before a record under its parent: the parent's group, the place of the child before it (0 where
+// there is none), and how many HTML tags.
 pub struct Open {
     pub group: u32,
     pub stage: u32,
     pub tags: u32,
 }
 
-// The table, made once. A constant array is copied at each mention, so the functions below are lent it: their
-// parameter `table` is always this table, and their `requires` says that it is, and nothing else of it.
+// The table of places. A constant array is copied at each mention, so `judge_records` makes it once and lends it to the
+// functions that read it. All that they ask of their parameter `table` is that it is this table.
 pub(crate) fn table() -> [[u32; 7]; 10]
     ensures { λ r. ⌜ r ≡ placeTable ⌝ }
 {
@@ -83,7 +84,7 @@ pub(crate) fn opened(group: u32) -> Open
     }
 }
 
-// The same after one child more.
+// The same after one more child, of the kind.
 pub(crate) fn joined(table: &[[u32; 7]; 10], groups: &[[u32; 2]; 54], o: Open, kind: u32) -> Open
     requires { ⌜ (now table ≡ placeTable) × (now groups ≡ kindGroups) ⌝ }
     requires { ⌜ (isKind kind ≡ true) × (misplaced o kind ≡ false) ⌝ }
@@ -105,7 +106,7 @@ pub(crate) fn joined(table: &[[u32; 7]; 10], groups: &[[u32; 2]; 54], o: Open, k
     }
 }
 
-// Not allowed there, out of order, a third HTML tag, or content before the second.
+// Whether the kind is not allowed there or is out of order, is a third HTML tag, or is content before the second.
 pub(crate) fn misplaced(table: &[[u32; 7]; 10], groups: &[[u32; 2]; 54], o: Open, kind: u32) -> bool
     requires { ⌜ (now table ≡ placeTable) × (now groups ≡ kindGroups) × (isKind kind ≡ true) ⌝ }
     ensures { λ r. ⌜ r ≡ misplaced o kind ⌝ }

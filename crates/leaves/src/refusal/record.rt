@@ -3,8 +3,10 @@ ghost use mathlib.Core.Path.{_≡_};
 ghost use Prim.Native.Nat.{_≤_};
 ghost use Rattle.leaves.specs.Refusal.PlaceTable.{placeTable};
 ghost use Rattle.leaves.specs.Refusal.KindGroups.{kindGroups};
+ghost use Rattle.leaves.specs.Refusal.Limits.{mostLevel};
 ghost use Rattle.leaves.specs.Refusal.Record.{badLevel, judgeTexts, judge};
 use crate::refusal::fields;
+use crate::refusal::limits::MOST_LEVEL;
 use crate::refusal::places;
 use crate::refusal::places::Open;
 use crate::refusal::verdict::Judged;
@@ -13,12 +15,12 @@ use crate::sheet::kinds;
 use crate::sheet::records::Rec;
 use crate::sheet::texts;
 
-// 0, over 64, or over the level before plus one.
+// Whether a level is 0, over `MOST_LEVEL`, or over the level before plus 1.
 fn bad_level(before: u32, level: u32) -> bool
-    requires { ⌜ before ≤ 64 ⌝ }
+    requires { ⌜ before ≤ mostLevel ⌝ }
     ensures { λ r. ⌜ r ≡ badLevel before level ⌝ }
 {
-    (level == 0) | (64 < level) | (before + 1 < level)
+    (level == 0) | (MOST_LEVEL < level) | (before + 1 < level)
 }
 
 // The tests 8 and 9.
@@ -46,7 +48,7 @@ pub(crate) fn judge(
     before: u32,
     o: Open,
 ) -> Judged
-    requires { ⌜ (now table ≡ placeTable) × (now groups ≡ kindGroups) × (before ≤ 64) ⌝ }
+    requires { ⌜ (now table ≡ placeTable) × (now groups ≡ kindGroups) × (before ≤ mostLevel) ⌝ }
     ensures { λ j. ⌜ j ≡ judge (now (bytes .entry)) i r before o ⌝ }
 {
     if !kinds::is_kind(r.kind) {

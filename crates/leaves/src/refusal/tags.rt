@@ -21,8 +21,8 @@ fn tag_under(sheet: &[u32], n: usize, i: usize, level: u32) -> bool
     (records::kind_at(sheet, i) == kinds::HTML_TAG) & (level < records::level_at(sheet, i))
 }
 
-// Whether record `i` is an HTML container with fewer than two tags. Its tags are the records after it, since
-// no content stands before the second tag and nothing under a tag.
+// Whether record `i` is an HTML container with fewer than two tags. Its tags can only be the next two records: no
+// content stands before the second tag, and nothing stands under a tag.
 fn lacks_tags(sheet: &[u32], n: usize, i: usize) -> bool
     requires { ⌜ Containers (now sheet) n × (i < n) ⌝ }
     ensures { λ r. ⌜ r ≡ lacksTags (now (sheet .entry)) n i ⌝ }
@@ -33,7 +33,7 @@ fn lacks_tags(sheet: &[u32], n: usize, i: usize) -> bool
     (records::kind_at(sheet, i) == kinds::HTML_CONTAINER) & !(first & second)
 }
 
-// Test 10: the first container that lacks a tag.
+// Makes test 10, and answers the first container that lacks a tag.
 pub(crate) fn judge_tags(sheet: &[u32], n: usize) -> Judged
     requires { ⌜ Containers (now sheet) n ⌝ }
     ensures { λ j. ⌜ j ≡ tagsFrom (now (sheet .entry)) n n 0 ⌝ }

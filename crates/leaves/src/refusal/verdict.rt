@@ -2,7 +2,7 @@
 ghost use mathlib.Core.Path.{_≡_};
 ghost use Rattle.leaves.specs.Refusal.Verdict.{refusalAnswer, judgedAnswer, isAccepted};
 
-// A refusal by document 01's name for it, at a record.
+// A refusal, by the name that document 01 gives it; from 4 on with the record that it names.
 pub enum Refusal {
     OddSheet,
     LongSheet,
@@ -78,7 +78,6 @@ pub fn record_of(j: Judged) -> usize
     }
 }
 
-// Whether nothing is refused.
 pub fn is_accepted(j: Judged) -> bool
     ensures { λ r. ⌜ r ≡ isAccepted j ⌝ }
 {

@@ -1,13 +1,14 @@
-// The report's entries: counted, and written where they fit.
+// Counts the report's entries, and writes those that fit.
 ghost use mathlib.Core.Path.{_≡_};
 ghost use mathlib.Core.Bool.{cond};
 ghost use Prim.Native.Nat.{_+_, _≤_};
 ghost use lib.ListN.{length};
 ghost use Rattle.leaves.specs.Report.Entries.{words, headWords, listIf, capped, start, counted, Lists};
 ghost use Rattle.leaves.specs.Text.Lists.{over};
+ghost use Rattle.leaves.specs.Refusal.Limits.{mostLevel};
 use crate::sheet::records::Span;
 
-// What a sum of the tally stops at: no report is as long.
+// The most that a sum of the tally can be; no report has so many words.
 const CAP: usize = 4611686018427387904;
 
 // How many words of an entry stand before its path.
@@ -54,10 +55,11 @@ fn copy_at(dst: &mut [u32], at: usize, src: &[u32])
     }
 }
 
-// Writes an entry at the front of the tail, where it fits whole.
+// Writes an entry at the front of the tail, if the whole entry fits.
 fn write_entry(tail: &mut [u32], rule: u32, span: Span, path: &[u32])
-    requires { ⌜ length (now path) ≤ 64 ⌝ }
-    ensures { λ _. ⌜ now (tail .exit) ≡ over (now (tail .entry)) 0 (words (record { rule = rule; span = span; path = now (path .entry) })) ⌝ }
+    requires { ⌜ length (now path) ≤ mostLevel ⌝ }
+    ensures { λ _. ⌜ now (tail .exit)
+        ≡ over (now (tail .entry)) 0 (words (record { rule = rule; span = span; path = now (path .entry) })) ⌝ }
 {
     let n = path.len();
     if tail.len() < HEAD + n {
@@ -70,8 +72,11 @@ fn write_entry(tail: &mut [u32], rule: u32, span: Span, path: &[u32])
 
 // Where `fault` holds, lends the report's tail from word `at` on to the entry writer.
 fn write_if(fault: bool, report: &mut [u32], at: usize, rule: u32, span: Span, path: &[u32])
-    requires { ⌜ length (now path) ≤ 64 ⌝ }
-    ensures { λ _. ⌜ now (report .exit) ≡ cond fault (over (now (report .entry)) at (words (record { rule = rule; span = span; path = now (path .entry) }))) (now (report .entry)) ⌝ }
+    requires { ⌜ length (now path) ≤ mostLevel ⌝ }
+    ensures { λ _. ⌜ now (report .exit)
+        ≡ cond fault
+        (over (now (report .entry)) at (words (record { rule = rule; span = span; path = now (path .entry) })))
+        (now (report .entry)) ⌝ }
 {
     if !fault {
         return;
@@ -84,7 +89,7 @@ fn write_if(fault: bool, report: &mut [u32], at: usize, rule: u32, span: Span, p
 
 // Where `fault` holds, counts an entry whose path has n words.
 fn count_if(fault: bool, tally: Tally, n: usize) -> Tally
-    requires { ⌜ n ≤ 64 ⌝ }
+    requires { ⌜ n ≤ mostLevel ⌝ }
     ensures { λ r. ⌜ r ≡ cond fault (counted tally (headWords + n)) tally ⌝ }
 {
     if !fault {
@@ -96,7 +101,7 @@ fn count_if(fault: bool, tally: Tally, n: usize) -> Tally
     }
 }
 
-// Where `fault` holds, the diagnostic is counted, and written behind those before it where it fits whole.
+// Where `fault` holds, counts the diagnostic, and writes its entry behind those before it if the whole entry fits.
 pub fn list_if(
     fault: bool,
     report: &mut [u32],
@@ -105,8 +110,9 @@ pub fn list_if(
     path: &[u32],
     tally: Tally,
 ) -> Tally
-    requires { ⌜ length (now path) ≤ 64 ⌝ }
-    ensures { λ r. ⌜ Lists tally r (now (report .entry)) (now (report .exit)) (listIf fault rule span (now (path .entry))) ⌝ }
+    requires { ⌜ length (now path) ≤ mostLevel ⌝ }
+    ensures { λ r. ⌜ Lists tally r (now (report .entry)) (now (report .exit))
+        (listIf fault rule span (now (path .entry))) ⌝ }
 {
     write_if(fault, report, tally.words, rule, span, path);
     count_if(fault, tally, path.len())

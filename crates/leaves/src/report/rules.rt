@@ -1,4 +1,5 @@
-// The rules, as document 01 numbers them.
+// The rules, as document 01 numbers them, each with its message.
+
 // "adjacent lists cannot use the same marker"
 pub const ADJACENT_LISTS: u32 = 1;
 

@@ -1,6 +1,7 @@
-// What an inline is by its kind, and by the A of a break or an emphasis.
+// Classes of inlines, by kind and, for breaks and emphasis, by A.
 ghost use mathlib.Core.Path.{_≡_};
-ghost use Rattle.leaves.specs.Sheet.Classes.{isBreak, isPlainBreak, isEmphasisContainer, isLink, namesOwnValue, namesLabel, isJoined};
+ghost use Rattle.leaves.specs.Sheet.Classes.{isBreak, isPlainBreak, isEmphasisContainer, isLink};
+ghost use Rattle.leaves.specs.Sheet.Classes.{namesOwnValue, namesLabel, isJoined};
 use crate::sheet::kinds;
 
 pub fn is_break(kind: u32) -> bool
@@ -54,7 +55,7 @@ pub fn names_label(kind: u32) -> bool
         | (kind == kinds::FOOTNOTE_REFERENCE)
 }
 
-// Whether an only child is written with the same delimiter as what holds it.
+// Whether an only child is written with the same delimiter as its parent.
 pub fn is_joined(outer: u32, outer_a: u32, inner: u32, inner_a: u32) -> bool
     ensures { λ r. ⌜ r ≡ isJoined outer «outer_a» inner «inner_a» ⌝ }
 {

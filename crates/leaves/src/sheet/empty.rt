@@ -1,4 +1,4 @@
-// Whether a text has no bytes, and one that has none.
+// Texts of no bytes.
 ghost use mathlib.Core.Path.{_≡_};
 ghost use Rattle.leaves.specs.Sheet.Empty.{isEmpty, isEmptyText, onlyIf};
 use crate::sheet::kinds;
@@ -17,7 +17,7 @@ pub fn is_empty_text(r: Rec) -> bool
     (r.kind == kinds::TEXT) & is_empty(r.first)
 }
 
-// The text where it counts, else one of no bytes, which is quickly read.
+// The text where `counts` holds, else a text of no bytes, which is quickly read.
 pub fn only_if(counts: bool, t: Text) -> Text
     ensures { λ r. ⌜ r ≡ onlyIf counts t ⌝ }
 {

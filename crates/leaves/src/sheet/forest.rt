@@ -1,4 +1,5 @@
-// Trees side by side, by the numbers of their records: whether one stands here, where they end, and how many there are.
+// The trees of a sheet, by record number: whether one stands at a record, where trees side by side end, and how many
+// there are.
 ghost use mathlib.Core.Path.{_≡_};
 ghost use Prim.Native.Nat.{_+_, _*_, _≤_};
 ghost use lib.Dec.{eqb};
@@ -7,7 +8,7 @@ ghost use Rattle.leaves.specs.Sheet.Records.{recordWords};
 ghost use Rattle.leaves.specs.Sheet.Forest.{under, size, count};
 use crate::sheet::records;
 
-// Whether no tree that is deeper than `level` stands at record `i`.
+// Whether no tree deeper than `level` stands at record `i`.
 pub fn ends(sheet: &[u32], n: usize, i: usize, level: u32) -> bool
     requires { ⌜ (n * recordWords ≤ length (now sheet)) × (i ≤ n) ⌝ }
     ensures { λ r. ⌜ r ≡ eqb (count (under (now (sheet .entry)) n i level)) 0 ⌝ }
@@ -18,7 +19,7 @@ pub fn ends(sheet: &[u32], n: usize, i: usize, level: u32) -> bool
     records::level_at(sheet, i) <= level
 }
 
-// The record after those from `from` on that are deeper than `level`.
+// The first record from `from` on that is not deeper than `level`; `n` where there is none.
 pub fn skip(sheet: &[u32], n: usize, from: usize, level: u32) -> usize
     requires { ⌜ (n * recordWords ≤ length (now sheet)) × (from ≤ n) ⌝ }
     ensures { λ r. ⌜ r ≡ from + size (under (now (sheet .entry)) n from level) ⌝ }
@@ -33,7 +34,7 @@ pub fn skip(sheet: &[u32], n: usize, from: usize, level: u32) -> usize
     i
 }
 
-// How many trees stand side by side from record `from` on that are deeper than `level`.
+// How many trees deeper than `level` stand side by side from record `from` on.
 pub fn count(sheet: &[u32], n: usize, from: usize, level: u32) -> usize
     requires { ⌜ (n * recordWords ≤ length (now sheet)) × (from ≤ n) ⌝ }
     ensures { λ r. ⌜ r ≡ count (under (now (sheet .entry)) n from level) ⌝ }

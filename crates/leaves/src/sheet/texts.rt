@@ -20,7 +20,7 @@ pub(crate) fn text_outside(bytes: &[u8], t: Text) -> bool
     bytes.len() < start + len
 }
 
-// A text of no bytes is well-formed, and most records have one.
+// Most texts have no bytes, and such a text is well-formed.
 pub(crate) fn text_ill_formed(bytes: &[u8], t: Text) -> bool
     ensures { λ r. ⌜ r ≡ textIllFormed (now (bytes .entry)) t ⌝ }
 {

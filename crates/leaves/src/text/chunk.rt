@@ -1,5 +1,5 @@
-// Whether the next sixteen bytes can be passed over. The tests of one chunk are joined without a branch, which
-// the compiler makes one test of sixteen bytes.
+// Passes over bytes, a chunk of sixteen at a time. The tests of one chunk are joined without a branch, so that the
+// compiler makes them one test of sixteen bytes.
 ghost use mathlib.Core.Path.{_≡_};
 ghost use Prim.Native.Nat.{_+_, _≤_};
 ghost use lib.ListN.{length, drop};
@@ -73,9 +73,9 @@ fn lacks(s: &[u8], i: usize, a: u8, b: u8) -> bool
         & four_lack(s, i + 12, a, b)
 }
 
-// The same as long as none of their bytes is `a` or `b`. How far it goes is left open here too: only speed depends
-// on it. What holds of the answer (`Past`) is that it lies between `from` and the end, and that no byte passed over
-// is `a` or `b`.
+// Passes over chunks from `from` on as long as none of their bytes is `a` or `b`. How far it goes is left open: only
+// speed depends on it. What holds of the answer (`Past`) is that it lies between `from` and the end, and that no byte
+// passed over is `a` or `b`.
 pub(crate) fn past(s: &[u8], from: usize, a: u8, b: u8) -> usize
     requires { ⌜ from ≤ length (now s) ⌝ }
     ensures { λ r. ⌜ Past (isNeither a b) (now (s .entry)) from r ⌝ }

@@ -1,4 +1,4 @@
-// Lines of fields, each ended by LF: read, and written.
+// Reads and writes lines of fields, each ended by LF.
 ghost use mathlib.Core.Path.{_≡_};
 ghost use Prim.Native.Nat.{_+_, _≤_};
 ghost use lib.Dec.{eqb};
@@ -43,10 +43,12 @@ fn ends_at(s: &[u8], at: usize) -> bool
     s[at] == LF
 }
 
-// Reads a line with a field for each of the words, from the front of the slice; answers whether it is well-formed. The word of a malformed field is 0.
+// Reads a line from the front of the slice, a field for each of the words, and answers whether it is well-formed.
+// The word of a malformed field is 0.
 pub fn read_line(s: &[u8], words: &mut [u32]) -> bool
     requires { ⌜ length (now words) ≤ 12 ⌝ }
-    ensures { λ r. ⌜ (r ≡ isLine (length (now (words .entry))) (now (s .entry))) × (now (words .exit) ≡ numbers (length (now (words .entry))) (now (s .entry))) ⌝ }
+    ensures { λ r. ⌜ (r ≡ isLine (length (now (words .entry))) (now (s .entry)))
+        × (now (words .exit) ≡ numbers (length (now (words .entry))) (now (s .entry))) ⌝ }
 {
     let mut good = true;
     let mut at: usize = 0;
@@ -61,7 +63,7 @@ pub fn read_line(s: &[u8], words: &mut [u32]) -> bool
     good & ends_at(s, at)
 }
 
-// Writes a line of these numbers from `at` on; answers where it ends.
+// Writes a line of these numbers from `at` on, and answers where it ends.
 pub fn write_line(out: &mut [u8], at: usize, words: &[u32]) -> usize
     requires { ⌜ at + lineBytes (length (now words)) ≤ length (now out) ⌝ }
     ensures { λ r. ⌜ Writes (now (out .entry)) at (line (now (words .entry))) (now (out .exit)) r ⌝ }

@@ -8,7 +8,7 @@ ghost use Rattle.leaves.specs.Text.EdgeScans.{lastBlank, Led, Ended};
 use crate::text::bytes;
 use crate::text::lines::is_cr_of_crlf;
 
-// Where the first byte stands that is no space and no tab; the length where there is none.
+// The place of the first byte that is no space and no tab; the length where there is none.
 fn leading_blanks(s: &[u8]) -> usize
     ensures { λ r. ⌜ Led (now (s .entry)) r ⌝ }
 {
@@ -23,7 +23,7 @@ fn leading_blanks(s: &[u8]) -> usize
 }
 
 // Whether the last line of what stands from `from` on is blank.
-// `blank` is of the line being read, `last` of the last line that has a byte or an ending.
+// `blank`: the line being read is blank so far. `last`: the last line that has a byte or an ending is blank.
 fn last_line_is_blank(s: &[u8], from: usize) -> bool
     requires { ⌜ from ≤ length (now s) ⌝ }
     ensures { λ r. ⌜ r ≡ lastBlank true true (drop from (now (s .entry))) ⌝ }
@@ -44,7 +44,8 @@ fn last_line_is_blank(s: &[u8], from: usize) -> bool
     last
 }
 
-// The last byte after `at` that is neither blank nor a line ending, or `at`: the last line is as blank from there on.
+// The place of the last byte after `at` that is neither blank nor a line ending; `at` where there is none. The last
+// line is blank exactly where it is blank when read from there on.
 fn last_solid(s: &[u8], at: usize) -> usize
     requires { ⌜ at < length (now s) ⌝ }
     ensures { λ r. ⌜ Ended (now (s .entry)) at r ⌝ }
@@ -60,8 +61,8 @@ fn last_solid(s: &[u8], at: usize) -> usize
     i
 }
 
-// Whether the first or the last line is blank; a text with no line counts as a blank one. The lines between
-// are not read.
+// Whether the first or the last line is blank; a text with no line counts as one blank line. The lines between are
+// not read.
 pub fn has_blank_edge_line(s: &[u8]) -> bool
     ensures { λ r. ⌜ r ≡ hasBlankEdgeLine (now (s .entry)) ⌝ }
 {

@@ -22,7 +22,7 @@ fn fence_byte(kind: FrontmatterKind) -> u8
     }
 }
 
-// How many bytes of a fence are still to come in the line, after `b`; 4 where the line is none.
+// How many bytes of a fence are still to come in the line, after `b`; 4 where the line is no fence.
 fn fence_left(c: u8, left: u8, b: u8) -> u8
     ensures { λ r. ⌜ r ≡ fenceLeft c left b ⌝ }
 {
@@ -38,7 +38,8 @@ fn fence_left(c: u8, left: u8, b: u8) -> u8
     4
 }
 
-// The same at any byte of a text: a line that ends leaves a whole fence to come.
+// The same for any byte of a text. `skips`: `b` is the CR of a CRLF, which changes nothing. `ends`: `b` ends the line,
+// so the three bytes of a fence are still to come.
 fn left_after(c: u8, left: u8, b: u8, skips: bool, ends: bool) -> u8
     ensures { λ r. ⌜ r ≡ (if skips then left else if ends then 3 else fenceLeft c left b) ⌝ }
 {
@@ -51,7 +52,8 @@ fn left_after(c: u8, left: u8, b: u8, skips: bool, ends: bool) -> u8
     fence_left(c, left, b)
 }
 
-// Whether some line is a fence of the byte `c`; `left` bytes of one are to come in the line being read.
+// Whether some line is a fence of the byte `c`. `left`: how many bytes of a fence are still to come in the line being
+// read.
 fn holds_fence_of(s: &[u8], c: u8) -> bool
     ensures { λ r. ⌜ r ≡ fenceFrom c 3 (now (s .entry)) ⌝ }
 {
@@ -70,7 +72,7 @@ fn holds_fence_of(s: &[u8], c: u8) -> bool
     left == 0
 }
 
-// Whether some line is the fence of its kind, with spaces and tabs after it or none.
+// Whether some line is the fence of the kind; spaces and tabs may follow it.
 pub fn holds_fence_line(s: &[u8], kind: FrontmatterKind) -> bool
     ensures { λ r. ⌜ r ≡ holdsFenceLine kind (now (s .entry)) ⌝ }
 {

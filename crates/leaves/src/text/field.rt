@@ -1,9 +1,10 @@
-// A field of 11 places: read, and written.
+// Reads and writes a field of 11 places.
 ghost use mathlib.Core.Path.{_≡_};
 ghost use Prim.Native.Nat.{_+_, _≤_};
 ghost use lib.ListN.{length};
 ghost use Rattle.leaves.specs.Text.Lists.{over};
-ghost use Rattle.leaves.specs.Text.Field.{places, field, lastPlace, front, pastSpaces, readDigits, readNumber, readField};
+ghost use Rattle.leaves.specs.Text.Field.{places, field, lastPlace, front};
+ghost use Rattle.leaves.specs.Text.Field.{pastSpaces, readDigits, readNumber, readField};
 use crate::text::bytes::SPACE;
 use crate::text::bytes::is_digit;
 
@@ -22,7 +23,7 @@ pub(crate) enum Column {
     Malformed,
 }
 
-// What stands behind the spaces in front.
+// The slice without its leading spaces.
 fn past_spaces(s: &[u8]) -> &[u8]
     ensures { λ r. ⌜ now r ≡ pastSpaces (now (s .entry)) ⌝ }
 {
@@ -42,7 +43,7 @@ fn wide(b: u8) -> u64
     b as u64
 }
 
-// The number of these digits, all of them.
+// The number that the bytes make as digits; malformed where one is no digit or the number is over `MOST`.
 fn read_digits(s: &[u8]) -> Column
     ensures { λ r. ⌜ r ≡ readDigits 0 (now (s .entry)) ⌝ }
 {
@@ -63,7 +64,7 @@ fn read_digits(s: &[u8]) -> Column
     Column::Number(n as u32)
 }
 
-// Some digits, and no 0 in front of others.
+// The number of one or more digits; malformed where a 0 stands in front of other digits.
 fn read_number(s: &[u8]) -> Column
     ensures { λ r. ⌜ r ≡ readNumber (now (s .entry)) ⌝ }
 {
@@ -86,7 +87,7 @@ pub(crate) fn read_field(s: &[u8]) -> Column
     read_number(past_spaces(s))
 }
 
-// A digit of what is left of a number, or a space where nothing is left.
+// The last digit of what is left of a number; a space where nothing is left.
 fn last_place(n: u32) -> u8
     ensures { λ r. ⌜ r ≡ lastPlace n ⌝ }
 {
@@ -96,7 +97,7 @@ fn last_place(n: u32) -> u8
     ZERO + (n % 10) as u8
 }
 
-// Fills the slice with what is left of a number, from the last place on.
+// Fills the slice with what is left of a number, from the last place to the first.
 fn put_front(cells: &mut [u8], n: u32)
     ensures { λ _. ⌜ now (cells .exit) ≡ front (length (now (cells .entry))) n ⌝ }
 {

@@ -27,7 +27,7 @@ fn continues_run(b: u8) -> bool
     bytes::is_letter(b)
 }
 
-// Whether the name is runs joined by single hyphens; `start`: a run has to start here.
+// Whether the name is runs joined by single hyphens. `start`: a run has to start at the byte being read.
 pub fn is_directive_name(s: &[u8]) -> bool
     ensures { λ r. ⌜ r ≡ isDirectiveName (now (s .entry)) ⌝ }
 {
@@ -83,7 +83,7 @@ fn is_trimmed_byte(b: u8) -> bool
     bytes::is_blank_byte(b) | bytes::is_line_ending_byte(b)
 }
 
-// Whether nothing is left of an identifier that is trimmed of spaces, tabs, LFs and CRs.
+// Whether nothing is left of an identifier once spaces, tabs, LFs and CRs are trimmed off.
 pub fn is_blank_identifier(s: &[u8]) -> bool
     ensures { λ r. ⌜ r ≡ isBlankIdentifier (now (s .entry)) ⌝ }
 {

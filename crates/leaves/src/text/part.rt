@@ -2,7 +2,7 @@
 ghost use mathlib.Core.Path.{_≡_};
 ghost use Rattle.leaves.specs.Text.Part.{partOf};
 
-// The caller's own bytes from `start`, `len` of them; none where they do not lie inside the text.
+// `len` bytes of the caller's own slice, from `start` on; none where they do not all lie inside the text.
 pub fn part(text: &[u8], start: usize, len: usize) -> &[u8]
     ensures { λ r. ⌜ now r ≡ partOf (now (text .entry)) start len ⌝ }
 {

@@ -6,7 +6,7 @@ use crate::text::bytes::PIPE;
 use crate::text::chunk;
 use crate::text::chunk::CHUNK;
 
-// Whether a `|` stands right after an odd run of backslashes; `odd` is of the run before the byte read.
+// Whether a `|` stands right after an odd run of backslashes. `odd`: the run before the byte being read is odd.
 pub fn has_odd_escaped_pipe(s: &[u8]) -> bool
     ensures { λ r. ⌜ r ≡ hasOddEscapedPipe (now (s .entry)) ⌝ }
 {

@@ -3,7 +3,7 @@ ghost use mathlib.Core.Path.{_≡_};
 ghost use Rattle.leaves.specs.Text.Title.{isAlertTitle};
 use crate::text::bytes;
 
-// Whether there is a title with no space and no tab at its ends.
+// Whether the title has a byte, and no space or tab at its ends.
 pub fn is_alert_title(s: &[u8]) -> bool
     ensures { λ r. ⌜ r ≡ isAlertTitle (now (s .entry)) ⌝ }
 {

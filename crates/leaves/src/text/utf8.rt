@@ -3,40 +3,41 @@ ghost use mathlib.Core.Path.{_≡_};
 ghost use Prim.Native.Nat.{_+_, _<_, _≤_, min};
 ghost use lib.ListN.{length, drop};
 ghost use Rattle.leaves.specs.Text.Utf8.{isUtf8, wellFormed, follow, table};
-ghost use Rattle.leaves.specs.Text.Utf8Scans.{breaks, owedAfter};
-ghost use Rattle.leaves.specs.Text.Utf8Owed.{owedOf, Owes};
+ghost use Rattle.leaves.specs.Text.Utf8Scans.{breaks, expectedAfter, stretch};
+ghost use Rattle.leaves.specs.Text.Utf8Expected.{expectedOf, Expects};
 use crate::text::chunk;
 
+// How many bytes are read one at a time before chunks of ASCII are looked for again.
 const STRETCH: usize = 64;
 
-// What is owed of a sequence that has begun: how many bytes, and the range of the next.
-// Those after the next are from 0x80 to 0xBF, and so is the range where nothing is owed.
-pub(crate) struct Owed {
+// What a sequence that has begun expects: how many more bytes, and the range of the next one. The bytes after the next
+// must be from 0x80 to 0xBF. Where no more bytes are expected, the range is 0x80 to 0xBF too.
+pub(crate) struct Expected {
     pub more: u8,
     pub low: u8,
     pub high: u8,
 }
 
-// What follows a first byte. A byte that begins no sequence is followed by nothing that fits.
-fn follow(b: u8) -> Owed
-    ensures { λ r. ⌜ Owes (follow table b) r ⌝ }
+// What is expected after the first byte of a sequence. After a byte that begins none: a range that no byte fits.
+fn follow(b: u8) -> Expected
+    ensures { λ r. ⌜ Expects (follow table b) r ⌝ }
 {
     if b < 0x80 {
-        return Owed {
+        return Expected {
             more: 0,
             low: 0x80,
             high: 0xBF,
         };
     }
     if b < 0xC2 {
-        return Owed {
+        return Expected {
             more: 1,
             low: 0xBF,
             high: 0x80,
         };
     }
     if b < 0xE0 {
-        return Owed {
+        return Expected {
             more: 1,
             low: 0x80,
             high: 0xBF,
@@ -48,105 +49,106 @@ fn follow(b: u8) -> Owed
     follow_of_four(b)
 }
 
-fn follow_of_three(b: u8) -> Owed
+fn follow_of_three(b: u8) -> Expected
     requires { ⌜ (0xE0 ≤ b) × (b < 0xF0) ⌝ }
-    ensures { λ r. ⌜ Owes (follow table b) r ⌝ }
+    ensures { λ r. ⌜ Expects (follow table b) r ⌝ }
 {
     if b == 0xE0 {
-        return Owed {
+        return Expected {
             more: 2,
             low: 0xA0,
             high: 0xBF,
         };
     }
     if b == 0xED {
-        return Owed {
+        return Expected {
             more: 2,
             low: 0x80,
             high: 0x9F,
         };
     }
-    Owed {
+    Expected {
         more: 2,
         low: 0x80,
         high: 0xBF,
     }
 }
 
-fn follow_of_four(b: u8) -> Owed
+fn follow_of_four(b: u8) -> Expected
     requires { ⌜ 0xF0 ≤ b ⌝ }
-    ensures { λ r. ⌜ Owes (follow table b) r ⌝ }
+    ensures { λ r. ⌜ Expects (follow table b) r ⌝ }
 {
     if b == 0xF0 {
-        return Owed {
+        return Expected {
             more: 3,
             low: 0x90,
             high: 0xBF,
         };
     }
     if b < 0xF4 {
-        return Owed {
+        return Expected {
             more: 3,
             low: 0x80,
             high: 0xBF,
         };
     }
     if b == 0xF4 {
-        return Owed {
+        return Expected {
             more: 3,
             low: 0x80,
             high: 0x8F,
         };
     }
-    Owed {
+    Expected {
         more: 1,
         low: 0xBF,
         high: 0x80,
     }
 }
 
-// Whether `b` is not what is owed.
-pub(crate) fn breaks(owed: Owed, b: u8) -> bool
-    ensures { λ r. ⌜ r ≡ breaks (owedOf owed) b ⌝ }
+// Whether a byte is expected and `b` does not fit.
+pub(crate) fn breaks(expected: Expected, b: u8) -> bool
+    ensures { λ r. ⌜ r ≡ breaks (expectedOf expected) b ⌝ }
 {
-    if owed.more == 0 {
+    if expected.more == 0 {
         return false;
     }
-    (b < owed.low) | (owed.high < b)
+    (b < expected.low) | (expected.high < b)
 }
 
-// What is owed after `b`.
-pub(crate) fn owed_after(owed: Owed, b: u8) -> Owed
-    ensures { λ r. ⌜ Owes (owedAfter (owedOf owed) b) r ⌝ }
+// What is expected after `b`.
+pub(crate) fn expected_after(expected: Expected, b: u8) -> Expected
+    ensures { λ r. ⌜ Expects (expectedAfter (expectedOf expected) b) r ⌝ }
 {
-    if owed.more == 0 {
+    if expected.more == 0 {
         return follow(b);
     }
-    if (b < owed.low) | (owed.high < b) {
+    if (b < expected.low) | (expected.high < b) {
         return follow(b);
     }
-    Owed {
-        more: owed.more - 1,
+    Expected {
+        more: expected.more - 1,
         low: 0x80,
         high: 0xBF,
     }
 }
 
-// What is owed at `end`, where `owed` is owed at `from`: what no byte fits, where a byte between them is not
-// what was owed. By which numbers the answer says so is left open; what holds of it is that the bytes from `end`
-// on are well-formed after it exactly where those from `from` on are after `owed`.
-fn owed_at(s: &[u8], from: usize, end: usize, owed: Owed) -> Owed
+// What is expected at `end`, where `expected` is expected at `from`. Where a byte between them does not fit, the answer
+// is a range that no byte fits; which one is left open. What holds of the answer is that the bytes from `end` on are
+// well-formed after it exactly where the bytes from `from` on are well-formed after `expected`.
+fn expected_at(s: &[u8], from: usize, end: usize, expected: Expected) -> Expected
     requires { ⌜ (from ≤ end) × (end ≤ length (now s)) ⌝ }
-    ensures { λ r. ⌜ wellFormed (owedOf r) (drop end (now (s .entry))) ≡ wellFormed (owedOf owed) (drop from (now (s .entry))) ⌝ }
+    ensures { λ r. ⌜ wellFormed (expectedOf r) (drop end (now (s .entry)))
+        ≡ wellFormed (expectedOf expected) (drop from (now (s .entry))) ⌝ }
 {
-    let mut o = owed;
+    let mut o = expected;
     let mut i = from;
     while i < end {
         let b = s[i];
         if breaks(o, b) {
             return follow(0xFF);
         }
-        o = owed_after(o, b);
+        o = expected_after(o, b);
         i = i + 1;
     }
     o
@@ -155,7 +157,7 @@ fn owed_at(s: &[u8], from: usize, end: usize, owed: Owed) -> Owed
 // The end of a stretch of at most `STRETCH` bytes from `i` on.
 fn stretch_end(len: usize, i: usize) -> usize
     requires { ⌜ i ≤ len ⌝ }
-    ensures { λ r. ⌜ r ≡ min len (i + 64) ⌝ }
+    ensures { λ r. ⌜ r ≡ min len (i + stretch) ⌝ }
 {
     if len - i < STRETCH {
         return len;
@@ -163,35 +165,38 @@ fn stretch_end(len: usize, i: usize) -> usize
     i + STRETCH
 }
 
-// Past ASCII, sixteen bytes at once, where nothing is owed. How far is left open: only speed depends on it. What
-// holds of the answer is that it lies between `i` and the end, and that passing over the bytes between changes
-// nothing: the rest is well-formed after `owed` exactly where all from `i` on is.
-fn past_ascii(s: &[u8], i: usize, owed: Owed) -> usize
+// Passes over chunks of ASCII where no more bytes are expected. How far it goes is left open: only speed depends on it.
+// What holds of the answer is that it lies between `i` and the end, and that the bytes from it on are well-formed after
+// `expected` exactly where the bytes from `i` on are.
+fn past_ascii(s: &[u8], i: usize, expected: Expected) -> usize
     requires { ⌜ i ≤ length (now s) ⌝ }
-    ensures { λ r. ⌜ (i ≤ r) × (r ≤ length (now (s .entry))) × (wellFormed (owedOf owed) (drop i (now (s .entry))) ≡ wellFormed (owedOf owed) (drop r (now (s .entry)))) ⌝ }
+    ensures { λ r. ⌜ (i ≤ r)
+        × (r ≤ length (now (s .entry)))
+        × (wellFormed (expectedOf expected) (drop i (now (s .entry)))
+        ≡ wellFormed (expectedOf expected) (drop r (now (s .entry)))) ⌝ }
 {
-    if owed.more == 0 {
+    if expected.more == 0 {
         return chunk::past_ascii(s, i);
     }
     i
 }
 
-// ASCII is passed over, and then a stretch is read a byte at a time: among other characters a chunk is seldom
-// all ASCII.
+// Passes over chunks of ASCII, then reads a stretch a byte at a time: among other characters a chunk is seldom all
+// ASCII.
 pub fn is_utf8(s: &[u8]) -> bool
     ensures { λ r. ⌜ r ≡ isUtf8 (now (s .entry)) ⌝ }
 {
-    let mut owed = Owed {
+    let mut expected = Expected {
         more: 0,
         low: 0x80,
         high: 0xBF,
     };
     let mut i: usize = 0;
     while i < s.len() {
-        let from = past_ascii(s, i, owed);
+        let from = past_ascii(s, i, expected);
         let end = stretch_end(s.len(), from);
-        owed = owed_at(s, from, end, owed);
+        expected = expected_at(s, from, end, expected);
         i = end;
     }
-    owed.more == 0
+    expected.more == 0
 }

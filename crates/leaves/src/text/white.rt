@@ -2,13 +2,13 @@
 ghost use mathlib.Core.Path.{_≡_};
 ghost use Prim.Native.Nat.{_<_};
 ghost use Rattle.leaves.specs.Text.Lists.{if_then_else_};
-ghost use Rattle.leaves.specs.Text.Utf8Owed.{owedOf};
+ghost use Rattle.leaves.specs.Text.Utf8Expected.{expectedOf};
 ghost use Rattle.leaves.specs.Text.Scalars.{leadBits, replacement};
 ghost use Rattle.leaves.specs.Text.WhiteScans.{Valued, room, Begins};
 ghost use Rattle.leaves.specs.Text.White.{isWhite, startsWithWhite, endsWithWhite};
 use crate::text::bytes::between;
 use crate::text::utf8;
-use crate::text::utf8::Owed;
+use crate::text::utf8::Expected;
 
 const REPLACEMENT: u32 = 0xFFFD;
 
@@ -45,15 +45,15 @@ fn lead_bits(b: u8) -> u32
     wide % 0x08
 }
 
-// The value of the bits so far, with those of `b`.
-fn value_after(owed: Owed, value: u32, b: u8) -> u32
-    requires { ⌜ value < room (owed .more) ⌝ }
-    ensures { λ r. ⌜ Valued (owedOf owed) value b r ⌝ }
+// The value of a character's bits so far, with those of `b`.
+fn value_after(expected: Expected, value: u32, b: u8) -> u32
+    requires { ⌜ value < room (expected .more) ⌝ }
+    ensures { λ r. ⌜ Valued (expectedOf expected) value b r ⌝ }
 {
-    if owed.more == 0 {
+    if expected.more == 0 {
         return lead_bits(b);
     }
-    if (b < owed.low) | (owed.high < b) {
+    if (b < expected.low) | (expected.high < b) {
         return lead_bits(b);
     }
     let bits = b as u32;
@@ -63,7 +63,7 @@ fn value_after(owed: Owed, value: u32, b: u8) -> u32
 pub fn starts_with_white(s: &[u8]) -> bool
     ensures { λ r. ⌜ r ≡ startsWithWhite (now (s .entry)) ⌝ }
 {
-    let mut owed = Owed {
+    let mut expected = Expected {
         more: 0,
         low: 0x80,
         high: 0xBF,
@@ -72,12 +72,12 @@ pub fn starts_with_white(s: &[u8]) -> bool
     let mut i: usize = 0;
     while i < s.len() {
         let b = s[i];
-        if utf8::breaks(owed, b) {
+        if utf8::breaks(expected, b) {
             return false;
         }
-        value = value_after(owed, value, b);
-        owed = utf8::owed_after(owed, b);
-        if owed.more == 0 {
+        value = value_after(expected, value, b);
+        expected = utf8::expected_after(expected, b);
+        if expected.more == 0 {
             return is_white(value);
         }
         i = i + 1;
@@ -105,7 +105,7 @@ fn wide(b: u8) -> u32
     b as u32
 }
 
-// The last scalar value so far: that of a sequence that is whole, or of one that was broken.
+// The last scalar value so far: `value` where a sequence is now whole, U+FFFD where one was broken, else `last`.
 fn last_after(whole: bool, broken: bool, value: u32, last: u32) -> u32
     ensures { λ r. ⌜ r ≡ (if whole then value else if broken then replacement else last) ⌝ }
 {
@@ -118,11 +118,11 @@ fn last_after(whole: bool, broken: bool, value: u32, last: u32) -> u32
     last
 }
 
-// The same as `ends_with_white`, from the first byte on.
+// The same as `ends_with_white`, but reads every byte.
 fn last_is_white(s: &[u8]) -> bool
     ensures { λ r. ⌜ r ≡ endsWithWhite (now (s .entry)) ⌝ }
 {
-    let mut owed = Owed {
+    let mut expected = Expected {
         more: 0,
         low: 0x80,
         high: 0xBF,
@@ -132,16 +132,16 @@ fn last_is_white(s: &[u8]) -> bool
     let mut i: usize = 0;
     while i < s.len() {
         let b = s[i];
-        let broken = utf8::breaks(owed, b);
-        value = value_after(owed, value, b);
-        owed = utf8::owed_after(owed, b);
-        last = last_after(owed.more == 0, broken, value, last);
+        let broken = utf8::breaks(expected, b);
+        value = value_after(expected, value, b);
+        expected = utf8::expected_after(expected, b);
+        last = last_after(expected.more == 0, broken, value, last);
         i = i + 1;
     }
-    (owed.more == 0) & is_white(last)
+    (expected.more == 0) & is_white(last)
 }
 
-// Only the bytes of the last character are read.
+// Reads the bytes of the last character only.
 pub fn ends_with_white(s: &[u8]) -> bool
     ensures { λ r. ⌜ r ≡ endsWithWhite (now (s .entry)) ⌝ }
 {

@@ -2,7 +2,7 @@
 use Prim.Native.Nat.{_-_, _<_}
 use Rattle.leaves.proofs.text.ScanLaws.{At}
 use Rattle.leaves.proofs.text.WhiteLaws.{endFrom, white-laws}
-use Rattle.leaves.specs.Text.Utf8Owed.{owedOf}
+use Rattle.leaves.specs.Text.Utf8Expected.{expectedOf}
 use Rattle.leaves.specs.Text.Scalars.{scalars}
 use Rattle.leaves.specs.Text.WhiteScans.{room}
 use Rattle.leaves.specs.Text.White.{endsWithWhite}
@@ -11,10 +11,10 @@ use Rattle.leaves.proofs.text.white.last_is_white.Statement.{statement}
 use Rattle.leaves.proofs.text.white.last_is_white.Tie as tie
 
 abbrev Inv-loop : tie.InvT-loop
-Inv-loop s owed₀ value₀ last₀ i₀ owed value last i = (value < room (owed .more)) × (At (endsWithWhite s) (endFrom last (owedOf owed) value) s i)
+Inv-loop s expected₀ value₀ last₀ i₀ expected value last i = (value < room (expected .more)) × (At (endsWithWhite s) (endFrom last (expectedOf expected) value) s i)
 
 abbrev μ-loop : tie.MeasureT-loop
-μ-loop s owed₀ value₀ last₀ i₀ owed value last i = length s - i
+μ-loop s expected₀ value₀ last₀ i₀ expected value last i = length s - i
 
 loop-holds : tie.Need-loop-holds Inv-loop μ-loop
 unfolding endsWithWhite endFrom scalars

@@ -2,7 +2,7 @@
 use Prim.Native.Nat.{_-_, _<_}
 use Rattle.leaves.proofs.text.ScanLaws.{At}
 use Rattle.leaves.proofs.text.WhiteLaws.{startFrom, white-laws}
-use Rattle.leaves.specs.Text.Utf8Owed.{owedOf}
+use Rattle.leaves.specs.Text.Utf8Expected.{expectedOf}
 use Rattle.leaves.specs.Text.Scalars.{scalars}
 use Rattle.leaves.specs.Text.WhiteScans.{room}
 use Rattle.leaves.specs.Text.White.{startsWithWhite}
@@ -11,10 +11,10 @@ use Rattle.leaves.proofs.text.white.starts_with_white.Statement.{statem
 use Rattle.leaves.proofs.text.white.starts_with_white.Tie as tie
 
 abbrev Inv-loop : tie.InvT-loop
-Inv-loop s owed₀ value₀ i₀ owed value i = (value < room (owed .more)) × (At (startsWithWhite s) (startFrom (owedOf owed) value) s i)
+Inv-loop s expected₀ value₀ i₀ expected value i = (value < room (expected .more)) × (At (startsWithWhite s) (startFrom (expectedOf expected) value) s i)
 
 abbrev μ-loop : tie.MeasureT-loop
-μ-loop s owed₀ value₀ i₀ owed value i = length s - i
+μ-loop s expected₀ value₀ i₀ expected value i = length s - i
 
 loop-holds : tie.Need-loop-holds Inv-loop μ-loop
 unfolding startsWithWhite startFrom scalars
