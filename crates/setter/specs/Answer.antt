@@ -36,8 +36,8 @@ isProper (Stopped stop i) = between 1 lastStop stop
 isProper (Refused refusal) = true
 isProper ShortMarks = true
 
--- the answer s, with the marks after it, is the answer and the marks of p. No other answer has its number and value, since
--- it is one that can be.
+-- s and the marks after it are the answer and the marks of p. Since s is an answer that can be, no other answer has its
+-- number and value.
 pub record Answers (p : Answer × List ℕ) (s : Setting) (marked : List ℕ) : Type 0 where
   pub answer : (settingAnswer s, marked) ≡ p
   pub proper : isProper s ≡ true
