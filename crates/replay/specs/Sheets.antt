@@ -24,7 +24,7 @@ sheetHead = 7
 abbrev pub mostSheetWords : ℕ
 mostSheetWords = 800
 
--- the sheet has no more words
+-- the sheet has at most so many words
 abbrev pub fewWords : List ℕ → Bool
 fewWords r = leb (pairAt r 0) mostSheetWords
 

@@ -39,7 +39,7 @@ pub fn replay_punctuation(r: &[u8], tally: Tally) -> Tally
     tally.record().compare(found == (bytes::byte(r, 4) == 1))
 }
 
-// How many bytes stand before what is expected of a part: its start and length, the length of what is expected.
+// How many bytes stand before the expected bytes of a part: its start and its length, and how many bytes are expected.
 pub const PART: usize = 17;
 
 pub fn behind_part(r: &[u8]) -> usize

@@ -104,7 +104,7 @@ unfoldable pub stopOf : List ℕ → Step → ℕ
 stopOf bytes (opens f around) = stopAt opening bytes (f .of) (seen f around)
 stopOf bytes (closes f around) = stopAt closing bytes (f .of) (seen f around)
 
--- ---- the table read the other way, for demand 3: the rule is named beside the stop; and beside any
+-- ---- the table read the other way, for demand 3: rule n is named beside stop s (`beside`), or beside any (`named`)
 abbrev pub besideIn : ℕ → ℕ → List Row → Bool
 besideIn s n [] = false
 besideIn s n (t ∷ ts) = eqb s (t .stop) && among n (t .rules) || besideIn s n ts

@@ -20,7 +20,8 @@ use leaves::sheet::records::RECORD_WORDS;
 use leaves::sheet::records::level_at;
 use leaves::sheet::records::record_at;
 
-// Open records of this level or deeper close next: the level of record `i`; after the last record 1, so that all close.
+// Open records of this level or deeper close next. It is the level of record `i`; after the last record it is 1, so
+// that all close.
 fn next_level(sheet: &[u32], n: usize, i: usize) -> u32
     requires { ⌜ n * recordWords ≤ length (now sheet) ⌝ }
     ensures { λ r. ⌜ r ≡ nextLevel (now (sheet .entry)) n i ⌝ }
