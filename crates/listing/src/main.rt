@@ -1,10 +1,12 @@
-// Lists what the check and the setting machine find in a film on standard input. What is printed for what is read is proved of `list`.
+// Reads a film on standard input and prints what the check and the setting machine find in it. The promise of `list`
+// says which bytes are printed for those that are read.
 use libc::STDIN_FILENO;
 use libc::STDOUT_FILENO;
 use setter::listing::print::OUTPUT_BYTES;
 use setter::listing::program::list;
 
-// One byte more than the largest film has: a longer one is listed by these bytes as it would be whole (`listing-cut` of `setter`).
+// One byte more than the largest film has. Of a longer film these bytes are read, and what is printed for them is what
+// would be printed for all of it: `listing-cut` of `setter` proves this.
 const INPUT_BYTES: usize = 84504;
 
 fn input_bytes() -> [u8; INPUT_BYTES] {

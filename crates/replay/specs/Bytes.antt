@@ -1,4 +1,4 @@
--- The numbers of a stored file, least byte first.
+-- The numbers of a stored record, least byte first.
 use Prim.Native.Nat.{ℕ, _+_, _*_}
 use mathlib.Core.List.{List}
 use lib.ListN.{getD}

@@ -1,4 +1,4 @@
--- What the records of a file lead to, whatever they are.
+-- What is found in a file of records, whatever records it holds.
 use Prim.Native.Nat.{ℕ}
 use mathlib.Core.Path.{_≡_}
 use mathlib.Core.Bool.{true, false}
@@ -15,16 +15,20 @@ pub data Stepped (f : Format) (sheet text : List ℕ) (t : Tally) (s : Step) : T
   ended : s .more ≡ false → s .tally ≡ t → Stepped f sheet text t s
   broke : s .more ≡ false → s .tally ≡ differing t → Stepped f sheet text t s
 
--- a tally that records lead to, one behind the other, from none on
+-- a tally that is reached from no records by replaying one record after another
 pub data Reached (f : Format) (sheet text : List ℕ) : Tally → Type 0 where
   begins : (t : Tally) → t ≡ nothing → Reached f sheet text t
-  follows : (t u : Tally) (r : List ℕ) → Reached f sheet text u → t ≡ replayed f r sheet text u → Reached f sheet text t
+  follows :
+      (t u : Tally) (r : List ℕ)
+      → Reached f sheet text u
+      → t ≡ replayed f r sheet text u
+      → Reached f sheet text t
 
--- what is found in a file: what its records lead to, or that with a difference
+-- what is found in a file: a tally that is reached, or such a tally with a difference more
 pub data Found (f : Format) (sheet text : List ℕ) (t : Tally) : Type 0 where
   whole : Reached f sheet text t → Found f sheet text t
   broken : (u : Tally) → Reached f sheet text u → t ≡ differing u → Found f sheet text t
 
--- the total with what is found in a file
+-- t is the total with what is found in a file added
 pub data Adds (f : Format) (sheet text : List ℕ) (total t : Tally) : Type 0 where
   adds : (found : Tally) → Found f sheet text found → t ≡ together total found → Adds f sheet text total t

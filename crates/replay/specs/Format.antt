@@ -2,7 +2,8 @@
 use Prim.Native.Nat.{ℕ}
 use mathlib.Core.List.{List}
 use Rattle.replay.specs.declared.format.Format.{Format}
-use Rattle.replay.specs.declared.format.Format.the-variants.{Texts, Pairs, Punctuation, Parts, Sheets, Lists, Checks, Films, Calls}
+use Rattle.replay.specs.declared.format.Format.the-variants.{Texts, Pairs, Punctuation, Parts}
+use Rattle.replay.specs.declared.format.Format.the-variants.{Sheets, Lists, Checks, Films, Calls}
 use Rattle.replay.specs.declared.tally.Tally.{Tally}
 use Rattle.replay.specs.Checks.{checksReplayed}
 use Rattle.replay.specs.Films.{filmReplayed}
@@ -12,7 +13,7 @@ use Rattle.replay.specs.Sheets.{sheetReplayed}
 use Rattle.replay.specs.Texts.{textReplayed}
 use Rattle.replay.specs.Values.{pairReplayed, punctuationReplayed, partReplayed}
 
--- the tally behind a record; the sheet and the text are the long ones of calls
+-- the tally after a record. Only a call needs the sheet and the text: they are the long ones.
 unfoldable pub replayed : Format → List ℕ → List ℕ → List ℕ → Tally → Tally
 replayed Texts r sheet text t = textReplayed r t
 replayed Pairs r sheet text t = pairReplayed r t

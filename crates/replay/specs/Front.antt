@@ -1,4 +1,4 @@
--- The exported functions by number, on the front of what is lent.
+-- The exported functions by number, each lent the front of some words as its report or its marks.
 use Prim.Native.Nat.{ℕ, _+_, _*_, _^_}
 use mathlib.Core.List.{List, _++_}
 use lib.Dec.{eqb, ltb}
@@ -8,7 +8,7 @@ use Rattle.blocks.specs.Check.{outcome}
 use Rattle.leaves.specs.Refusal.Verdict.{Answer}
 use Rattle.setter.specs.Setting.{settingOf}
 
--- no answer of either function
+-- what neither function ever answers
 abbrev pub noAnswer : ℕ
 noAnswer = 0xFFFFFFFFFFFFFFFF
 
@@ -16,17 +16,25 @@ noAnswer = 0xFFFFFFFFFFFFFFFF
 abbrev pub packed : Answer → ℕ
 packed a = a .number * 2 ^ 32 + a .value
 
--- the answer of a function for a sheet, its text and what is lent, and what is lent after it: 0 is the check, 1 the
--- setting machine
+-- the number of the check, and of the setting machine
+abbrev pub theCheck : ℕ
+theCheck = 0
+
+abbrev pub theMachine : ℕ
+theMachine = 1
+
+-- the answer of a function for a sheet, its text and the words that it is lent, and those words after it. Where neither
+-- function has the number: no answer, and the words as they were.
 unfoldable pub calledOf : ℕ → List ℕ → List ℕ → List ℕ → ℕ × List ℕ
 calledOf function w bytes lent =
-    if eqb function 0
+    if eqb function theCheck
     then (packed (outcome w bytes lent .0), outcome w bytes lent .1)
-    else if eqb function 1
+    else if eqb function theMachine
     then (packed (settingOf w bytes lent .0), settingOf w bytes lent .1)
     else (noAnswer, lent)
 
--- the same with the first m words lent; what is behind them stays
+-- the same where the first m words are lent, and those behind them stay. Where there are fewer: no answer, and the
+-- words as they were.
 unfoldable pub answeredOf : ℕ → List ℕ → List ℕ → List ℕ → ℕ → ℕ × List ℕ
 answeredOf function w bytes lent m =
     if ltb (length lent) m

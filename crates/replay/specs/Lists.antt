@@ -1,4 +1,4 @@
--- Sheets of one paragraph with the list of its inlines.
+-- Stored sheets of one paragraph, each with the list of its inlines.
 use Prim.Native.Nat.{ℕ, _+_, _*_}
 use mathlib.Core.Bool.{Bool, _&&_}
 use mathlib.Core.List.{List, [], _∷_}
@@ -22,7 +22,8 @@ use Rattle.replay.specs.Sheets.{sheetIn}
 abbrev pub inlinesOf : List ℕ → List ℕ → List Entry
 inlinesOf w bytes = validateInlines bytes (0 ∷ []) (under w (recordsOf w) 1 1)
 
--- how many words the list has, and the report that it is written into; no words and the report as it was where the sheet has no record or is refused
+-- how many words the list has, and the report after it is written. Where the sheet has no record or is refused: 0, and
+-- the report as it was.
 unfoldable pub listedOf : List ℕ → List ℕ → List ℕ → ℕ × List ℕ
 listedOf w bytes report =
     if ltb (recordsOf w) 1
@@ -31,12 +32,25 @@ listedOf w bytes report =
     then (after start (inlinesOf w bytes) .words, put report start (inlinesOf w bytes))
     else (0, report)
 
+-- how many bytes the head has
+abbrev pub listHead : ℕ
+listHead = 6
+
+-- the most words of a sheet, and of a list
+abbrev pub mostListWords : ℕ
+mostListWords = 800
+
 -- what is listed for the sheet and the text of a record, in a report of zeros
 unfoldable pub listOf : List ℕ → ℕ × List ℕ
-listOf r = listedOf (sheetIn r 6 (pairAt r 0) 800) (partOf r (6 + pairAt r 0 * 4) (pairAt r 2)) (replicate 800 0)
+listOf r =
+    listedOf
+    (sheetIn r listHead (pairAt r 0) mostListWords)
+    (partOf r (listHead + pairAt r 0 * 4) (pairAt r 2))
+    (replicate mostListWords 0)
 
--- the length of the list, and every word of the report: those stored, and 0 behind them
+-- the length of the list is compared, and every word of the report: it is the stored one, and 0 behind those
 unfoldable pub listReplayed : List ℕ → Tally → Tally
 listReplayed r t =
-    comparing (sameWords (listOf r .1) (partOf r (6 + pairAt r 0 * 4 + pairAt r 2) (pairAt r 4 * 4)) 0)
-    (comparing (leb (pairAt r 0) 800 && leb (pairAt r 4) 800 && eqb (listOf r .0) (pairAt r 4)) (recorded t))
+    comparing (sameWords (listOf r .1) (partOf r (listHead + pairAt r 0 * 4 + pairAt r 2) (pairAt r 4 * 4)) 0)
+    (comparing (leb (pairAt r 0) mostListWords && leb (pairAt r 4) mostListWords && eqb (listOf r .0) (pairAt r 4))
+    (recorded t))

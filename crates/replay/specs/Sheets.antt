@@ -1,4 +1,4 @@
--- Sheets with the refusal of each.
+-- Stored sheets, each with its refusal.
 use Prim.Native.Nat.{ℕ, _+_, _*_}
 use mathlib.Core.Bool.{Bool, _&&_}
 use mathlib.Core.List.{List}
@@ -12,19 +12,30 @@ use Rattle.replay.specs.Bytes.{byteAt, pairAt}
 use Rattle.replay.specs.Tally.{recorded, comparing}
 use Rattle.replay.specs.Words.{wordsOf, firstOf}
 
--- the sheet that stands in a record from `at` on, n words of at most `room`: no words where it has more
+-- the sheet of n words that stands in a record from `at` on; a sheet of no words where n is over `room`
 unfoldable pub sheetIn : List ℕ → ℕ → ℕ → ℕ → List ℕ
 sheetIn r at n room = firstOf (wordsOf room (partOf r at (n * 4))) n
 
--- a sheet has at most 800 words
+-- how many bytes the head has
+abbrev pub sheetHead : ℕ
+sheetHead = 7
+
+-- the most words of a sheet
+abbrev pub mostSheetWords : ℕ
+mostSheetWords = 800
+
+-- the sheet has at most so many words
 abbrev pub fewWords : List ℕ → Bool
-fewWords r = leb (pairAt r 0) 800
+fewWords r = leb (pairAt r 0) mostSheetWords
 
 -- the answer for the sheet and the text of a record
 unfoldable pub judgedOf : List ℕ → Judged
-judgedOf r = judgeSheet (sheetIn r 7 (pairAt r 0) 800) (partOf r (7 + pairAt r 0 * 4) (pairAt r 2))
+judgedOf r =
+    judgeSheet
+    (sheetIn r sheetHead (pairAt r 0) mostSheetWords)
+    (partOf r (sheetHead + pairAt r 0 * 4) (pairAt r 2))
 
--- the number and the record of the answer, and those that are stored
+-- the number and the record of the answer are compared with those that are stored
 unfoldable pub sheetReplayed : List ℕ → Tally → Tally
 sheetReplayed r t =
     comparing (fewWords r && eqb (judgedAnswer (judgedOf r) .value) (pairAt r 5))

@@ -5,11 +5,11 @@ use lib.Dec.{leb}
 use Rattle.leaves.specs.Text.Lists.{if_then_else_}
 use Rattle.replay.specs.declared.tally.Tally.{Tally}
 
--- where sums stop: no file comes near
+-- where sums stop; no file comes near it
 abbrev pub most : ℕ
 most = 0x1000000000000000
 
--- a sum of two counts
+-- a sum of two counts, and `most` where one of them is `most` or more
 unfoldable pub sumOf : ℕ → ℕ → ℕ
 sumOf a b = if leb most a then most else if leb most b then most else a + b
 
@@ -32,8 +32,18 @@ differing t = record { records = t .records; compared = t .compared; differ = su
 
 -- one comparison more, with the differences that it adds
 unfoldable pub comparing : Bool → Tally → Tally
-comparing same t = record { records = t .records; compared = sumOf (t .compared) 1; differ = sumOf (t .differ) (differencesOf same) }
+comparing same t =
+    record {
+      records = t .records;
+      compared = sumOf (t .compared) 1;
+      differ = sumOf (t .differ) (differencesOf same);
+    }
 
--- both tallies
+-- the two tallies added
 unfoldable pub together : Tally → Tally → Tally
-together t u = record { records = sumOf (t .records) (u .records); compared = sumOf (t .compared) (u .compared); differ = sumOf (t .differ) (u .differ) }
+together t u =
+    record {
+      records = sumOf (t .records) (u .records);
+      compared = sumOf (t .compared) (u .compared);
+      differ = sumOf (t .differ) (u .differ);
+    }

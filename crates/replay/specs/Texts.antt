@@ -1,4 +1,4 @@
--- Texts with the answers of each function that takes one.
+-- Stored texts, each with the fourteen answers of the functions that take a text.
 use Prim.Native.Nat.{ℕ, _/_, _%_}
 use mathlib.Core.Bool.{Bool, Bool·beq}
 use mathlib.Core.List.{List}
@@ -23,11 +23,12 @@ use Rattle.replay.specs.Tally.{recorded, comparing}
 unfoldable pub isSet : ℕ → ℕ → Bool
 isSet bits weight = eqb (bits / weight % 2) 1
 
--- an answer is compared with its bit where its bit is set in `mask`
+-- an answer is compared with its bit of `bits` where that bit is set in `mask`
 unfoldable pub comparedBit : ℕ → ℕ → ℕ → Bool → Tally → Tally
-comparedBit mask bits weight answer t = if isSet mask weight then comparing (Bool·beq answer (isSet bits weight)) t else t
+comparedBit mask bits weight answer t =
+    if isSet mask weight then comparing (Bool·beq answer (isSet bits weight)) t else t
 
--- the answers of the first seven functions, each with its bit
+-- the first seven answers are compared, each with its bit
 unfoldable pub firstSeven : List ℕ → ℕ → ℕ → Tally → Tally
 firstSeven s mask bits t =
     comparedBit mask bits 0x40 (holdsFenceLine Yaml s)
@@ -38,7 +39,7 @@ firstSeven s mask bits t =
     (comparedBit mask bits 0x2 (startsWithWhite s)
     (comparedBit mask bits 0x1 (isUtf8 s) t))))))
 
--- the answers of the last seven
+-- the last seven answers are compared
 unfoldable pub lastSeven : List ℕ → ℕ → ℕ → Tally → Tally
 lastSeven s mask bits t =
     comparedBit mask bits 0x2000 (holdsBacktickDollar s)
@@ -60,6 +61,8 @@ maskOf r = numberAt r 1 % 0x10000
 abbrev pub answersOf : List ℕ → ℕ
 answersOf r = numberAt r 1 / 0x10000
 
--- the tally behind a record
+-- the tally after a record
 unfoldable pub textReplayed : List ℕ → Tally → Tally
-textReplayed r t = lastSeven (textOf r) (maskOf r) (answersOf r) (firstSeven (textOf r) (maskOf r) (answersOf r) (recorded t))
+textReplayed r t =
+    lastSeven (textOf r) (maskOf r) (answersOf r)
+    (firstSeven (textOf r) (maskOf r) (answersOf r) (recorded t))

@@ -1,4 +1,4 @@
--- The words of a stored file.
+-- The words of a stored record.
 use Prim.Native.Nat.{ℕ, zero, suc, _*_}
 use mathlib.Core.Bool.{Bool, true, _&&_}
 use mathlib.Core.Path.{_≡_}
@@ -30,15 +30,15 @@ wordsOf n s = upTo n (wordOf s)
 unfoldable pub firstOf : List ℕ → ℕ → List ℕ
 firstOf w n = if leb n (length w) then take n w else []
 
--- the word of the bytes at a place; `rest` behind them
+-- the word whose bytes begin at a place; `rest` behind the bytes
 unfoldable pub wordOr : List ℕ → ℕ → ℕ → ℕ
 wordOr s rest at = if ltb at (length s) then numberAt s at else rest
 
--- every word is that of the bytes at its place, and `rest` behind them
+-- every word is the one whose bytes stand at its place, and `rest` behind the bytes
 unfoldable pub sameWords : List ℕ → List ℕ → ℕ → Bool
 sameWords w s rest = agrees (λ k. wordOr s rest (k * 4)) 0 w
 
--- a call answers the first of a pair, and leaves the second of the words that it is lent
+-- a call answers the first of the pair, and the second is the words that it was lent, after it
 pub record Gives (both : ℕ × List ℕ) (answer : ℕ) (left : List ℕ) : Type 0 where
   pub first : answer ≡ both .0
   pub second : left ≡ both .1

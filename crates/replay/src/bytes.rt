@@ -1,4 +1,4 @@
-// Numbers of a stored file, least byte first; past its end every byte is 0.
+// Numbers of a stored record, least byte first. Every byte past the record's end is read as 0.
 ghost use mathlib.Core.Path.{_≡_};
 ghost use Prim.Native.Nat.{_<_, _≤_, _^_};
 ghost use Rattle.replay.specs.Bytes.{byteAt, pairAt, numberAt, longAt};

@@ -1,4 +1,6 @@
-// A stored check and setting: a head of six counts (words of the sheet, bytes of the text, words of the list, words of the report, marks that are written, marks) and two answers (the check's, the setting machine's); behind it the sheet, the text, the list and the marks that are written.
+// A stored check and setting. Its head has six counts (words of the sheet, bytes of the text, words of the list, words
+// of the report, marks that are written, marks) and two answers (the check's, the setting machine's). Behind the head
+// stand the sheet, the text, the list and the marks that are written.
 ghost use mathlib.Core.Path.{_≡_};
 ghost use Prim.Native.Nat.{_≤_};
 ghost use Rattle.replay.specs.Checks.{fitsOf, checkReplayed, setReplayed, checksReplayed};
@@ -30,7 +32,8 @@ pub fn behind(r: &[u8]) -> usize
     bytes::pair(r, 0) * 4 + bytes::pair(r, 2) + bytes::pair(r, 4) * 4 + bytes::pair(r, 8) * 4
 }
 
-// Whether the sheet, the list in its report and the marks written among the marks are within their limits.
+// Whether the sheet, the report and the marks are within their limits, the list is no longer than the report, and no
+// more marks are written than there are.
 fn fits(r: &[u8]) -> bool
     ensures { λ b. ⌜ b ≡ fitsOf (now (r .entry)) ⌝ }
 {
@@ -43,9 +46,12 @@ fn fits(r: &[u8]) -> bool
         & (marks <= MARKS)
 }
 
-// The check's answer is compared, and each word of the report: behind the list it stays as it was, past the report's end too.
+// Compares the check's answer, and each word of the report. Every word behind the list must be as it was, and so must
+// every word past the report's end.
 fn replay_check(r: &[u8], sheet: &[u32], text: &[u8], list: &[u8], tally: Tally) -> Tally
-    ensures { λ t. ⌜ t ≡ checkReplayed (now (r .entry)) (now (sheet .entry)) (now (text .entry)) (now (list .entry)) tally ⌝ }
+    ensures { λ t.
+        ⌜ t ≡ checkReplayed (now (r .entry)) (now (sheet .entry)) (now (text .entry))
+        (now (list .entry)) tally ⌝ }
 {
     let mut report = [BEFORE; REPORT];
     let found = front::answer(front::CHECK, sheet, text, &mut report, bytes::pair(r, 6));
@@ -54,9 +60,12 @@ fn replay_check(r: &[u8], sheet: &[u32], text: &[u8], list: &[u8], tally: Tally)
         .compare(words::same(&report, list, BEFORE))
 }
 
-// The machine's answer is compared, and each mark: those of records that it does not open stay as they were, and so does what is past them.
+// Compares the machine's answer, and each mark. The marks of records that it does not open must be as they were, and so
+// must every word past the marks.
 fn replay_set(r: &[u8], sheet: &[u32], text: &[u8], written: &[u8], tally: Tally) -> Tally
-    ensures { λ t. ⌜ t ≡ setReplayed (now (r .entry)) (now (sheet .entry)) (now (text .entry)) (now (written .entry)) tally ⌝ }
+    ensures { λ t.
+        ⌜ t ≡ setReplayed (now (r .entry)) (now (sheet .entry)) (now (text .entry))
+        (now (written .entry)) tally ⌝ }
 {
     let mut marks = [BEFORE; MARKS];
     let found = front::answer(front::SET, sheet, text, &mut marks, bytes::pair(r, 10));
@@ -65,7 +74,7 @@ fn replay_set(r: &[u8], sheet: &[u32], text: &[u8], written: &[u8], tally: Tally
         .compare(words::same(&marks, written, BEFORE))
 }
 
-// Both calls, with the same sheet and text.
+// Replays both calls with the same sheet and text.
 pub fn replay_record(r: &[u8], tally: Tally) -> Tally
     ensures { λ t. ⌜ t ≡ checksReplayed (now (r .entry)) tally ⌝ }
 {

@@ -19,12 +19,13 @@ use leaves::text::part::part;
 // Far more records than any file has.
 const RECORDS: usize = 0x10_0000;
 
-// Room for a record: a film's is the longest. No contract gives its length, so that no proof computes it.
+// Room for a record: a film's is the longest. The function promises nothing, so that no proof computes the array.
 fn room() -> [u8; films::MOST] {
     [0u8; films::MOST]
 }
 
-// A file that ends inside a record, or has one that is too long, counts as a difference.
+// Reads what stands behind the head of a record, and replays the record. A file that ends inside a record, or has one
+// that is too long, counts as a difference.
 fn replay_behind(
     fd: i32,
     format: Format,
@@ -60,7 +61,7 @@ fn replay_next(
     }
 }
 
-// A file that does not end counts as a difference.
+// Replays the records of an open file. A file that does not end within RECORDS records counts as a difference.
 fn replay_opened(fd: i32, format: Format, sheet: &[u32], text: &[u8]) -> Tally
     ensures { λ t. ⌜ Found format (now (sheet .entry)) (now (text .entry)) t ⌝ }
 {
@@ -78,7 +79,8 @@ fn replay_opened(fd: i32, format: Format, sheet: &[u32], text: &[u8]) -> Tally
     tally.differs()
 }
 
-// What is found in a file. One that is not opened counts as a difference. The sheet and the text are the long ones of calls.
+// Answers what is found in a file. A file that could not be opened counts as a difference. Only a file of calls needs
+// the sheet and the text: they are the long ones.
 pub fn replay(fd: i32, format: Format, sheet: &[u32], text: &[u8]) -> Tally
     ensures { λ t. ⌜ Found format (now (sheet .entry)) (now (text .entry)) t ⌝ }
 {
@@ -88,7 +90,7 @@ pub fn replay(fd: i32, format: Format, sheet: &[u32], text: &[u8]) -> Tally
     replay_opened(fd, format, sheet, text)
 }
 
-// A file is opened; where it cannot be, a line of standard error says why.
+// Opens a file; where it cannot be opened, a line of standard error says why.
 pub fn open(name: &[u8]) -> i32 {
     let fd = os::open_read(name);
     if fd < 0 {
@@ -97,7 +99,7 @@ pub fn open(name: &[u8]) -> i32 {
     fd
 }
 
-// A file is closed, its line written, and what was found added to the total.
+// Closes a file, writes its line, and adds what was found to the total.
 pub fn close(fd: i32, name: &[u8], found: Tally, total: Tally) -> Tally
     ensures { λ t. ⌜ t ≡ together total found ⌝ }
 {

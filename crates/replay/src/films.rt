@@ -1,4 +1,4 @@
-// A stored film: how many bytes it has and how many are printed for it (4 bytes each), the film, what is printed.
+// A stored film: how many bytes it has and how many are printed for it (4 bytes each), the film, and what is printed.
 ghost use mathlib.Core.Path.{_≡_};
 ghost use Prim.Native.Nat.{_<_, _^_};
 ghost use lib.ListN.{getD};
@@ -12,8 +12,11 @@ use setter::listing::program::list;
 // How many bytes stand before the film.
 pub const HEAD: usize = 8;
 
-// The most bytes of a record: one byte more than the largest film has, and all that can be printed.
-pub const MOST: usize = HEAD + 84504 + OUTPUT_BYTES;
+// One byte more than the largest film has.
+const FILM_BYTES: usize = 84504;
+
+// The most bytes of a record: the head, the film, and all that can be printed.
+pub const MOST: usize = HEAD + FILM_BYTES + OUTPUT_BYTES;
 
 // Every byte of the output before a film is listed.
 const BEFORE: u8 = 0xA5;
@@ -24,7 +27,8 @@ pub fn behind(r: &[u8]) -> usize
     bytes::large(r, 0) + bytes::large(r, 4)
 }
 
-// The output before a film is listed. Its definition stays shut where the function is called, so that no proof computes it there.
+// The output before a film is listed. The proofs of callers do not unfold `untouched`, and so do not compute so long a
+// list.
 fn output() -> [u8; OUTPUT_BYTES]
     ensures { λ r. ⌜ r ≡ untouched ⌝ }
 {
@@ -41,7 +45,7 @@ fn wanted_byte(wanted: &[u8], at: usize) -> u8
     }
 }
 
-// Whether the bytes are those wanted, and as before behind them.
+// Whether each byte is the one wanted at its place, and BEFORE behind the wanted bytes.
 fn same(bytes: &[u8], wanted: &[u8]) -> bool
     ensures { λ r. ⌜ r ≡ samePrinted (now (bytes .entry)) (now (wanted .entry)) ⌝ }
 {
@@ -55,14 +59,14 @@ fn same(bytes: &[u8], wanted: &[u8]) -> bool
     true
 }
 
-// The same of the whole output.
+// `same` of the whole output.
 fn same_output(bytes: &[u8; OUTPUT_BYTES], wanted: &[u8]) -> bool
     ensures { λ r. ⌜ r ≡ samePrinted (now (bytes .entry)) (now (wanted .entry)) ⌝ }
 {
     same(bytes, wanted)
 }
 
-// The number of bytes printed is compared, and each byte of the output: behind what is printed it stays as it was.
+// Compares how many bytes are printed, and each byte of the output. Behind what is printed it must be as it was.
 pub fn replay_film(r: &[u8], tally: Tally) -> Tally
     ensures { λ t. ⌜ t ≡ filmReplayed (now (r .entry)) tally ⌝ }
 {

@@ -1,4 +1,4 @@
-// The formats of the files, and a record by its format.
+// The formats of the files. A record's length and its replay are left to the module of its format.
 ghost use mathlib.Core.Path.{_≡_};
 ghost use Prim.Native.Nat.{_≤_, _<_, _^_};
 ghost use Rattle.replay.specs.Format.{replayed};
@@ -23,7 +23,7 @@ pub enum Format {
     Calls,
 }
 
-// How many bytes of a record say how long it is.
+// How many bytes the head of a record has. The head says how long the record is.
 pub fn head_of(format: Format) -> usize
     ensures { λ n. ⌜ n ≤ 28 ⌝ }
 {
@@ -40,7 +40,7 @@ pub fn head_of(format: Format) -> usize
     }
 }
 
-// How many bytes stand behind them.
+// How many bytes stand behind the head.
 pub fn behind(format: Format, r: &[u8]) -> usize
     ensures { λ n. ⌜ n < 2 ^ 33 ⌝ }
 {
@@ -57,7 +57,7 @@ pub fn behind(format: Format, r: &[u8]) -> usize
     }
 }
 
-// A record is replayed. The sheet and the text are the long ones of calls.
+// Replays a record. Only a call needs the sheet and the text: they are the long ones.
 pub fn replay_record(format: Format, r: &[u8], sheet: &[u32], text: &[u8], tally: Tally) -> Tally
     ensures { λ t. ⌜ t ≡ replayed format (now (r .entry)) (now (sheet .entry)) (now (text .entry)) tally ⌝ }
 {

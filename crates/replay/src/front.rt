@@ -1,4 +1,4 @@
-// The exported functions by number, on the front of what is lent.
+// Calls an exported function by number, and lends it the front of some words as its report or its marks.
 ghost use Rattle.replay.specs.Front.{calledOf, answeredOf};
 ghost use Rattle.replay.specs.Words.{Gives};
 use setter::exports::reedsander_check;
@@ -8,11 +8,13 @@ pub const CHECK: usize = 0;
 
 pub const SET: usize = 1;
 
-// No answer of either.
+// What neither function ever answers.
 const NONE: u64 = 0xFFFF_FFFF_FFFF_FFFF;
 
 fn call(function: usize, sheet: &[u32], text: &[u8], lent: &mut [u32]) -> u64
-    ensures { λ r. ⌜ Gives (calledOf function (now (sheet .entry)) (now (text .entry)) (now (lent .entry))) r (now (lent .exit)) ⌝ }
+    ensures { λ r.
+        ⌜ Gives (calledOf function (now (sheet .entry)) (now (text .entry)) (now (lent .entry)))
+        r (now (lent .exit)) ⌝ }
 {
     if function == CHECK {
         return reedsander_check(sheet, text, lent);
@@ -23,9 +25,12 @@ fn call(function: usize, sheet: &[u32], text: &[u8], lent: &mut [u32]) -> u64
     NONE
 }
 
-// The answer with the first `m` words as the report or the marks; none where there are fewer, or for another function.
+// The answer of the function that is lent the first `m` words. NONE where there are fewer words, or where neither
+// function has that number.
 pub fn answer(function: usize, sheet: &[u32], text: &[u8], lent: &mut [u32], m: usize) -> u64
-    ensures { λ r. ⌜ Gives (answeredOf function (now (sheet .entry)) (now (text .entry)) (now (lent .entry)) m) r (now (lent .exit)) ⌝ }
+    ensures { λ r.
+        ⌜ Gives (answeredOf function (now (sheet .entry)) (now (text .entry)) (now (lent .entry)) m)
+        r (now (lent .exit)) ⌝ }
 {
     if lent.len() < m {
         return NONE;

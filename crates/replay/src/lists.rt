@@ -1,4 +1,4 @@
-// Sheets of one paragraph with what the Rust lists of its inlines.
+// Stored sheets of one paragraph, each with the list that the Rust gives for its inlines.
 ghost use mathlib.Core.Path.{_≡_};
 ghost use Prim.Native.Nat.{_≤_};
 ghost use Rattle.replay.specs.Lists.{listedOf, listReplayed};
@@ -13,7 +13,8 @@ use leaves::report::entries;
 use leaves::sheet::records::RECORD_WORDS;
 use leaves::text::part::part;
 
-// How many bytes stand before a record's words: how many words the sheet has, how many bytes its text, how many words the list.
+// How many bytes stand before a record's words: three counts (words of the sheet, bytes of the text, words of the
+// list).
 pub const HEAD: usize = 6;
 
 // The most words of a sheet, and of a list.
@@ -28,9 +29,12 @@ pub fn behind(r: &[u8]) -> usize
     bytes::pair(r, 0) * 4 + bytes::pair(r, 2) + bytes::pair(r, 4) * 4
 }
 
-// How many words the list of the first block's inlines has, which is written into the report; none where the sheet is refused.
+// Writes the list of the first block's inlines into the report, and answers how many words it has. Where the sheet has
+// no record or is refused, it writes nothing and answers 0.
 fn listed(sheet: &[u32], text: &[u8], report: &mut [u32]) -> usize
-    ensures { λ r. ⌜ Gives (listedOf (now (sheet .entry)) (now (text .entry)) (now (report .entry))) r (now (report .exit)) ⌝ }
+    ensures { λ r.
+        ⌜ Gives (listedOf (now (sheet .entry)) (now (text .entry)) (now (report .entry)))
+        r (now (report .exit)) ⌝ }
 {
     let n = sheet.len() / RECORD_WORDS;
     if n < 1 {
@@ -44,7 +48,7 @@ fn listed(sheet: &[u32], text: &[u8], report: &mut [u32]) -> usize
     w.tally.words
 }
 
-// The length of the list is compared, and each word of the report: behind the list it stays 0.
+// Compares the length of the list, and each word of the report. Behind the list each must be 0.
 pub fn replay_record(r: &[u8], tally: Tally) -> Tally
     ensures { λ t. ⌜ t ≡ listReplayed (now (r .entry)) tally ⌝ }
 {

@@ -1,4 +1,6 @@
-// Replays the stored answers in data/ (rust/vectors writes them) and counts what differs: the Rust's for the text leaves and the inline walk; those of plain readings of document 01 for refusals, checks, settings and films.
+// Replays the stored answers in data/, which rust/vectors writes, and counts those that differ. The answers for the
+// text leaves and the inline walk are the Rust's; those for refusals, checks, settings and films are of plain readings
+// of document 01.
 mod bytes;
 mod checks;
 mod file;
@@ -23,7 +25,7 @@ use crate::line::write_line;
 use crate::tally::Tally;
 use libc::STDOUT_FILENO;
 
-// For ARG_MAX the C library answers a quarter of what the stack may have, and no more than this.
+// For ARG_MAX the C library answers a quarter of the stack's limit, and no more than this.
 const QUARTER: i64 = 0x60_0000;
 
 fn replay(name: &[u8], format: Format, total: Tally) -> Tally
@@ -34,7 +36,7 @@ fn replay(name: &[u8], format: Format, total: Tally) -> Tally
     file::close(fd, name, found, total)
 }
 
-// The long sheet and the long text are on the stack.
+// Replays a file of calls. The long sheet and the long text are on the stack.
 fn replay_long(name: &[u8], total: Tally) -> Tally
     ensures { λ t. ⌜ Adds Format.Calls (breaksOf longWords) zeros total t ⌝ }
 {
@@ -46,7 +48,7 @@ fn replay_long(name: &[u8], total: Tally) -> Tally
     file::close(fd, name, found, total)
 }
 
-// The files whose records are short.
+// Replays the files whose records are short.
 fn replay_short_files() -> Tally {
     let mut total = Tally::none();
     total = replay(b"utf8", Format::Texts, total);
@@ -63,7 +65,8 @@ fn replay_short_files() -> Tally {
     replay(b"films", Format::Films, total)
 }
 
-// The function with the long text is called twice, so that the compiler does not make its frame a part of this one.
+// `replay_long` has the long text in its frame. It is called twice, so that the compiler does not make that frame a
+// part of this one: this one must be small until the stack is tested.
 fn main() {
     io::write_all(STDOUT_FILENO, b"file records compared differ\n");
     let mut total = replay_short_files();

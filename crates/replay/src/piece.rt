@@ -10,7 +10,7 @@ pub enum Got {
     Less,
 }
 
-// Reads `n` bytes into the buffer from `at` on; less, too, where they do not fit.
+// Reads `n` bytes into the buffer from `at` on. Where they do not fit, it reads none and answers Less.
 pub fn read_at(fd: i32, buffer: &mut [u8], at: usize, n: usize) -> Got {
     if buffer.len() < at {
         return Got::Less;
@@ -29,7 +29,7 @@ pub fn read_at(fd: i32, buffer: &mut [u8], at: usize, n: usize) -> Got {
     Got::Less
 }
 
-// The tally behind a record, and whether another may follow.
+// The tally after a record, and whether another record may follow.
 pub struct Step {
     pub more: bool,
     pub tally: Tally,

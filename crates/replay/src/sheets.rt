@@ -1,4 +1,4 @@
-// Sheets with the refusal that a plain reading of document 01 gives each.
+// Stored sheets, each with the refusal that a plain reading of document 01 gives.
 ghost use mathlib.Core.Path.{_≡_};
 ghost use Prim.Native.Nat.{_≤_};
 ghost use Rattle.replay.specs.Sheets.{judgedOf, sheetReplayed};
@@ -10,7 +10,8 @@ use leaves::refusal::verdict;
 use leaves::refusal::verdict::Judged;
 use leaves::text::part::part;
 
-// How many bytes stand before a record's words: two counts, the number, and its record.
+// How many bytes stand before a record's words: two counts (words of the sheet, bytes of the text), and the number and
+// the record of the answer.
 pub const HEAD: usize = 7;
 
 // The most words of a sheet.
@@ -22,7 +23,7 @@ pub fn behind(r: &[u8]) -> usize
     bytes::pair(r, 0) * 4 + bytes::pair(r, 2)
 }
 
-// The answer for a stored sheet; as for a sheet of no words where there are more than may be.
+// The answer for a stored sheet. A sheet of over MOST words is judged as a sheet of no words.
 fn judged(r: &[u8]) -> Judged
     ensures { λ j. ⌜ j ≡ judgedOf (now (r .entry)) ⌝ }
 {
@@ -33,7 +34,7 @@ fn judged(r: &[u8]) -> Judged
     accept(words::first(&sheet, n), text)
 }
 
-// Both the number and the record of the answer are compared.
+// Compares the number and the record of the answer.
 pub fn replay_record(r: &[u8], tally: Tally) -> Tally
     ensures { λ t. ⌜ t ≡ sheetReplayed (now (r .entry)) tally ⌝ }
 {

@@ -1,6 +1,7 @@
 // How many records were read, how many answers were compared and how many differ.
 ghost use mathlib.Core.Path.{_≡_};
-ghost use Rattle.replay.specs.Tally.{sumOf, differencesOf, nothing, recorded, differing, comparing, together};
+ghost use Rattle.replay.specs.Tally.{sumOf, differencesOf};
+ghost use Rattle.replay.specs.Tally.{nothing, recorded, differing, comparing, together};
 
 const MOST: u64 = 0x1000_0000_0000_0000;
 
@@ -10,7 +11,7 @@ pub struct Tally {
     pub differ: u64,
 }
 
-// Sums that stay far below the largest number: no file comes near them.
+// A sum of two counts, and MOST where one of them is MOST or more: so no sum wraps. No file comes near MOST.
 fn sum(a: u64, b: u64) -> u64
     ensures { λ r. ⌜ r ≡ sumOf a b ⌝ }
 {

@@ -1,4 +1,4 @@
-// Texts with the answers of each function that takes one.
+// Stored texts, each with the fourteen answers of the functions that take a text.
 ghost use mathlib.Core.Path.{_≡_};
 ghost use Prim.Native.Nat.{_<_, _≤_};
 ghost use Rattle.replay.specs.Bytes.{byteAt};
@@ -29,7 +29,7 @@ fn bit(bits: u32, weight: u32) -> bool
     bits / weight % 2 == 1
 }
 
-// An answer is compared with its bit where its bit is set in `mask`.
+// Compares an answer with its bit of `bits` where that bit is set in `mask`.
 fn compare_bit(mask: u32, bits: u32, weight: u32, answer: bool, tally: Tally) -> Tally
     requires { ⌜ 0 < weight ⌝ }
     ensures { λ r. ⌜ r ≡ comparedBit mask bits weight answer tally ⌝ }
@@ -40,7 +40,7 @@ fn compare_bit(mask: u32, bits: u32, weight: u32, answer: bool, tally: Tally) ->
     tally
 }
 
-// The answers of the first seven functions: the lowest bits.
+// Compares the first seven answers, whose bits are the lowest.
 fn first_seven(s: &[u8], mask: u32, bits: u32, tally: Tally) -> Tally
     ensures { λ r. ⌜ r ≡ firstSeven (now (s .entry)) mask bits tally ⌝ }
 {
@@ -54,7 +54,7 @@ fn first_seven(s: &[u8], mask: u32, bits: u32, tally: Tally) -> Tally
     compare_bit(mask, bits, 0x40, yaml, t)
 }
 
-// The answers of the last seven.
+// Compares the last seven answers.
 fn last_seven(s: &[u8], mask: u32, bits: u32, tally: Tally) -> Tally
     ensures { λ r. ⌜ r ≡ lastSeven (now (s .entry)) mask bits tally ⌝ }
 {
@@ -77,7 +77,7 @@ pub fn behind(r: &[u8]) -> usize
     bytes::small(r, 0)
 }
 
-// The answers whose bit is set in the mask are compared.
+// Compares the answers whose bits are set in the mask.
 pub fn replay_record(r: &[u8], tally: Tally) -> Tally
     ensures { λ t. ⌜ t ≡ textReplayed (now (r .entry)) tally ⌝ }
 {

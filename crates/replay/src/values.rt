@@ -1,4 +1,4 @@
-// Pairs of texts, scalar values, and parts of a text.
+// Stored pairs of texts, scalar values, and parts of a text, each with its answer.
 ghost use mathlib.Core.Path.{_≡_};
 ghost use Prim.Native.Nat.{_≤_};
 ghost use Rattle.replay.specs.Bytes.{byteAt};
@@ -18,7 +18,7 @@ pub fn behind_pair(r: &[u8]) -> usize
     bytes::small(r, 0) + bytes::small(r, 1)
 }
 
-// Whether the two texts are the same is compared.
+// Compares whether the two texts are the same.
 pub fn replay_pair(r: &[u8], tally: Tally) -> Tally
     ensures { λ t. ⌜ t ≡ pairReplayed (now (r .entry)) tally ⌝ }
 {
@@ -31,7 +31,7 @@ pub fn replay_pair(r: &[u8], tally: Tally) -> Tally
 // How many bytes a scalar value and its answer have.
 pub const PUNCTUATION: usize = 5;
 
-// Whether the scalar value is ASCII punctuation is compared.
+// Compares whether the scalar value is ASCII punctuation.
 pub fn replay_punctuation(r: &[u8], tally: Tally) -> Tally
     ensures { λ t. ⌜ t ≡ punctuationReplayed (now (r .entry)) tally ⌝ }
 {
@@ -39,7 +39,7 @@ pub fn replay_punctuation(r: &[u8], tally: Tally) -> Tally
     tally.record().compare(found == (bytes::byte(r, 4) == 1))
 }
 
-// How many bytes stand before what is expected of a part: its start and length, the length of what is expected.
+// How many bytes stand before the expected bytes of a part: its start and its length, and how many bytes are expected.
 pub const PART: usize = 17;
 
 pub fn behind_part(r: &[u8]) -> usize
@@ -48,7 +48,7 @@ pub fn behind_part(r: &[u8]) -> usize
     bytes::small(r, 16)
 }
 
-// A part of the text 0, 1, .. 15 is compared.
+// Compares a part of the text of the bytes 0 to 15 with the bytes that are stored for it.
 pub fn replay_part(r: &[u8], tally: Tally) -> Tally
     ensures { λ t. ⌜ t ≡ partReplayed (now (r .entry)) tally ⌝ }
 {

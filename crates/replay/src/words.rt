@@ -1,11 +1,11 @@
-// Words of a stored file.
+// Words of a stored record.
 ghost use mathlib.Core.Path.{_≡_};
 ghost use Prim.Native.Nat.{_<_, _^_};
 ghost use lib.ListN.{length};
 ghost use Rattle.replay.specs.Words.{wordsOf, firstOf, wordOr, sameWords};
 use crate::bytes;
 
-// The words from their bytes.
+// Fills the words from their bytes.
 pub fn fill(words: &mut [u32], s: &[u8])
     ensures { λ _. ⌜ now (words .exit) ≡ wordsOf (length (now (words .entry))) (now (s .entry)) ⌝ }
 {
@@ -26,7 +26,7 @@ pub fn first(words: &[u32], n: usize) -> &[u32]
     &words[..n]
 }
 
-// The word of the bytes at `at`; `rest` behind them.
+// The word whose bytes begin at `at`; `rest` behind the bytes.
 fn word(s: &[u8], at: usize, rest: u32) -> u32
     requires { ⌜ at < 2 ^ 63 ⌝ }
     ensures { λ r. ⌜ r ≡ wordOr (now (s .entry)) rest at ⌝ }
@@ -38,7 +38,7 @@ fn word(s: &[u8], at: usize, rest: u32) -> u32
     }
 }
 
-// Whether the words are those whose bytes are given, and `rest` behind them.
+// Whether each word is the one whose bytes stand at its place, and `rest` behind the bytes.
 pub fn same(words: &[u32], s: &[u8], rest: u32) -> bool
     ensures { λ r. ⌜ r ≡ sameWords (now (words .entry)) (now (s .entry)) rest ⌝ }
 {

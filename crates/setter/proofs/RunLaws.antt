@@ -23,10 +23,10 @@ use Rattle.leaves.proofs.refusal.FormedLaws.{each-passed, accepted}
 use Rattle.setter.specs.Steps.{Frame, fresh, withKid, theSheet, Step, closings, stepsFrom, stepsOf, opens, closes}
 use Rattle.setter.specs.Machine.{runOf, run, runAnswer}
 use Rattle.setter.specs.Marks.{markOf, marksOf}
-use Rattle.setter.specs.Stops.{opening, closing, stopAt, stopOf}
+use Rattle.setter.specs.Stops.{opening, closing, mostOwnNumber, stopAt, stopOf}
 use Rattle.setter.specs.Seen.{onlyEmpty, lastMark, itemMark, seen}
 use Rattle.setter.proofs.StepLaws.{Low, open-one, close-one, goes-on, stops-here}
-use Rattle.setter.specs.Kept.{keptOf, seenBy, openedIn, joinedBy}
+use Rattle.setter.specs.Kept.{mostKids, mostItemMark, keptOf, seenBy, openedIn, joinedBy}
 use Rattle.setter.specs.declared.kept.Kept.{Kept}
 use Rattle.setter.proofs.KeptLaws.{seen-kept, opened-kept, joined-kept, proper-stop, small-number}
 use Rattle.setter.specs.Answer.{Answers}
@@ -59,8 +59,8 @@ pub record One (w : List ℕ) (n i m : ℕ) (os : List Kept) (f : Frame) (st : L
   pub kept : getD os (length st) unkept ≡ keptOf f st
   pub from : 0 < length st → (f .at < n) × (f .of ≡ recordAt w (f .at))
   pub few : m + length (f .kids) ≤ i
-  pub small : lastMark (f .kids) ≤ 999999999 + length (f .kids)
-  pub own : f .of .b ≡ 1 → f .of .c ≤ 999999999
+  pub small : lastMark (f .kids) ≤ mostOwnNumber + length (f .kids)
+  pub own : f .of .b ≡ 1 → f .of .c ≤ mostOwnNumber
 
 unfoldable pub Held : List ℕ → ℕ → ℕ → ℕ → List Kept → List Frame → Type 0
 Held w n i m os [] = Unit {0}
@@ -212,10 +212,10 @@ module _ (w bytes old : List ℕ) (n : ℕ) (new : List ℕ) (os : List Kept) (d
             marked = rw (a, step) at (v .marked);
           }
 
-mark-small : (r : Rec) (before m : ℕ) → (r .b ≡ 1 → r .c ≤ 999999999) → before ≤ 999999999 + m → itemMark r before ≤ 999999999 + suc m
+mark-small : (r : Rec) (before m : ℕ) → (r .b ≡ 1 → r .c ≤ mostOwnNumber) → before ≤ mostOwnNumber + m → itemMark r before ≤ mostOwnNumber + suc m
 mark-small r before m own h = go (eqb (r .b) 1) refl
   where
-    go : (t : Bool) → eqb (r .b) 1 ≡ t → (if t then r .c else before + 1) ≤ 999999999 + suc m
+    go : (t : Bool) → eqb (r .b) 1 ≡ t → (if t then r .c else before + 1) ≤ mostOwnNumber + suc m
     go true e = omega (arith, own (eqb-true _ _ e))
     go false e = omega arith
 
@@ -242,7 +242,7 @@ module _ (w bytes old : List ℕ) (n : ℕ) (new : List ℕ) (os : List Kept) (d
       rw top-at (omega (arith, accepted w bytes (z .running .ok) .whole, z .running .all))
 
   -- what is kept can be counted on
-  pub close-fits : (getD os (depth - 1) unkept .kids ≤ 65535) × (getD os (depth - 1) unkept .number ≤ 1000065534)
+  pub close-fits : (getD os (depth - 1) unkept .kids ≤ mostKids) × (getD os (depth - 1) unkept .number ≤ mostItemMark)
   unfolding Held keptOf
   close-fits =
       let few = z .running .few in
@@ -338,7 +338,7 @@ module _ (w bytes old : List ℕ) (n : ℕ) (new : List ℕ) (os : List Kept) (d
   pub open-inside : i * recordWords + recordWords ≤ length w
   open-inside = omega (arith, z .inside, accepted w bytes (z .running .ok) .whole, z .running .all)
 
-  pub open-fits : (getD os depth unkept .kids ≤ 65535) × (getD os depth unkept .number ≤ 1000065534)
+  pub open-fits : (getD os depth unkept .kids ≤ mostKids) × (getD os depth unkept .number ≤ mostItemMark)
   unfolding Held keptOf
   open-fits =
       let few = z .running .few in

@@ -21,7 +21,7 @@ use Rattle.setter.specs.Machine.{Run, reached, run, StopsAt, Stops}
 abbrev pub Begins : List ℕ → List ℕ → Type 0
 Begins p q = (t : List ℕ) × (q ≡ p ++ t)
 
--- an entry of the list is so
+-- P holds of an entry of the list
 unfoldable pub Some : (Entry → Type 0) → List Entry → Type 0
 Some P [] = ⊥
 Some P (e ∷ es) = P e ⊎ Some P es
@@ -67,6 +67,6 @@ pub record Agrees (w bytes : List ℕ) (es : List Entry) : Type 0 where
   -- and so it does whenever the list is empty
   pub empty : es ≡ [] → Whole w (run w bytes)
 
--- .. of the whole list of the sheet
+-- demand 3 of a sheet and its text: `Agrees` of its whole list
 unfoldable pub Demand : List ℕ → List ℕ → Type 0
 Demand w bytes = Agrees w bytes (validateDocument w bytes)

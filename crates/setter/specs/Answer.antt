@@ -36,8 +36,8 @@ isProper (Stopped stop i) = between 1 lastStop stop
 isProper (Refused refusal) = true
 isProper ShortMarks = true
 
--- the answer s and the marks after it are the answer and the marks of p; and s can be, so that its number and value tell
--- which answer it is (`setting-one` in proofs/SetLaws.antt)
+-- s and the marks after it are the answer and the marks of p. Since s is an answer that can be, no other such answer has
+-- its number and value (`setting-one` in proofs/SetLaws.antt).
 pub record Answers (p : Answer × List ℕ) (s : Setting) (marked : List ℕ) : Type 0 where
   pub answer : (settingAnswer s, marked) ≡ p
   pub proper : isProper s ≡ true

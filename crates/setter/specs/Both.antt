@@ -12,11 +12,16 @@ use Rattle.setter.specs.Agrees.{Agrees}
 
 -- a sheet, its text, the report and the marks before; the check's answer and the report after it; the machine's answer
 -- and the marks after it
-pub record ChecksAndSets (w bytes report marks : List ℕ) (checked : Checked) (written : List ℕ) (set : Setting) (marked : List ℕ) : Type 0 where
+pub record ChecksAndSets
+    (w bytes report marks : List ℕ)
+    (checked : Checked)
+    (written : List ℕ)
+    (set : Setting)
+    (marked : List ℕ) : Type 0 where
   -- the check's equation
   pub check : (checkedAnswer checked, written) ≡ outcome w bytes report
   -- the machine's
   pub machine : Answers (settingOf w bytes marks) set marked
-  -- Demand 3, where the check accepts: "Its list is the entries the check wrote; its run and stop are the machine's on the
-  -- same sheet and text." The entries are read back from the report's words.
+  -- Demand 3, where the check accepts: "Its list is the entries the check wrote; its run and stop are the machine's on
+  -- the same sheet and text." The entries are read back from the report's words.
   pub demand : checkedAnswer checked .number ≡ 0 → Agrees w bytes (entriesIn (checkedAnswer checked .value) written)

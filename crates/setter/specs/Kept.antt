@@ -1,4 +1,5 @@
--- What the machine's code keeps of an open record, in place of the records themselves. A reader need not believe these: the machine's promise does not cite them.
+-- What the machine's code keeps of an open record, in place of the records themselves. A reader need not believe these:
+-- the machine's promise does not cite them.
 use Prim.Native.Nat.{ℕ, _+_}
 use mathlib.Core.Bool.{Bool, true, false, _&&_, _||_}
 use mathlib.Core.List.{List, [], _∷_}
@@ -10,22 +11,31 @@ use Rattle.leaves.specs.declared.sheet.records.Rec.{Rec}
 use Rattle.leaves.specs.Sheet.Classes.{isBreak}
 use Rattle.leaves.specs.Sheet.Empty.{isEmptyText}
 use Rattle.leaves.specs.Text.Marker.{writtenMarker}
+use Rattle.leaves.specs.Refusal.Limits.{mostRecords}
 use Rattle.setter.specs.Steps.{Frame}
 use Rattle.setter.specs.Seen.{Seen, columns, nearest, inLink, behindBreak, onlyEmpty, itemMark, lastMark}
+use Rattle.setter.specs.Stops.{mostOwnNumber}
 use Rattle.setter.specs.declared.kept.Kept.{Kept}
 
--- no record has more children, and no item before another a larger number
+-- no record has more children: a sheet has no more records
 abbrev pub mostKids : ℕ
-mostKids = 65535
+mostKids = mostRecords
 
-abbrev pub mostNumber : ℕ
-mostNumber = 1000065534
+-- no item has a larger number: the largest own number, and 1 more for each item behind it
+abbrev pub mostItemMark : ℕ
+mostItemMark = mostOwnNumber + mostKids
 
--- the marker behind a record: a blank line is skipped, a list has its written one, and what is no list has none
+-- the marker kept once record r has closed: for a list its written one, for a blank line the one before, and 0 for any
+-- other kind
 abbrev pub nextMarker : Rec → ℕ → ℕ
-nextMarker r before = if eqb (r .kind) blankLine then before else if eqb (r .kind) list then writtenMarker (r .a) (r .b) else 0
+nextMarker r before =
+    if eqb (r .kind) blankLine
+    then before
+    else if eqb (r .kind) list
+    then writtenMarker (r .a) (r .b)
+    else 0
 
--- the marker behind those siblings, newest first
+-- the marker kept once these siblings have closed, newest first
 unfoldable pub markerBehind : List Rec → ℕ
 markerBehind [] = 0
 markerBehind (s ∷ ss) = nextMarker s (markerBehind ss)
@@ -46,8 +56,8 @@ keptOf f around =
       number = lastMark (f .kids);
     }
 
--- what record r, which has so many children that are nothing but empty texts where `empty` holds, sees of what is kept
--- of the record around it
+-- what record r sees, where k is kept of the record around it. r has so many children that have closed (`kids`), and
+-- `empty` says whether they are nothing but empty texts.
 abbrev pub seenBy : Rec → Kept → ℕ → Bool → Seen
 seenBy r k kids empty =
     record {
@@ -63,7 +73,7 @@ seenBy r k kids empty =
       empty = empty;
     }
 
--- record i once it has opened
+-- what is kept of record i, which is r, as it opens under the record of which k is kept
 unfoldable pub openedIn : ℕ → Rec → Kept → Kept
 openedIn i r k =
     record {
@@ -79,7 +89,7 @@ openedIn i r k =
       number = 0;
     }
 
--- what is kept once a child has closed
+-- what is kept of a record once its child r has closed; k was kept before
 unfoldable pub joinedBy : Kept → Rec → Kept
 joinedBy k r =
     record {

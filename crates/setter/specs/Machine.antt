@@ -37,7 +37,9 @@ pathOf (f ∷ around) =
 -- the path of the innermost open block
 unfoldable pub blockPath : List Frame → List ℕ
 blockPath [] = []
-blockPath (f ∷ around) = let outer = blockPath around in if isBlock (f .of .kind) then pathOf (f ∷ around) else outer
+blockPath (f ∷ around) =
+    let outer = blockPath around in
+    if isBlock (f .of .kind) then pathOf (f ∷ around) else outer
 
 -- what is open at an opening or a closing, its own record first
 abbrev pub openAt : Step → List Frame
@@ -49,8 +51,8 @@ abbrev pub recordAtStep : Step → ℕ
 recordAtStep (opens f around) = f .at
 recordAtStep (closes f around) = f .at
 
--- ---- the run: "stated as the list of its openings and closings, in the order they happen, and its answer and marks are
--- those of that run"
+-- ---- the run: "stated as the list of its openings and closings, in the order they happen, and its answer and marks
+-- are those of that run"
 
 -- how a run ends
 pub data End : Type 0 where

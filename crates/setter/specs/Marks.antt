@@ -1,5 +1,5 @@
--- The marks of the setting machine. "Each record opened without a stop gets a mark: heading depth; cell's column from 1;
--- ordered item's own number, else the item before plus 1, else 1; 0 otherwise. Other marks stay."
+-- The marks of the setting machine. "Each record opened without a stop gets a mark: heading depth; cell's column from
+-- 1; ordered item's own number, else the item before plus 1, else 1; 0 otherwise. Other marks stay."
 use Prim.Native.Nat.{ℕ, _+_}
 use mathlib.Core.Bool.{_&&_}
 use mathlib.Core.List.{List, [], _∷_}

@@ -6,7 +6,8 @@ use mathlib.Core.List.{List, [], _∷_}
 use lib.Dec.{eqb}
 use lib.ListN.{length}
 use Rattle.leaves.specs.Text.Lists.{if_then_else_}
-use Rattle.leaves.specs.Sheet.Kinds.{among, isInline, list, table, blankLine, text, link, linkReference, softBreak, lineBreak}
+use Rattle.leaves.specs.Sheet.Kinds.{among, isInline, list, table, blankLine}
+use Rattle.leaves.specs.Sheet.Kinds.{text, link, linkReference, softBreak, lineBreak}
 use Rattle.leaves.specs.declared.sheet.records.Rec.{Rec}
 use Rattle.leaves.specs.Text.Marker.{writtenMarker}
 use Rattle.setter.specs.Steps.{Frame}
@@ -88,7 +89,7 @@ pub record Seen : Type 0 where
   -- these are nothing but empty texts
   pub empty : Bool
 
--- .. as the record's own frame and what is open around it show it
+-- the same, read off the record's own frame and the frames that are open around it
 abbrev pub seen : Frame → List Frame → Seen
 seen f around =
     record {

@@ -16,8 +16,8 @@ use Rattle.setter.specs.Answer.{shortMarks, refusedAs}
 unfoldable pub afterRun : List ℕ → List ℕ → List ℕ → Answer × List ℕ
 afterRun w bytes marks = (runAnswer w bytes, marksOf (run w bytes .steps) marks)
 
--- The answer for a sheet, its text and the marks, and the marks after it. "Order: 1, 2, 3; then 4 to 9 record by record;
--- then 10 ..; then .. 12 for the setter": "fewer marks than records". "A refusal .. changes no lent word."
+-- The answer for a sheet, its text and the marks, and the marks after it. "Order: 1, 2, 3; then 4 to 9 record by
+-- record; then 10 ..; then .. 12 for the setter": "fewer marks than records". "A refusal .. changes no lent word."
 unfoldable pub settingOf : List ℕ → List ℕ → List ℕ → Answer × List ℕ
 settingOf w bytes marks =
     if not (isAccepted (judgeSheet w bytes))

@@ -1,4 +1,6 @@
--- The openings and closings of the setting machine, were there no stop. "It opens records in order and closes innermost first: before a record opens, it closes every open one of that level or deeper; after the last, all that are open, and then it is at the end."
+-- The openings and closings of the setting machine where nothing stops it. "It opens records in order and closes
+-- innermost first: before a record opens, it closes every open one of that level or deeper; after the last, all that
+-- are open, and then it is at the end."
 use Prim.Native.Nat.{ℕ, suc, _+_}
 use mathlib.Core.List.{List, [], _∷_, _++_}
 use lib.Dec.{leb}
@@ -16,7 +18,7 @@ pub record Frame : Type 0 where
 abbrev pub fresh : ℕ → Rec → Frame
 fresh i r = record { at = i; of = r; kids = [] }
 
--- the same once a child of it has closed
+-- the open record f once its child r has closed
 abbrev pub withKid : Rec → Frame → Frame
 withKid r f = record { at = f .at; of = f .of; kids = r ∷ f .kids }
 
@@ -44,14 +46,14 @@ pub record Opened : Type 0 where
   pub top : Frame
   pub around : List Frame
 
--- every open record of that level or deeper closes, innermost first ..
+-- the closings of every open record of level l or deeper, innermost first
 unfoldable pub closings : ℕ → Frame → List Frame → List Step
 closings l f [] = []
 closings l f (g ∷ around) =
     let later = closings l (withKid (f .of) g) around in
     if leb l (f .of .level) then closes f (g ∷ around) ∷ later else []
 
--- .. and what is open then
+-- what is open after those closings
 unfoldable pub remain : ℕ → Frame → List Frame → Opened
 remain l f [] = record { top = f; around = [] }
 remain l f (g ∷ around) =
@@ -63,8 +65,10 @@ unfoldable pub stepsFrom : Opened → ℕ → List Rec → List Step
 stepsFrom o i [] = closings 1 (o .top) (o .around)
 stepsFrom o i (r ∷ rs) =
     let q = remain (r .level) (o .top) (o .around) in
-    closings (r .level) (o .top) (o .around) ++ (opens (fresh i r) (q .top ∷ q .around) ∷ stepsFrom (record { top = fresh i r; around = q .top ∷ q .around }) (suc i) rs)
+    closings (r .level) (o .top) (o .around)
+    ++ (opens (fresh i r) (q .top ∷ q .around)
+    ∷ stepsFrom (record { top = fresh i r; around = q .top ∷ q .around }) (suc i) rs)
 
--- those of a sheet, were there no stop
+-- the openings and closings of a whole sheet where nothing stops the machine
 unfoldable pub stepsOf : List ℕ → List Step
 stepsOf w = stepsFrom (record { top = theSheet; around = [] }) 0 (recordsFrom w (recordsOf w) 0)

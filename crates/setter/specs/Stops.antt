@@ -14,7 +14,7 @@ use Rattle.leaves.specs.Sheet.Texts.{textOf}
 use Rattle.setter.specs.Steps.{Step, opens, closes}
 use Rattle.setter.specs.Seen.{Seen, seen}
 
--- a stop is of an opening or of a closing
+-- a stop happens at an opening or at a closing
 pub data Moment : Type 0 where
   opening : Moment
   closing : Moment
@@ -29,7 +29,7 @@ sameMoment closing closing = true
 pub record Row : Type 0 where
   -- the stop's number
   pub stop : ℕ
-  -- whether it is of an opening or of a closing
+  -- whether it happens at an opening or at a closing
   pub moment : Moment
   -- the rules named beside it
   pub rules : List ℕ
@@ -39,14 +39,21 @@ pub record Row : Type 0 where
 abbrev pub row : ℕ → Moment → List ℕ → (List ℕ → Rec → Seen → Bool) → Row
 row n moment rules holds = record { stop = n; moment = moment; rules = rules; holds = holds }
 
+-- 7: "ordered item's own number over 999,999,999"
+abbrev pub mostOwnNumber : ℕ
+mostOwnNumber = 999999999
+
 abbrev pub stops : List Row
 stops =
     -- "cell position (from 0) not below table's A"
-    row 1 opening (16 ∷ 17 ∷ 18 ∷ 19 ∷ []) (λ bytes r s. eqb (r .kind) Kinds.cell && leb (s .columns) (s .before))
+    row 1 opening (16 ∷ 17 ∷ 18 ∷ 19 ∷ [])
+    (λ bytes r s. eqb (r .kind) Kinds.cell && leb (s .columns) (s .before))
     -- "row closed with under A cells"
-    ∷ row 2 closing (16 ∷ 17 ∷ 18 ∷ 19 ∷ []) (λ bytes r s. eqb (r .kind) Kinds.row && ltb (s .kids) (s .columns))
+    ∷ row 2 closing (16 ∷ 17 ∷ 18 ∷ 19 ∷ [])
+    (λ bytes r s. eqb (r .kind) Kinds.row && ltb (s .kids) (s .columns))
     -- "table closed without row, or A = 0"
-    ∷ row 3 closing (16 ∷ 17 ∷ 18 ∷ 19 ∷ []) (λ bytes r s. eqb (r .kind) Kinds.table && (eqb (s .kids) 0 || eqb (r .a) 0))
+    ∷ row 3 closing (16 ∷ 17 ∷ 18 ∷ 19 ∷ [])
+    (λ bytes r s. eqb (r .kind) Kinds.table && (eqb (s .kids) 0 || eqb (r .a) 0))
     -- "inline break (so no thematic break) whose nearest open non-inline is a cell, leaf or container directive"
     ∷ row 4 opening (20 ∷ 22 ∷ 23 ∷ [])
     (λ bytes r s.
@@ -60,7 +67,7 @@ stops =
     ∷ row 6 opening (10 ∷ []) (λ bytes r s. eqb (r .kind) Kinds.heading && not (between 1 6 (r .a)))
     -- "ordered item's own number over 999,999,999"
     ∷ row 7 opening (50 ∷ [])
-    (λ bytes r s. eqb (r .kind) Kinds.item && s .ordered && eqb (r .b) 1 && ltb 999999999 (r .c))
+    (λ bytes r s. eqb (r .kind) Kinds.item && s .ordered && eqb (r .b) 1 && ltb mostOwnNumber (r .c))
     -- "bullet item with number"
     ∷ row 8 opening (49 ∷ []) (λ bytes r s. eqb (r .kind) Kinds.item && not (s .ordered) && eqb (r .b) 1)
     -- "list closed without item"
@@ -68,7 +75,8 @@ stops =
     -- "paragraph, emphasis, strong, delete or mark closed with nothing but empty texts"
     ∷ row 10 closing (2 ∷ 39 ∷ [])
     (λ bytes r s.
-    among (r .kind) (Kinds.paragraph ∷ Kinds.emphasis ∷ Kinds.strong ∷ Kinds.delete ∷ Kinds.mark ∷ []) && s .empty)
+    among (r .kind) (Kinds.paragraph ∷ Kinds.emphasis ∷ Kinds.strong ∷ Kinds.delete ∷ Kinds.mark ∷ [])
+    && s .empty)
     -- "soft or spaces break straight after a sibling break": a line break whose A is 1 is one of spaces
     ∷ row 11 opening (37 ∷ [])
     (λ bytes r s. (eqb (r .kind) Kinds.softBreak || eqb (r .kind) Kinds.lineBreak && eqb (r .a) 1) && s .broke)
@@ -85,7 +93,8 @@ stops =
 -- numbers rise. 0 where there is none.
 abbrev pub lowest : Moment → List ℕ → Rec → Seen → List Row → ℕ
 lowest m bytes r s [] = 0
-lowest m bytes r s (t ∷ ts) = if sameMoment m (t .moment) && t .holds bytes r s then t .stop else lowest m bytes r s ts
+lowest m bytes r s (t ∷ ts) =
+    if sameMoment m (t .moment) && t .holds bytes r s then t .stop else lowest m bytes r s ts
 
 unfoldable pub stopAt : Moment → List ℕ → Rec → Seen → ℕ
 stopAt m bytes r s = lowest m bytes r s stops
@@ -95,7 +104,7 @@ unfoldable pub stopOf : List ℕ → Step → ℕ
 stopOf bytes (opens f around) = stopAt opening bytes (f .of) (seen f around)
 stopOf bytes (closes f around) = stopAt closing bytes (f .of) (seen f around)
 
--- ---- the table read the other way, for demand 3: the rule is named beside the stop; and beside any
+-- ---- the table read the other way, for demand 3: rule n is named beside stop s (`beside`), or beside any (`named`)
 abbrev pub besideIn : ℕ → ℕ → List Row → Bool
 besideIn s n [] = false
 besideIn s n (t ∷ ts) = eqb s (t .stop) && among n (t .rules) || besideIn s n ts

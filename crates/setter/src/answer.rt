@@ -12,7 +12,7 @@ pub enum Setting {
     ShortMarks,
 }
 
-// What a refusal's number is added to, so that it is no stop.
+// Added to a refusal's number, so that it is no stop's.
 const REFUSED: u32 = 256;
 
 const SHORT_MARKS: u32 = 12;

@@ -11,8 +11,8 @@ pub struct Both {
     pub set: Setting,
 }
 
-// Checks the sheet into the report, and runs the machine over it into the marks. Neither asks the other: that they agree
-// is proved.
+// Runs the check, which writes the report, and then the machine, which writes the marks. Neither asks the other: that
+// they agree is proved.
 pub fn check_and_set(sheet: &[u32], text: &[u8], report: &mut [u32], marks: &mut [u32]) -> Both
     ensures { λ r.
         ⌜ ChecksAndSets (now (sheet .entry)) (now (text .entry)) (now (report .entry)) (now (marks .entry))

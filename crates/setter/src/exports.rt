@@ -9,7 +9,7 @@ use blocks::answer::answer_number;
 use blocks::answer::answer_value;
 use blocks::check::check;
 
-// What the number of an answer is multiplied by: its value is in the lower half.
+// The number of an answer is multiplied by this: it is in the upper half, and the value in the lower.
 const UPPER: u64 = 4294967296;
 
 // An answer in the two halves of one number.

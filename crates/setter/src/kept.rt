@@ -1,8 +1,8 @@
-// What the machine keeps of an open record.
+// What the machine keeps of each open record, and how it changes as records open and close.
 ghost use mathlib.Core.Path.{_≡_};
 ghost use Prim.Native.Nat.{_≤_};
 ghost use Rattle.setter.specs.Steps.{theSheet};
-ghost use Rattle.setter.specs.Kept.{keptOf, openedIn, joinedBy, nextMarker, mostKids, mostNumber};
+ghost use Rattle.setter.specs.Kept.{keptOf, openedIn, joinedBy, nextMarker, mostKids, mostItemMark};
 ghost use mathlib.Core.List.{[]};
 use crate::marks::item_mark;
 use leaves::sheet::classes;
@@ -12,31 +12,32 @@ use leaves::sheet::records::Rec;
 use leaves::text::bytes::pick;
 use leaves::text::marker::written_marker;
 
-// What the stops and marks ask of an open record: of itself and what is open around it, and of its children that have closed.
+// What the machine keeps of an open record. The first five fields are of the record and of what is open around it, the
+// others of its children that have closed.
 pub(crate) struct Kept {
-    // its number, from 0
+    // the record's number in the sheet, from 0
     pub at: u32,
-    // A of the nearest table
+    // A of the nearest open table; 0 where there is none
     pub columns: u32,
-    // the kind of the nearest record that is no inline
+    // the kind of the nearest open record that is no inline; 0 for the sheet
     pub nearest: u32,
-    // it is, or stands under, a link or link reference
+    // the record is a link or link reference, or stands under one
     pub linked: bool,
-    // its A is 1
+    // the record's A is 1: a list is ordered
     pub ordered: bool,
     // how many children have closed
     pub kids: u32,
-    // the newest is a break
+    // the newest child is an inline break
     pub broke: bool,
-    // the written marker of the newest that is no blank line, where that is a list; else 0
+    // the written marker of the newest child that is no blank line, where that is a list; else 0
     pub marker: u32,
-    // they are nothing but empty texts
+    // the children are nothing but empty texts
     pub empty: bool,
-    // the newest's number, as an item's
+    // the newest child's number, as an ordered item's; 0 where there is none
     pub number: u32,
 }
 
-// The sheet itself, before anything opens.
+// What is kept of the sheet itself, before anything opens.
 pub(crate) fn the_sheet() -> Kept
     ensures { λ r. ⌜ r ≡ keptOf theSheet [] ⌝ }
 {
@@ -54,7 +55,7 @@ pub(crate) fn the_sheet() -> Kept
     }
 }
 
-// Record `i` once it has opened under `k`.
+// What is kept of record `i`, which is r, as it opens under the record of which `k` is kept.
 pub(crate) fn opened(i: u32, r: Rec, k: Kept) -> Kept
     ensures { λ q. ⌜ q ≡ openedIn i r k ⌝ }
 {
@@ -72,7 +73,8 @@ pub(crate) fn opened(i: u32, r: Rec, k: Kept) -> Kept
     }
 }
 
-// The marker behind record r: a blank line is skipped.
+// The marker kept once record r has closed: for a list its written one, for a blank line the one before, and 0 for any
+// other kind.
 fn next_marker(r: Rec, before: u32) -> u32
     ensures { λ q. ⌜ q ≡ nextMarker r before ⌝ }
 {
@@ -80,9 +82,9 @@ fn next_marker(r: Rec, before: u32) -> u32
     pick(r.kind == kinds::BLANK_LINE, before, list)
 }
 
-// `k` once its child r has closed.
+// What is kept of a record once its child r has closed; `k` was kept before.
 pub(crate) fn joined(k: Kept, r: Rec) -> Kept
-    requires { ⌜ (k .kids ≤ mostKids) × (k .number ≤ mostNumber) ⌝ }
+    requires { ⌜ (k .kids ≤ mostKids) × (k .number ≤ mostItemMark) ⌝ }
     ensures { λ q. ⌜ q ≡ joinedBy k r ⌝ }
 {
     Kept {

@@ -1,4 +1,5 @@
-// The setting machine, that it and the check agree, what is exported to C, and the listing program's work. Each module's definitions are in the file of specs/ that bears its name.
+// The setting machine; the check and the machine together, which are proved to agree; the functions exported to C; and
+// the listing program's work. The definitions of a module are in the file of specs/ that has its name.
 pub mod answer;
 pub mod both;
 pub mod exports;

@@ -20,7 +20,8 @@ use leaves::sheet::records::RECORD_WORDS;
 use leaves::sheet::records::level_at;
 use leaves::sheet::records::record_at;
 
-// The level from which open records close next: that of record `i`, and after the last every level.
+// Open records of this level or deeper close next. It is the level of record `i`; after the last record it is 1, so
+// that all close.
 fn next_level(sheet: &[u32], n: usize, i: usize) -> u32
     requires { ⌜ n * recordWords ≤ length (now sheet) ⌝ }
     ensures { λ r. ⌜ r ≡ nextLevel (now (sheet .entry)) n i ⌝ }
@@ -34,9 +35,12 @@ fn next_level(sheet: &[u32], n: usize, i: usize) -> u32
 // Opens and closes the records one after another, a turn for each opening and closing, until one stops. `open` has, by
 // level, what is kept of each open record, and `depth` is the innermost's level.
 fn run_records(sheet: &[u32], text: &[u8], marks: &mut [u32], n: usize) -> Setting
-    requires { ⌜ (judgeSheet (now sheet) (now text) ≡ Accepted) × (n ≡ recordsOf (now sheet)) × (n ≤ length (now marks)) ⌝ }
+    requires { ⌜ (judgeSheet (now sheet) (now text) ≡ Accepted)
+        × (n ≡ recordsOf (now sheet))
+        × (n ≤ length (now marks)) ⌝ }
     ensures { λ r.
-        ⌜ Answers (afterRun (now (sheet .entry)) (now (text .entry)) (now (marks .entry))) r (now (marks .exit)) ⌝ }
+        ⌜ Answers (afterRun (now (sheet .entry)) (now (text .entry)) (now (marks .entry)))
+        r (now (marks .exit)) ⌝ }
 {
     let mut open = [kept::the_sheet(); 65];
     let mut depth: usize = 0;
@@ -68,10 +72,11 @@ fn run_records(sheet: &[u32], text: &[u8], marks: &mut [u32], n: usize) -> Setti
     Setting::Ended(n as u32)
 }
 
-// Refuses a malformed sheet by number, and marks that are too few, and leaves every mark; or runs the machine.
+// Refuses a malformed sheet by number, or marks that are too few, and leaves every mark; else runs the machine.
 pub fn set(sheet: &[u32], text: &[u8], marks: &mut [u32]) -> Setting
     ensures { λ r.
-        ⌜ Answers (settingOf (now (sheet .entry)) (now (text .entry)) (now (marks .entry))) r (now (marks .exit)) ⌝ }
+        ⌜ Answers (settingOf (now (sheet .entry)) (now (text .entry)) (now (marks .entry)))
+        r (now (marks .exit)) ⌝ }
 {
     let judged = judge::accept(sheet, text);
     if let Judged::Refused(refusal) = judged {

@@ -4,7 +4,7 @@ ghost use mathlib.Core.Bool.{true};
 ghost use Prim.Native.Nat.{_≤_};
 ghost use Rattle.setter.specs.Seen.{itemMark};
 ghost use Rattle.setter.specs.Marks.{markOf};
-ghost use Rattle.setter.specs.Kept.{seenBy, mostKids, mostNumber};
+ghost use Rattle.setter.specs.Kept.{seenBy, mostKids, mostItemMark};
 use crate::kept::Kept;
 use leaves::sheet::kinds;
 use leaves::sheet::records::Rec;
@@ -12,15 +12,15 @@ use leaves::text::bytes::pick;
 
 // The number of an ordered item: its own, else one more than that of the item before.
 pub(crate) fn item_mark(r: Rec, before: u32) -> u32
-    requires { ⌜ before ≤ mostNumber ⌝ }
+    requires { ⌜ before ≤ mostItemMark ⌝ }
     ensures { λ q. ⌜ q ≡ itemMark r before ⌝ }
 {
     pick(r.b == 1, r.c, before + 1)
 }
 
-// The mark of record r as it opens under `k`.
+// The mark of record r as it opens under the record of which `k` is kept.
 pub(crate) fn mark_of(r: Rec, k: Kept) -> u32
-    requires { ⌜ (k .kids ≤ mostKids) × (k .number ≤ mostNumber) ⌝ }
+    requires { ⌜ (k .kids ≤ mostKids) × (k .number ≤ mostItemMark) ⌝ }
     ensures { λ q. ⌜ q ≡ markOf r (seenBy r k 0 true) ⌝ }
 {
     let item = (r.kind == kinds::ITEM) & k.ordered;

@@ -20,13 +20,14 @@ use leaves::text::bytes::pick;
 use leaves::text::lines::holds_line_ending;
 use leaves::text::marker::written_marker;
 
-// The largest number of an ordered item.
-const MOST_NUMBER: u32 = 999999999;
+// The largest own number of an ordered item.
+const MOST_OWN_NUMBER: u32 = 999999999;
 
 // A text or inline code that holds a line ending.
 fn is_broken_text(bytes: &[u8], r: Rec) -> bool
     ensures { λ q.
-        ⌜ q ≡ (among (r .kind) (text ∷ code ∷ []) && holdsLineEnding (textOf (now (bytes .entry)) (r .first))) ⌝ }
+        ⌜ q ≡ (among (r .kind) (text ∷ code ∷ [])
+        && holdsLineEnding (textOf (now (bytes .entry)) (r .first))) ⌝ }
 {
     let counts = (r.kind == kinds::TEXT) | (r.kind == kinds::CODE);
     if counts {
@@ -35,7 +36,7 @@ fn is_broken_text(bytes: &[u8], r: Rec) -> bool
     false
 }
 
-// A record that no line may break inside of.
+// A cell, leaf directive or container directive: no line may break inside it.
 fn is_one_line(kind: u32) -> bool
     ensures { λ q. ⌜ q ≡ among kind (cell ∷ leafDirective ∷ containerDirective ∷ []) ⌝ }
 {
@@ -53,7 +54,7 @@ fn holds_prose(kind: u32) -> bool
         | (kind == kinds::MARK)
 }
 
-// The stop of record r as it opens under `k`; 0 where it has none.
+// The stop of record r as it opens under the record of which `k` is kept; 0 where it has none.
 pub(crate) fn opening_stop(bytes: &[u8], r: Rec, k: Kept) -> u32
     ensures { λ q. ⌜ q ≡ stopAt opening (now (bytes .entry)) r (seenBy r k 0 true) ⌝ }
 {
@@ -63,7 +64,7 @@ pub(crate) fn opening_stop(bytes: &[u8], r: Rec, k: Kept) -> u32
     let line = classes::is_break(r.kind) & is_one_line(k.nearest);
     let link = classes::is_link(r.kind) & k.linked;
     let heading = (r.kind == kinds::HEADING) & !between(1, 6, r.a);
-    let large = item & k.ordered & numbered & (MOST_NUMBER < r.c);
+    let large = item & k.ordered & numbered & (MOST_OWN_NUMBER < r.c);
     let bullet = item & !k.ordered & numbered;
     let again = classes::is_plain_break(r.kind, r.a) & k.broke;
     let inside = (r.kind == kinds::FRONTMATTER) & (1 < r.level);
@@ -76,10 +77,11 @@ pub(crate) fn opening_stop(bytes: &[u8], r: Rec, k: Kept) -> u32
     pick(cell, 1, pick(line, 4, stop))
 }
 
-// The stop of record r as it closes under `around`, where `k` is kept of it; 0 where it has none. No closing asks for the
-// text, so the promise is for every text.
+// The stop of record r as it closes; 0 where it has none. `k` is kept of r, and `around` of the record that holds it.
+// No closing asks for the text, so the promise is for every text.
 pub(crate) fn closing_stop(r: Rec, k: Kept, around: Kept) -> u32
-    ensures { λ q. ⌜ ((bytes : List ℕ) → q ≡ stopAt closing bytes r (seenBy r around (k .kids) (k .empty))) ⌝ }
+    ensures { λ q.
+        ⌜ ((bytes : List ℕ) → q ≡ stopAt closing bytes r (seenBy r around (k .kids) (k .empty))) ⌝ }
 {
     let row = (r.kind == kinds::ROW) & (k.kids < around.columns);
     let table = (r.kind == kinds::TABLE) & ((k.kids == 0) | (r.a == 0));

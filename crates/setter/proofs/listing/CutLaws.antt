@@ -11,7 +11,7 @@ use Rattle.leaves.specs.Sheet.Records.{recordWords}
 use Rattle.leaves.proofs.text.TestLaws.{or-left, or-right}
 use Rattle.leaves.specs.Text.Columns.{lineBytes, isLine, numbers}
 use Rattle.leaves.proofs.text.ColumnLaws.{drop-take, numbers-take, line-take}
-use Rattle.setter.specs.Listing.Film.{countFields, recordCount, byteCount, areRecords, behindCounts, textBehind, mostRecords, mostBytes, mostInput, isBig, filmOf}
+use Rattle.setter.specs.Listing.Film.{countFields, recordCount, byteCount, areRecords, behindCounts, textBehind, mostFilmRecords, mostFilmBytes, mostInput, isBig, filmOf}
 
 records-take : (n m : ℕ) (s : List ℕ) → n * lineBytes recordWords ≤ m → areRecords n (take m s) ≡ areRecords n s
 unfolding areRecords
@@ -29,13 +29,13 @@ module _ (s : List ℕ) (long : mostInput < length s) where
   counts-are : numbers countFields (take (suc mostInput) s) ≡ numbers countFields s
   counts-are = numbers-take countFields (suc mostInput) s (omega arith)
 
-  few-of : isBig s ≡ false → recordCount s ≤ mostRecords
-  few-of q = ltb-false _ _ (or-left (ltb mostRecords (recordCount s)) (ltb mostBytes (byteCount s)) q)
+  few-of : isBig s ≡ false → recordCount s ≤ mostFilmRecords
+  few-of q = ltb-false _ _ (or-left (ltb mostFilmRecords (recordCount s)) (ltb mostFilmBytes (byteCount s)) q)
 
-  short-of : isBig s ≡ false → byteCount s ≤ mostBytes
-  short-of q = ltb-false _ _ (or-right (ltb mostRecords (recordCount s)) (ltb mostBytes (byteCount s)) q)
+  short-of : isBig s ≡ false → byteCount s ≤ mostFilmBytes
+  short-of q = ltb-false _ _ (or-right (ltb mostFilmRecords (recordCount s)) (ltb mostFilmBytes (byteCount s)) q)
 
-  module _ (few : recordCount s ≤ mostRecords) (short : byteCount s ≤ mostBytes) where
+  module _ (few : recordCount s ≤ mostFilmRecords) (short : byteCount s ≤ mostFilmBytes) where
     lines-are : areRecords (recordCount s) (behindCounts (take (suc mostInput) s)) ≡ areRecords (recordCount s) (behindCounts s)
     lines-are = rw (drop-take (lineBytes countFields) (suc mostInput) s (omega arith)) (records-take (recordCount s) (suc mostInput - lineBytes countFields) (behindCounts s) (omega arith))
 

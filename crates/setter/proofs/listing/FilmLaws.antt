@@ -10,7 +10,7 @@ use borrow.Author.Tests.{eq-eqb, ne-eqb, lt-ltb, le-ltb, ltb-false, not-true, no
 use Rattle.leaves.specs.Sheet.Records.{recordWords}
 use Rattle.leaves.specs.Text.Columns.{lineBytes, isLine, numbers}
 use Rattle.leaves.proofs.text.ColumnLaws.{numbers-long}
-use Rattle.setter.specs.Listing.Film.{countFields, recordCount, byteCount, areRecords, sheetOf, behindCounts, filmSheet, textBehind, mostRecords, mostBytes, filmText, filmOf, filledSheet, Reads}
+use Rattle.setter.specs.Listing.Film.{countFields, recordCount, byteCount, areRecords, sheetOf, behindCounts, filmSheet, textBehind, mostFilmRecords, mostFilmBytes, filmText, filmOf, filledSheet, Reads}
 use Rattle.leaves.specs.Refusal.Verdict.{answer}
 use Rattle.setter.specs.declared.listing.filmanswer.Film.the-variants.{BadColumn, BigFilm, Ready}
 
@@ -32,17 +32,17 @@ module _ (s old : List ℕ) {good : Bool} {counts : List ℕ} (first : (good ≡
     m-is : byteCount s ≡ m
     m-is = sym (b ∙ ap (λ (w : List ℕ). getD w 1 0) (first .1))
 
-    pub film-many : mostRecords < n → Reads s old old BigFilm
+    pub film-many : mostFilmRecords < n → Reads s old old BigFilm
     unfolding filmOf filledSheet
     film-many f = record { answer = rw (l-is, n-is, lt-ltb _ _ f); words = rw (l-is, n-is, lt-ltb _ _ f) }
 
-    module _ (few : n ≤ mostRecords) where
-      pub film-long : mostBytes < m → Reads s old old BigFilm
+    module _ (few : n ≤ mostFilmRecords) where
+      pub film-long : mostFilmBytes < m → Reads s old old BigFilm
       unfolding filmOf filledSheet
       film-long f =
           record { answer = rw (l-is, n-is, m-is, le-ltb _ _ few, lt-ltb _ _ f); words = rw (l-is, n-is, m-is, le-ltb _ _ few, lt-ltb _ _ f) }
 
-      module _ (short : m ≤ mostBytes) {t new : List ℕ} {lines : Bool} (e : t ≡ behindCounts s) (f : (lines ≡ areRecords n t) × (new ≡ sheetOf n t ++ drop (n * recordWords) old)) where
+      module _ (short : m ≤ mostFilmBytes) {t new : List ℕ} {lines : Bool} (e : t ≡ behindCounts s) (f : (lines ≡ areRecords n t) × (new ≡ sheetOf n t ++ drop (n * recordWords) old)) where
         lines-is : areRecords n (behindCounts s) ≡ lines
         lines-is = sym (rw e at (f .0))
 
@@ -70,16 +70,16 @@ module _ (s old : List ℕ) {good : Bool} {counts : List ℕ} (first : (good ≡
 pub record Good (s : List ℕ) : Type 0 where
   pub answer : filmOf s ≡ answer 0 (recordCount s)
   pub filled : (old : List ℕ) → filledSheet s old ≡ filmSheet s ++ drop (recordCount s * recordWords) old
-  pub few : recordCount s ≤ mostRecords
+  pub few : recordCount s ≤ mostFilmRecords
 
 pub good : (s : List ℕ) → filmOf s .number ≡ 0 → Good s
 unfolding filmOf filledSheet
-good s z = go (isLine countFields s) refl (ltb mostRecords (recordCount s)) refl (ltb mostBytes (byteCount s)) refl (areRecords (recordCount s) (behindCounts s)) refl (eqb (length (filmText s)) (byteCount s)) refl
+good s z = go (isLine countFields s) refl (ltb mostFilmRecords (recordCount s)) refl (ltb mostFilmBytes (byteCount s)) refl (areRecords (recordCount s) (behindCounts s)) refl (eqb (length (filmText s)) (byteCount s)) refl
   where
     no : {m : ℕ} → m ≡ 0 → 0 < m → Good s
     no e h = absurd (omega arith)
 
-    go : (a : Bool) → isLine countFields s ≡ a → (b : Bool) → ltb mostRecords (recordCount s) ≡ b → (c : Bool) → ltb mostBytes (byteCount s) ≡ c → (d : Bool) → areRecords (recordCount s) (behindCounts s) ≡ d → (e : Bool) → eqb (length (filmText s)) (byteCount s) ≡ e → Good s
+    go : (a : Bool) → isLine countFields s ≡ a → (b : Bool) → ltb mostFilmRecords (recordCount s) ≡ b → (c : Bool) → ltb mostFilmBytes (byteCount s) ≡ c → (d : Bool) → areRecords (recordCount s) (behindCounts s) ≡ d → (e : Bool) → eqb (length (filmText s)) (byteCount s) ≡ e → Good s
     go false p b q c r d t e u = no (rw p at z) (omega arith)
     go true p true q c r d t e u = no (rw (p, q) at z) (omega arith)
     go true p false q true r d t e u = no (rw (p, q, r) at z) (omega arith)

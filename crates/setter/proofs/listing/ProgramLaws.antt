@@ -25,7 +25,7 @@ use Rattle.setter.specs.declared.answer.Setting.{Setting}
 use Rattle.blocks.specs.Check.{outcome}
 use Rattle.blocks.proofs.AnswerLaws.{value-word}
 use Rattle.leaves.specs.Text.Columns.{line}
-use Rattle.setter.specs.Listing.Film.{recordCount, behindCounts, filmSheet, textBehind, filmText, mostRecords, mostInput, filmOf, Reads}
+use Rattle.setter.specs.Listing.Film.{recordCount, behindCounts, filmSheet, textBehind, filmText, mostFilmRecords, mostInput, filmOf, Reads}
 use Rattle.setter.specs.Listing.FilmAnswer.{filmAnswer}
 use Rattle.setter.specs.declared.listing.filmanswer.Film.{Film}
 use Rattle.setter.proofs.listing.FilmLaws.{Good, good, sheet-long}
@@ -76,7 +76,7 @@ module _ (w bytes x : List ℕ) {y : List ℕ} {c : Answer} {number value : ℕ}
     pub list-few : value ≤ reportWords
     list-few = omega (arith, few-entries (validateDocument w bytes), list-is .fits, list-is .count)
 
-    module _ (marks : List ℕ) {m : List ℕ} {s : Setting} {stop at : ℕ} (q : Answers (settingOf w bytes marks) s m) (few : recordsOf w ≤ mostRecords) (same : length marks ≡ mostRecords) (f : stop ≡ settingAnswer s .number) (g : at ≡ settingAnswer s .value) where
+    module _ (marks : List ℕ) {m : List ℕ} {s : Setting} {stop at : ℕ} (q : Answers (settingOf w bytes marks) s m) (few : recordsOf w ≤ mostFilmRecords) (same : length marks ≡ mostFilmRecords) (f : stop ≡ settingAnswer s .number) (g : at ≡ settingAnswer s .value) where
       run-is : settingAnswer s ≡ runAnswer w bytes
       run-is = ap (λ (u : Answer × List ℕ). u .0) (q .answer) ∙ ran w bytes marks (list-is .accepted) (omega arith)
 
@@ -107,7 +107,7 @@ module _ {s old sheet : List ℕ} {f : Film} {number : ℕ} (r : Reads s old she
     n-is : n ≡ recordCount s
     n-is = b ∙ ap (λ (p : Answer). p .value) (r .answer ∙ ready .answer)
 
-    pub ready-few : n ≤ mostRecords
+    pub ready-few : n ≤ mostFilmRecords
     ready-few = omega (arith, n-is, ready .few)
 
     sheet-is : take (n * recordWords) sheet ≡ filmSheet s
@@ -121,7 +121,7 @@ module _ {s old sheet : List ℕ} {f : Film} {number : ℕ} (r : Reads s old she
     pub ready-room : n * recordWords ≤ length sheet
     ready-room = omega (arith, ready-long, length-take (n * recordWords) sheet)
 
-    pub ready-records : recordsOf (take (n * recordWords) sheet) ≤ mostRecords
+    pub ready-records : recordsOf (take (n * recordWords) sheet) ≤ mostFilmRecords
     unfolding filmSheet
     ready-records =
         let k : length (filmSheet s) / recordWords ≡ recordCount s = div-eq-of-eq-mul-left (omega arith) (sheet-long (recordCount s) (behindCounts s)) in

@@ -1,5 +1,6 @@
 -- A film: what the program reads, a sheet and its text.
--- Document 01: "The program reads a sheet on standard input: counts of records and text bytes; a line a record; the text."
+-- Document 01: "The program reads a sheet on standard input: counts of records and text bytes; a line a record; the
+-- text."
 use Prim.Native.Nat.{ℕ, _+_, _*_}
 use mathlib.Core.Path.{_≡_}
 use mathlib.Core.Bool.{Bool, not, _&&_, _||_}
@@ -10,7 +11,7 @@ use Rattle.leaves.specs.Text.Lists.{if_then_else_}
 use Rattle.leaves.specs.Sheet.Records.{recordWords}
 use Rattle.leaves.specs.Text.Columns.{lineBytes, isLine, numbers}
 unfoldable pub use Rattle.setter.specs.Listing.Records.{areRecords, sheetOf}
-pub use Rattle.setter.specs.Listing.Records.{mostRecords}
+pub use Rattle.setter.specs.Listing.Records.{mostFilmRecords}
 use Rattle.setter.specs.declared.listing.filmanswer.Film.{Film}
 use Rattle.leaves.specs.Refusal.Verdict.{Answer, answer}
 use Rattle.setter.specs.Listing.FilmAnswer.{badColumn, bigFilm, filmAnswer}
@@ -44,16 +45,16 @@ filmText s = textBehind (recordCount s) s
 
 -- ---- the tests. "The program tests its first line (13, then 14), then each line, before the call".
 
--- 14, big film: "over 512 records or 16,384 text bytes" (`mostRecords` is 512)
-abbrev pub mostBytes : ℕ
-mostBytes = 16384
+-- 14, big film: "over 512 records or 16,384 text bytes" (`mostFilmRecords` is 512)
+abbrev pub mostFilmBytes : ℕ
+mostFilmBytes = 16384
 
 -- how many bytes the largest well-formed film has
 abbrev pub mostInput : ℕ
-mostInput = lineBytes countFields + mostRecords * lineBytes recordWords + mostBytes
+mostInput = lineBytes countFields + mostFilmRecords * lineBytes recordWords + mostFilmBytes
 
 abbrev pub isBig : List ℕ → Bool
-isBig s = ltb mostRecords (recordCount s) || ltb mostBytes (byteCount s)
+isBig s = ltb mostFilmRecords (recordCount s) || ltb mostFilmBytes (byteCount s)
 
 -- 13, bad column: "malformed line, or text too short or long"; 0 and the number of records where the film is ready
 unfoldable pub filmOf : List ℕ → Answer
@@ -68,9 +69,13 @@ filmOf s =
     then answer badColumn 0
     else answer 0 (recordCount s)
 
--- ---- the words that the sheet is read into: those of the records where the counts are good, and behind them the old ones
+-- ---- the words that the sheet is read into. Where the counts are good, the records' words stand at the front, and
+-- behind them the old words stay; else all stay.
 unfoldable pub filledSheet : List ℕ → List ℕ → List ℕ
-filledSheet s old = if isLine countFields s && not (isBig s) then filmSheet s ++ drop (recordCount s * recordWords) old else old
+filledSheet s old =
+    if isLine countFields s && not (isBig s)
+    then filmSheet s ++ drop (recordCount s * recordWords) old
+    else old
 
 -- what reading a film hands back: its answer, and the words of the sheet
 pub record Reads (s old new : List ℕ) (film : Film) : Type 0 where

@@ -1,5 +1,6 @@
 -- What the program prints.
--- Document 01: "It prints a line an entry, then diagnostics, stop (0 at the end), record; a refusal prints number and record only."
+-- Document 01: "It prints a line an entry, then diagnostics, stop (0 at the end), record; a refusal prints number and
+-- record only."
 use Prim.Native.Nat.{ℕ, _+_, _*_}
 use mathlib.Core.Path.{_≡_}
 use mathlib.Core.List.{List, [], _∷_, _++_}
@@ -24,11 +25,12 @@ listLines es stop at = entryLines es ++ line (length es ∷ stop ∷ at ∷ [])
 abbrev pub reportWords : ℕ
 reportWords = 4096
 
--- how many bytes are printed at most: for each word of the report a field, and an LF, since an entry has more words than one; and the last line
+-- How many bytes are printed at most: a field and an LF for each word of the report, and the last line. An entry ends
+-- with one LF and has several words, so there are never more LFs than words.
 abbrev pub outputBytes : ℕ
 outputBytes = reportWords * lineBytes 1 + lineBytes 3
 
--- n bytes are printed: the output begins with them, and stays as it was behind them
+-- n bytes are printed: they stand at the output's front, and the rest of the output is as it was
 pub record Prints (old bytes new : List ℕ) (n : ℕ) : Type 0 where
   pub count : n ≡ length bytes
   pub printed : new ≡ bytes ++ drop (length bytes) old

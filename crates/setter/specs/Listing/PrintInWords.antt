@@ -1,4 +1,5 @@
--- What the printing code goes by: entries as they stand in a report. A reader need not believe these: of a report that holds a list they give the lines of that list (`lines-of` in proofs/listing/PrintLaws.antt).
+-- What the printing code goes by: entries as they stand in a report's words. A reader need not believe these: where the
+-- report holds a list, they give the lines of that list (`lines-of` in proofs/listing/PrintLaws.antt).
 use Prim.Native.Nat.{ℕ, zero, suc, min, _+_, _-_}
 use mathlib.Core.List.{List, [], _++_}
 use lib.ListN.{length, take, drop}
@@ -14,6 +15,6 @@ unfoldable pub linesIn : ℕ → List ℕ → List ℕ
 linesIn zero w = []
 linesIn (suc n) w = line (take (entryWords w) w) ++ linesIn n (drop (entryWords w) w)
 
--- where the entry at a place ends: behind its words, or with the report
+-- where the entry at a place ends: behind its words, and no later than the report
 abbrev pub entryEnd : List ℕ → ℕ → ℕ
 entryEnd w at = at + min (entryWords (drop at w)) (length w - at)

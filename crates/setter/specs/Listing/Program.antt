@@ -1,6 +1,6 @@
 -- The program: from the bytes that it reads to the bytes that it prints.
--- Document 01: "The program reads a sheet on standard input .. It prints a line an entry, then diagnostics, stop (0 at the
--- end), record; a refusal prints number and record only."
+-- Document 01: "The program reads a sheet on standard input .. It prints a line an entry, then diagnostics, stop (0 at
+-- the end), record; a refusal prints number and record only."
 use Prim.Native.Nat.{ℕ}
 use mathlib.Core.Path.{_≡_}
 use mathlib.Core.List.{List, []}
@@ -19,8 +19,8 @@ use Rattle.setter.specs.Listing.Print.{reportWords, refusalLine, listLin
 abbrev pub checkedWith : List ℕ → List ℕ → Answer
 checkedWith w bytes = outcome w bytes (replicate reportWords 0) .0
 
--- what is printed for a sheet and its text: the whole list, with the machine's stop and record; or the check's refusal (1
--- to 11)
+-- what is printed for a sheet and its text: the whole list, with the machine's stop and record; or the check's refusal
+-- (1 to 11)
 unfoldable pub sheetLines : List ℕ → List ℕ → List ℕ
 sheetLines w bytes =
     if eqb (checkedWith w bytes .number) 0
@@ -36,6 +36,9 @@ listing s =
 -- n bytes are printed for what is read, and what a reader of the page relies on
 pub record Page (s old new : List ℕ) (n : ℕ) : Type 0 where
   pub prints : Prints old (listing s) new n
-  -- where the printed list is empty (the film is ready, and the check accepts it with no entry), the printed stop is 0 and
-  -- the printed record is the number of records
-  pub empty : filmOf s .number ≡ 0 → checkedWith (filmSheet s) (filmText s) ≡ answer 0 0 → listing s ≡ listLines [] 0 (recordsOf (filmSheet s))
+  -- where the printed list is empty (the film is ready, and the check accepts it with no entry), the printed stop is 0
+  -- and the printed record is the number of records
+  pub empty :
+      filmOf s .number ≡ 0
+      → checkedWith (filmSheet s) (filmText s) ≡ answer 0 0
+      → listing s ≡ listLines [] 0 (recordsOf (filmSheet s))

@@ -7,15 +7,15 @@ use Rattle.leaves.specs.Sheet.Records.{recordWords}
 use Rattle.leaves.specs.Text.Columns.{lineBytes, isLine, numbers}
 
 -- 14, big film: "over 512 records"
-abbrev pub mostRecords : ℕ
-mostRecords = 512
+abbrev pub mostFilmRecords : ℕ
+mostFilmRecords = 512
 
 -- n lines of records stand at the front
 unfoldable pub areRecords : ℕ → List ℕ → Bool
 areRecords zero s = true
 areRecords (suc n) s = isLine recordWords s && areRecords n (drop (lineBytes recordWords) s)
 
--- their words
+-- the words of the n records whose lines stand at the front
 unfoldable pub sheetOf : ℕ → List ℕ → List ℕ
 sheetOf zero s = []
 sheetOf (suc n) s = numbers recordWords s ++ sheetOf n (drop (lineBytes recordWords) s)

@@ -1,28 +1,29 @@
 // A film: its sheet and its text, or why it is refused.
 ghost use mathlib.Core.Path.{_≡_};
 ghost use Prim.Native.Nat.{_≤_};
-ghost use Rattle.setter.specs.Listing.Film.{mostRecords, textBehind, Reads};
+ghost use Rattle.setter.specs.Listing.Film.{mostFilmRecords, textBehind, Reads};
 use crate::listing::filmanswer::Film;
 use crate::listing::records::RECORD_BYTES;
 use crate::listing::records::behind;
 use crate::listing::records::read_records;
+use leaves::sheet::records::RECORD_WORDS;
 use leaves::text::columns::read_line;
 use leaves::text::field::PLACES;
 
-// How many bytes the first line has: two counts.
+// How many bytes the first line has: two counts and an LF.
 const COUNT_BYTES: usize = 2 * PLACES + 1;
 
 // The most records of a film, and the most bytes of its text.
-pub(crate) const MOST_RECORDS: usize = 512;
+pub(crate) const MOST_FILM_RECORDS: usize = 512;
 
-const MOST_BYTES: usize = 16384;
+const MOST_FILM_BYTES: usize = 16384;
 
-// The words of the largest sheet.
-pub(crate) const SHEET_WORDS: usize = 6144;
+// The words of the largest sheet of a film.
+pub(crate) const SHEET_WORDS: usize = MOST_FILM_RECORDS * RECORD_WORDS;
 
 // The text of a film of `n` records: all that stands behind them.
 pub(crate) fn text_behind(s: &[u8], n: usize) -> &[u8]
-    requires { ⌜ n ≤ mostRecords ⌝ }
+    requires { ⌜ n ≤ mostFilmRecords ⌝ }
     ensures { λ r. ⌜ now r ≡ textBehind n (now (s .entry)) ⌝ }
 {
     behind(s, COUNT_BYTES + n * RECORD_BYTES)
@@ -34,7 +35,8 @@ fn size(n: u32) -> usize
     n as usize
 }
 
-// Reads a film's sheet into the words, where the counts are good; answers how many records it has, or why it is refused.
+// Reads a film's sheet into the words where the counts are good. Answers how many records the film has, or why it is
+// refused.
 pub(crate) fn read_film(s: &[u8], sheet: &mut [u32; SHEET_WORDS]) -> Film
     ensures { λ r. ⌜ Reads (now (s .entry)) (now (sheet .entry)) (now (sheet .exit)) r ⌝ }
 {
@@ -45,10 +47,10 @@ pub(crate) fn read_film(s: &[u8], sheet: &mut [u32; SHEET_WORDS]) -> Film
     }
     let records = size(counts[0]);
     let bytes = size(counts[1]);
-    if MOST_RECORDS < records {
+    if MOST_FILM_RECORDS < records {
         return Film::BigFilm;
     }
-    if MOST_BYTES < bytes {
+    if MOST_FILM_BYTES < bytes {
         return Film::BigFilm;
     }
     let lines = read_records(behind(s, COUNT_BYTES), records, sheet);

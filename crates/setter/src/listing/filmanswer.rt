@@ -2,7 +2,7 @@
 ghost use mathlib.Core.Path.{_≡_};
 ghost use Rattle.setter.specs.Listing.FilmAnswer.{filmAnswer};
 
-// A film is refused, or how many records it has.
+// Why a film is refused, or how many records it has.
 pub(crate) enum Film {
     BadColumn,
     BigFilm,

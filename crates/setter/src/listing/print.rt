@@ -24,7 +24,7 @@ fn size(n: u32) -> usize
     n as usize
 }
 
-// Where the entry at a place of the report ends: behind its path, or with the report.
+// Where the entry at a place of the report ends: behind its path, and no later than the report.
 fn entry_end(report: &[u32], at: usize) -> usize
     requires { ⌜ at ≤ length (now report) ⌝ }
     ensures { λ r. ⌜ r ≡ entryEnd (now (report .entry)) at ⌝ }
@@ -40,7 +40,7 @@ fn entry_end(report: &[u32], at: usize) -> usize
     at + HEAD + path
 }
 
-// A line for each of the `n` entries at the report's front; answers where they end.
+// Writes a line for each of the `n` entries at the report's front; answers where the lines end.
 fn write_entries(out: &mut [u8], report: &[u32], n: usize) -> usize
     requires { ⌜ length (now report) * places + n ≤ length (now out) ⌝ }
     ensures { λ r. ⌜ Writes (now (out .entry)) 0 (linesIn n (now (report .entry))) (now (out .exit)) r ⌝ }
@@ -57,7 +57,7 @@ fn write_entries(out: &mut [u8], report: &[u32], n: usize) -> usize
     end
 }
 
-// The `n` entries at the report's front, and the last line: how many they are, the stop and the record.
+// Writes a line for each of the `n` entries at the report's front, and the last line: `n`, the stop and the record.
 pub(crate) fn write_list(
     out: &mut [u8; OUTPUT_BYTES],
     report: &[u32; REPORT_WORDS],
@@ -66,14 +66,17 @@ pub(crate) fn write_list(
     at: u32,
 ) -> usize
     requires { ⌜ n ≤ reportWords ⌝ }
-    ensures { λ r. ⌜ Prints (now (out .entry)) (linesIn n (now (report .entry)) ++ line (n ∷ stop ∷ at ∷ [])) (now (out .exit)) r ⌝ }
+    ensures { λ r.
+        ⌜ Prints (now (out .entry))
+        (linesIn n (now (report .entry)) ++ line (n ∷ stop ∷ at ∷ []))
+        (now (out .exit)) r ⌝ }
 {
     let end = write_entries(out, report, n);
     let last = [n as u32, stop, at];
     write_line(out, end, &last)
 }
 
-// The line of a refusal: its number, and the record.
+// Writes the line of a refusal: its number and the record.
 pub(crate) fn write_refusal(out: &mut [u8; OUTPUT_BYTES], number: u32, at: u32) -> usize
     ensures { λ r. ⌜ Prints (now (out .entry)) (refusalLine number at) (now (out .exit)) r ⌝ }
 {

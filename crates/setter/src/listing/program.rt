@@ -1,13 +1,13 @@
-// A film is read, checked and set, and what was found is printed.
+// Reads a film, checks and sets its sheet, and prints what was found.
 ghost use Prim.Native.Nat.{_*_, _≤_};
 ghost use Rattle.leaves.specs.Sheet.Records.{recordsOf};
-ghost use Rattle.setter.specs.Listing.Film.{mostRecords};
+ghost use Rattle.setter.specs.Listing.Film.{mostFilmRecords};
 ghost use Rattle.setter.specs.Listing.Print.{Prints};
 ghost use Rattle.setter.specs.Listing.Program.{sheetLines, Page};
 use crate::answer::setting_number;
 use crate::answer::setting_value;
 use crate::both::check_and_set;
-use crate::listing::film::MOST_RECORDS;
+use crate::listing::film::MOST_FILM_RECORDS;
 use crate::listing::film::SHEET_WORDS;
 use crate::listing::film::read_film;
 use crate::listing::film::text_behind;
@@ -29,15 +29,17 @@ fn report_words() -> [u32; REPORT_WORDS] {
     [0u32; REPORT_WORDS]
 }
 
-fn no_marks() -> [u32; MOST_RECORDS] {
-    [0u32; MOST_RECORDS]
+fn no_marks() -> [u32; MOST_FILM_RECORDS] {
+    [0u32; MOST_FILM_RECORDS]
 }
 
 // Checks and sets a sheet and its text, and prints the list with the stop and its record, or the refusal.
 fn list_sheet(sheet: &[u32], text: &[u8], output: &mut [u8; OUTPUT_BYTES]) -> usize
-    requires { ⌜ recordsOf (now sheet) ≤ mostRecords ⌝ }
+    requires { ⌜ recordsOf (now sheet) ≤ mostFilmRecords ⌝ }
     ensures { λ r.
-        ⌜ Prints (now (output .entry)) (sheetLines (now (sheet .entry)) (now (text .entry))) (now (output .exit)) r ⌝ }
+        ⌜ Prints (now (output .entry))
+        (sheetLines (now (sheet .entry)) (now (text .entry)))
+        (now (output .exit)) r ⌝ }
 {
     let mut report = report_words();
     let mut marks = no_marks();

@@ -4,7 +4,7 @@ ghost use mathlib.Core.List.{_++_};
 ghost use Prim.Native.Nat.{_*_, _≤_};
 ghost use lib.ListN.{length, drop};
 ghost use Rattle.leaves.specs.Sheet.Records.{recordWords};
-ghost use Rattle.setter.specs.Listing.Records.{mostRecords, areRecords, sheetOf};
+ghost use Rattle.setter.specs.Listing.Records.{mostFilmRecords, areRecords, sheetOf};
 use leaves::sheet::records::RECORD_WORDS;
 use leaves::text::columns::read_line;
 use leaves::text::field::PLACES;
@@ -24,8 +24,10 @@ pub(crate) fn behind(s: &[u8], at: usize) -> &[u8]
 
 // Reads the lines of `n` records from the front of the slice into the sheet; answers whether they are well-formed.
 pub(crate) fn read_records(s: &[u8], n: usize, sheet: &mut [u32]) -> bool
-    requires { ⌜ (n ≤ mostRecords) × (n * recordWords ≤ length (now sheet)) ⌝ }
-    ensures { λ r. ⌜ (r ≡ areRecords n (now (s .entry))) × (now (sheet .exit) ≡ sheetOf n (now (s .entry)) ++ drop (n * recordWords) (now (sheet .entry))) ⌝ }
+    requires { ⌜ (n ≤ mostFilmRecords) × (n * recordWords ≤ length (now sheet)) ⌝ }
+    ensures { λ r.
+        ⌜ (r ≡ areRecords n (now (s .entry)))
+        × (now (sheet .exit) ≡ sheetOf n (now (s .entry)) ++ drop (n * recordWords) (now (sheet .entry))) ⌝ }
 {
     let mut good = true;
     let mut at: usize = 0;
