@@ -13,7 +13,7 @@ use Rattle.leaves.specs.Report.Entries.{Entry}
 use Rattle.blocks.specs.Walk.{validateDocument}
 use Rattle.setter.specs.Steps.{Step, opens, closes, stepsOf}
 use Rattle.setter.specs.Stops.{beside, named}
-use Rattle.setter.specs.Machine.{Run, reached, run, StopsAt, Stops}
+use Rattle.setter.specs.Machine.{Run, reached, run, StopsAt, StopsSomewhere}
 
 -- ---- what is said of an entry
 
@@ -59,11 +59,11 @@ pub record Whole (w : List ℕ) (r : Run) : Type 0 where
 -- ---- the three sentences, of a sheet, its text, and a list of entries
 pub record Agrees (w bytes : List ℕ) (es : List Entry) : Type 0 where
   -- the machine stops exactly when the list holds a diagnostic of a rule named beside any of the stops
-  pub exactly : Stops (run w bytes) ↔ Some Named es
+  pub exactly : StopsSomewhere (run w bytes) ↔ Some Named es
   -- when it stops, the list holds a diagnostic of a rule named beside that very stop whose path begins with the block's
   pub there : (stop i : ℕ) (path : List ℕ) → StopsAt (run w bytes) stop i path → Some (Told stop path) es
   -- when it doesn't stop, it opens and closes every record exactly once and reaches the end
-  pub whole : (Stops (run w bytes) → ⊥) → Whole w (run w bytes)
+  pub whole : (StopsSomewhere (run w bytes) → ⊥) → Whole w (run w bytes)
   -- and so it does whenever the list is empty
   pub empty : es ≡ [] → Whole w (run w bytes)
 

@@ -89,7 +89,7 @@ pub record StopsAt (r : Run) (stop i : ℕ) (path : List ℕ) : Type 0 where
   pub block : blockPath (openAt step) ≡ path
 
 -- the run stopped: there are such a stop, record and block
-pub record Stops (r : Run) : Type 0 where
+pub record StopsSomewhere (r : Run) : Type 0 where
   pub stop : ℕ
   pub at : ℕ
   pub path : List ℕ

@@ -18,7 +18,7 @@ use Rattle.blocks.specs.Walk.{validateDocument}
 use Rattle.blocks.specs.Before.{first}
 use Rattle.setter.specs.Steps.{theSheet, Step, stepsOf}
 use Rattle.setter.specs.Stops.{stopOf}
-use Rattle.setter.specs.Machine.{openAt, recordAtStep, pathOf, blockPath, reached, stopped, runOf, run, StopsAt, Stops}
+use Rattle.setter.specs.Machine.{openAt, recordAtStep, pathOf, blockPath, reached, stopped, runOf, run, StopsAt, StopsSomewhere}
 use Rattle.setter.specs.Seen.{inLink}
 use Rattle.setter.specs.Agrees.{Some, Named, Told, Whole, Agrees, Demand}
 use Rattle.setter.specs.Stops.{Row, stops, besideIn, namedIn, beside, named}
@@ -70,7 +70,7 @@ run-told bytes es (t ∷ ts) h s i p e = go (eqb (stopOf bytes t) 0) refl (run-t
 
 -- a run ends at a stop, or is all of the steps, none of which stops
 data Ends (bytes : List ℕ) (ss : List Step) : Type 0 where
-  at-stop : Stops (runOf bytes ss) → Ends bytes ss
+  at-stop : StopsSomewhere (runOf bytes ss) → Ends bytes ss
   at-end : Quiet bytes ss → runOf bytes ss ≡ record { steps = ss; end = reached } → Ends bytes ss
 
 run-ends : (bytes : List ℕ) (ss : List Step) → Ends bytes ss
@@ -112,11 +112,11 @@ module _ (w bytes : List ℕ) (a : Sound w bytes) where
       told : (s i : ℕ) (p : List ℕ) → StopsAt (runOf bytes (stepsOf w)) s i p → Some (Told s p) (validateDocument w bytes)
       told = run-told bytes (validateDocument w bytes) (stepsOf w) (fits-all .heard)
 
-      go : Ends bytes (stepsOf w) → Some Named (validateDocument w bytes) → Stops (runOf bytes (stepsOf w))
+      go : Ends bytes (stepsOf w) → Some Named (validateDocument w bytes) → StopsSomewhere (runOf bytes (stepsOf w))
       go (at-stop s) h = s
       go (at-end q e) h = absurd (unnamed-none (validateDocument w bytes) (fits-all .quiet q .is) h)
 
-      go-whole : Ends bytes (stepsOf w) → (Stops (runOf bytes (stepsOf w)) → ⊥) → Whole w (run w bytes)
+      go-whole : Ends bytes (stepsOf w) → (StopsSomewhere (runOf bytes (stepsOf w)) → ⊥) → Whole w (run w bytes)
       go-whole (at-stop s) h = absurd (h s)
       go-whole (at-end q e) h = whole e
 
