@@ -1,9 +1,13 @@
--- The match of `validate_block` on one block, up to the blocks or items that it holds: for each kind the list of its entries in validate.rs's order. Kept rules only. Its arms are cut in three; no kind is in two of them. `path` is the block's own.
+-- The match of `validate_block` on one block, up to the walk of the blocks or items that it holds: the entries of each
+-- kind in validate.rs's order, without the messages that document 01 drops. The arms stand in three definitions: a
+-- kind that `validateOwn` does not answer goes to `validateContainer`, and from there to `validateLeaf`.
+-- `path` is the block's own.
 use Prim.Native.Nat.{ℕ}
 use mathlib.Core.List.{List, []}
 use lib.Dec.{eqb}
 use Rattle.leaves.specs.Text.Lists.{if_then_else_}
-use Rattle.leaves.specs.Sheet.Kinds.{paragraph, heading, alert, list, codeBlock, htmlContainer, definition, footnoteDefinition, table, frontmatter, leafDirective, containerDirective}
+use Rattle.leaves.specs.Sheet.Kinds.{paragraph, heading, alert, list, codeBlock, htmlContainer, definition}
+use Rattle.leaves.specs.Sheet.Kinds.{footnoteDefinition, table, frontmatter, leafDirective, containerDirective}
 use Rattle.leaves.specs.Sheet.Forest.{Forest}
 use Rattle.leaves.specs.Report.Entries.{Entry, _⊕_}
 use Rattle.leaves.specs.declared.sheet.records.Rec.{Rec}
@@ -18,7 +22,9 @@ use Rattle.blocks.specs.Paragraph.{validateParagraph}
 use Rattle.blocks.specs.Label.{validateLeafDirective, validateContainerDirective}
 use Rattle.blocks.specs.Table.{validateTable}
 
--- Blocks that hold neither blocks nor parts of their own. Thematic breaks, HTML blocks, math blocks and blank lines have no message that is kept.
+-- Paragraphs, headings, code blocks, definitions, frontmatter and leaf directives. The kinds that are left list
+-- nothing: quotes have no message of their own, and thematic breaks, HTML blocks, math blocks and blank lines none
+-- that is kept.
 unfoldable pub validateLeaf : List ℕ → List ℕ → Rec → Forest → List Entry
 validateLeaf bytes path r kids =
     if eqb (r .kind) paragraph
@@ -37,9 +43,11 @@ validateLeaf bytes path r kids =
 
 -- `validate_html_container`: its tags, and its inlines where it holds inlines (A is not 0)
 unfoldable pub validateHtml : List ℕ → List ℕ → Span → ℕ → Forest → List Entry
-validateHtml bytes path span a kids = validateHtmlContainer bytes path span kids ⊕ (if eqb a 0 then [] else validateInlines bytes path kids)
+validateHtml bytes path span a kids =
+    validateHtmlContainer bytes path span kids
+    ⊕ (if eqb a 0 then [] else validateInlines bytes path kids)
 
--- Blocks that hold blocks or items; a quote has no message of its own.
+-- Alerts, lists, HTML containers and container directives, which hold blocks or items. `validateLeaf` takes the rest.
 unfoldable pub validateContainer : List ℕ → List ℕ → Rec → Forest → List Entry
 validateContainer bytes path r kids =
     if eqb (r .kind) alert
@@ -52,7 +60,7 @@ validateContainer bytes path r kids =
     then validateContainerDirective bytes path (r .span) (r .first) kids
     else validateLeaf bytes path r kids
 
--- Blocks that report at the paths of what they hold, and the others.
+-- Footnote definitions and tables, which report at the paths of what they hold. `validateContainer` takes the rest.
 unfoldable pub validateOwn : List ℕ → List ℕ → Rec → Forest → List Entry
 validateOwn bytes path r kids =
     if eqb (r .kind) footnoteDefinition

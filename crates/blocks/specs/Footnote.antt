@@ -1,5 +1,6 @@
--- A footnote definition, up to what its blocks report. `path` is its own.
--- All that stands under it is a block (document 01: "blocks under the sheet, quote, alert, item and footnote definition").
+-- A footnote definition, up to the walk of its blocks. `path` is its own.
+-- All that stands under it is a block. Document 01: "blocks under the sheet, quote, alert, item and footnote
+-- definition".
 use Prim.Native.Nat.{ℕ, suc}
 use mathlib.Core.Bool.{true, _&&_, _||_}
 use mathlib.Core.List.{List, [], _∷_, _++_}
@@ -13,13 +14,17 @@ use Rattle.leaves.specs.declared.sheet.records.Text.{Text}
 use Rattle.leaves.specs.Report.Rules
 use Rattle.leaves.specs.Sheet.Empty.{isEmpty}
 
--- 4 at a blank line that is the first block, else at one that is the last; k is how many stand before
+-- 4 at a blank line that is the first block, or else at one that is the last. k blocks stand before these trees.
 unfoldable pub blankLineAt : List ℕ → ℕ → Forest → List Entry
 blankLineAt path k none = []
 blankLineAt path k (tree r kids rest) =
     let later = blankLineAt path (suc k) rest in
-    if eqb (r .kind) blankLine && (eqb k 0 || eqb (count rest) 0) then listIf true Rules.blankLineInFootnote (r .span) (path ++ k ∷ []) else later
+    if eqb (r .kind) blankLine && (eqb k 0 || eqb (count rest) 0)
+    then listIf true Rules.blankLineInFootnote (r .span) (path ++ k ∷ [])
+    else later
 
 -- 3, then 4. Document 01: "rule 4 reports once though both ends are blank".
 unfoldable pub validateFootnoteDefinition : List ℕ → Span → Text → Forest → List Entry
-validateFootnoteDefinition path span identifier kids = listIf (isEmpty identifier) Rules.emptyFootnoteDefinition span path ⊕ blankLineAt path 0 kids
+validateFootnoteDefinition path span identifier kids =
+    listIf (isEmpty identifier) Rules.emptyFootnoteDefinition span path
+    ⊕ blankLineAt path 0 kids

@@ -1,4 +1,4 @@
--- What validate.rs asks of frontmatter: a definition of the same name, which gives the list of its entries in its order. `path` is the block's own.
+-- The entries that validate.rs reports for frontmatter, in its order. `path` is the block's own.
 use Prim.Native.Nat.{ℕ}
 use mathlib.Core.List.{List}
 use lib.Dec.{eqb, ltb}
@@ -16,7 +16,9 @@ use Rattle.leaves.specs.Report.Rules
 unfoldable pub frontmatterKind : ℕ → FrontmatterKind
 frontmatterKind a = if eqb a 1 then Toml else Yaml
 
--- `validate_frontmatter`: 28, 29. validate.rs asks for a depth above 0, the containers around it; on an accepted sheet that is a level above 1 (`depth-counted` in `proofs/WalkDepthLaws.antt`).
+-- `validate_frontmatter`: 28, 29. For 28 validate.rs tests that the depth, the number of containers around the block,
+-- is above 0. On an accepted sheet that is a level above 1 (`depth-counted` in `proofs/WalkDepthLaws.antt`).
 unfoldable pub validateFrontmatter : List ℕ → List ℕ → Span → ℕ → ℕ → Text → List Entry
 validateFrontmatter bytes path span level a value =
-    listIf (ltb 1 level) Rules.frontmatterInside span path ⊕ listIf (holdsFenceLine (frontmatterKind a) (textOf bytes value)) Rules.fenceInFrontmatter span path
+    listIf (ltb 1 level) Rules.frontmatterInside span path
+    ⊕ listIf (holdsFenceLine (frontmatterKind a) (textOf bytes value)) Rules.fenceInFrontmatter span path

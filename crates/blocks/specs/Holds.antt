@@ -7,4 +7,8 @@ use Rattle.leaves.specs.Sheet.Kinds.{blockQuote, alert, htmlContainer, footnote
 -- Quotes, alerts, footnote definitions, container directives, and HTML containers of blocks (A is 0)
 unfoldable pub holdsBlocks : ℕ → ℕ → Bool
 holdsBlocks kind a =
-    eqb kind blockQuote || eqb kind alert || eqb kind footnoteDefinition || eqb kind containerDirective || eqb kind htmlContainer && eqb a 0
+    eqb kind blockQuote
+    || eqb kind alert
+    || eqb kind footnoteDefinition
+    || eqb kind containerDirective
+    || eqb kind htmlContainer && eqb a 0

@@ -1,4 +1,4 @@
--- `validate_html_container`, up to its content. `path` is the container's own.
+-- `validate_html_container`, up to the walk of its content. `path` is the container's own.
 use Prim.Native.Nat.{ℕ}
 use mathlib.Core.Bool.{not}
 use mathlib.Core.List.{List, []}
@@ -11,16 +11,18 @@ use Rattle.leaves.specs.declared.sheet.records.Span.{Span}
 use Rattle.leaves.specs.Report.Rules
 use Rattle.leaves.specs.Sheet.Empty.{isEmpty}
 
--- 5 to 9 of a container with the span `span`, from its two tags; 5, 6, 8 and 9 copy the tag's span
+-- 5 to 9 of a container with two tags. 5, 6, 8 and 9 have the span of their tag, and 7 has `span`, the container's.
 unfoldable pub validateTags : List ℕ → List ℕ → Span → Rec → Rec → List Entry
 validateTags bytes path span opening closing =
+    let same = sameBytes (textOf bytes (opening .first)) (textOf bytes (closing .first)) in
     listIf (isEmpty (opening .first)) Rules.emptyOpeningName (opening .span) path
     ⊕ listIf (isEmpty (closing .first)) Rules.emptyClosingName (closing .span) path
-    ⊕ listIf (not (sameBytes (textOf bytes (opening .first)) (textOf bytes (closing .first)))) Rules.tagNamesDiffer span path
+    ⊕ listIf (not same) Rules.tagNamesDiffer span path
     ⊕ listIf (isEmpty (opening .second)) Rules.emptyOpeningSource (opening .span) path
     ⊕ listIf (isEmpty (closing .second)) Rules.emptyClosingSource (closing .span) path
 
--- Its tags are its first two children. Document 01: "HTML container: opening tag, closing tag, content of its sort." One with fewer is refused (10).
+-- The tags are the first two children. Document 01: "HTML container: opening tag, closing tag, content of its sort."
+-- A sheet whose container has fewer tags is refused (10).
 unfoldable pub validateHtmlContainer : List ℕ → List ℕ → Span → Forest → List Entry
 validateHtmlContainer bytes path span none = []
 validateHtmlContainer bytes path span (tree opening _ none) = []

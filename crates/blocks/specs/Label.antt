@@ -1,4 +1,4 @@
--- Leaf and container directives, up to their blocks. `path` is the directive's own.
+-- Leaf and container directives, up to the walk of their blocks. `path` is the directive's own.
 use Prim.Native.Nat.{ℕ}
 use mathlib.Core.List.{List}
 use Rattle.leaves.specs.Text.Lists.{if_then_else_}
@@ -13,12 +13,16 @@ use Rattle.inlines.specs.Attribute.{validateDirectiveAttributes}
 use Rattle.inlines.specs.Depth.{validateOneLine}
 use Rattle.inlines.specs.Nodes.{validateInlines}
 
--- The children of a directive before its blocks: its attributes and its label. Document 01: "Directives: attributes, then inlines, then (container only) blocks."
+-- The children of a directive before its blocks: its attributes and the inlines of its label. Document 01:
+-- "Directives: attributes, then inlines, then (container only) blocks."
 unfoldable pub beforeBlocks : Forest → Forest
 beforeBlocks none = none
-beforeBlocks (tree r kids rest) = let later = tree r kids (beforeBlocks rest) in if isBlock (r .kind) then none else later
+beforeBlocks (tree r kids rest) =
+    let later = tree r kids (beforeBlocks rest) in
+    if isBlock (r .kind) then none else later
 
--- A directive up to its blocks: 54, 55, the label's inlines, and the rule for each break in the label. Each passes over what it does not ask of: 55 over inlines, the others over attributes.
+-- A directive up to the walk of its blocks: 54, 55, the label's inlines, and `rule` for each break in the label. 55
+-- passes over the inlines, and the last two pass over the attributes.
 unfoldable pub validateDirective : List ℕ → List ℕ → ℕ → Span → Text → Forest → List Entry
 validateDirective bytes path rule span name kids =
     validateDirectiveName bytes path span name
@@ -30,6 +34,7 @@ validateDirective bytes path rule span name kids =
 abbrev pub validateLeafDirective : List ℕ → List ℕ → Span → Text → Forest → List Entry
 validateLeafDirective bytes path span name kids = validateDirective bytes path Rules.breakInLeafLabel span name kids
 
--- `validate_container_directive`, up to its blocks: 23 for breaks
+-- `validate_container_directive`, up to the walk of its blocks: 23 for breaks
 abbrev pub validateContainerDirective : List ℕ → List ℕ → Span → Text → Forest → List Entry
-validateContainerDirective bytes path span name kids = validateDirective bytes path Rules.breakInContainerLabel span name kids
+validateContainerDirective bytes path span name kids =
+    validateDirective bytes path Rules.breakInContainerLabel span name kids

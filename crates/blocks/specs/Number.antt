@@ -1,4 +1,4 @@
--- What an item reports by its number: `validate_item_number` of validate.rs. `path` is the item's own.
+-- What an item reports because of its number: `validate_item_number` of validate.rs. `path` is the item's own.
 use Prim.Native.Nat.{ℕ}
 use mathlib.Core.Bool.{not, _&&_}
 use mathlib.Core.List.{List, []}
@@ -14,8 +14,10 @@ use Rattle.blocks.specs.declared.number.Number.the-variants.{Absent, Pre
 unfoldable pub itemNumber : ℕ → ℕ → Number
 itemNumber b c = if eqb b 1 then Present c else Absent
 
--- `validate_item_number`: 49, or 50. Document 01: "absent, rules 49 and 50 pass". A list is ordered where its A is 1.
+-- `validate_item_number`: 49, or 50. Document 01: "absent, rules 49 and 50 pass". `ordered` is the list's A: 1 for an
+-- ordered list.
 unfoldable pub validateItemNumber : List ℕ → Span → ℕ → Number → List Entry
 validateItemNumber path span ordered Absent = []
 validateItemNumber path span ordered (Present number) =
-    listIf (not (eqb ordered 1)) Rules.bulletNumber span path ⊕ listIf (eqb ordered 1 && ltb 999999999 number) Rules.longNumber span path
+    listIf (not (eqb ordered 1)) Rules.bulletNumber span path
+    ⊕ listIf (eqb ordered 1 && ltb 999999999 number) Rules.longNumber span path

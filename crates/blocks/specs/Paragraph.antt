@@ -9,4 +9,6 @@ use Rattle.inlines.specs.Nodes.{allEmpty, validateInlines}
 
 -- the arm of `validate_block` for a paragraph: 2, then its inlines
 unfoldable pub validateParagraph : List ℕ → List ℕ → Span → Forest → List Entry
-validateParagraph bytes path span kids = listIf (allEmpty kids) Rules.emptyParagraph span path ⊕ validateInlines bytes path kids
+validateParagraph bytes path span kids =
+    listIf (allEmpty kids) Rules.emptyParagraph span path
+    ⊕ validateInlines bytes path kids

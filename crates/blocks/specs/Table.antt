@@ -13,14 +13,19 @@ use Rattle.inlines.specs.Nodes.{validateInlines}
 
 -- one cell: its inlines, then 21, then 20
 unfoldable pub validateCell : List ℕ → List ℕ → Forest → List Entry
-validateCell bytes path kids = validateInlines bytes path kids ⊕ validateCellValues bytes path kids ⊕ validateOneLine Rules.breakInCell path kids
+validateCell bytes path kids =
+    validateInlines bytes path kids
+    ⊕ validateCellValues bytes path kids
+    ⊕ validateOneLine Rules.breakInCell path kids
 
 -- the cells of a row, the first of them the k-th
 unfoldable pub validateCells : List ℕ → List ℕ → ℕ → Forest → List Entry
 validateCells bytes path k none = []
-validateCells bytes path k (tree r kids rest) = validateCell bytes (path ++ k ∷ []) kids ⊕ validateCells bytes path (suc k) rest
+validateCells bytes path k (tree r kids rest) =
+    validateCell bytes (path ++ k ∷ []) kids
+    ⊕ validateCells bytes path (suc k) rest
 
--- the rows of a table whose header has `width` cells, the first of them the k-th: 19, then its cells
+-- the rows of a table whose header has `width` cells, the first of them the k-th: for each 19, then its cells
 unfoldable pub validateRows : List ℕ → List ℕ → ℕ → ℕ → Forest → List Entry
 validateRows bytes path width k none = []
 validateRows bytes path width k (tree r kids rest) =
@@ -33,7 +38,7 @@ unfoldable pub headerWidth : Forest → ℕ
 headerWidth none = 0
 headerWidth (tree r kids rest) = count kids
 
--- 16 alone; or 17, 18 and the rows. A is the table's alignment count.
+-- 16 alone; or 17, 18 and the rows. `a` is the table's A, its alignment count.
 unfoldable pub validateTable : List ℕ → List ℕ → Span → ℕ → Forest → List Entry
 validateTable bytes path span a rows =
     if eqb (count rows) 0

@@ -1,4 +1,4 @@
-// What one block reports, up to the blocks or items that it holds.
+// What one block reports, up to the walk of the blocks or items that it holds.
 ghost use mathlib.Core.Path.{_≡_};
 ghost use lib.ListN.{take};
 ghost use Rattle.leaves.specs.Sheet.Forest.{under};
@@ -34,14 +34,17 @@ fn validate_heading(
     tally: Tally,
 ) -> Tally
     requires { ⌜ Start (now sheet) (now path) n from × Left left (r .level) ⌝ }
-    ensures { λ q. ⌜ Lists tally q (now (report .entry)) (now (report .exit)) (validateHeading (now (path .entry)) (r .span) (r .a) ⊕ validateInlines (now (bytes .entry)) (now (path .entry)) (under (now (sheet .entry)) n from (r .level))) ⌝ }
+    ensures { λ q. ⌜ Lists tally q (now (report .entry)) (now (report .exit))
+        (validateHeading (now (path .entry)) (r .span) (r .a)
+        ⊕ validateInlines (now (bytes .entry)) (now (path .entry))
+        (under (now (sheet .entry)) n from (r .level))) ⌝ }
 {
     let out = heads::validate_heading(report, path, r.span, r.a, tally);
     let w = validate_inlines(sheet, bytes, report, path, n, from, r.level, left, out);
     w.tally
 }
 
-// Blocks that hold neither blocks nor parts of their own.
+// Paragraphs, headings, code blocks, definitions, frontmatter and leaf directives. Every other kind lists nothing here.
 fn validate_leaf(
     sheet: &[u32],
     bytes: &[u8],
@@ -54,7 +57,8 @@ fn validate_leaf(
     tally: Tally,
 ) -> Tally
     requires { ⌜ Start (now sheet) (now path) n from × Left left (r .level) ⌝ }
-    ensures { λ q. ⌜ Lists tally q (now (report .entry)) (now (report .exit)) (validateLeaf (now (bytes .entry)) (now (path .entry)) r (under (now (sheet .entry)) n from (r .level))) ⌝ }
+    ensures { λ q. ⌜ Lists tally q (now (report .entry)) (now (report .exit))
+        (validateLeaf (now (bytes .entry)) (now (path .entry)) r (under (now (sheet .entry)) n from (r .level))) ⌝ }
 {
     let span = r.span;
     let a = r.a;
@@ -120,7 +124,9 @@ fn validate_html(
     tally: Tally,
 ) -> Tally
     requires { ⌜ Start (now sheet) (now path) n from × Left left (r .level) ⌝ }
-    ensures { λ q. ⌜ Lists tally q (now (report .entry)) (now (report .exit)) (validateHtml (now (bytes .entry)) (now (path .entry)) (r .span) (r .a) (under (now (sheet .entry)) n from (r .level))) ⌝ }
+    ensures { λ q. ⌜ Lists tally q (now (report .entry)) (now (report .exit))
+        (validateHtml (now (bytes .entry)) (now (path .entry)) (r .span) (r .a)
+        (under (now (sheet .entry)) n from (r .level))) ⌝ }
 {
     let out = validate_html_container(sheet, bytes, report, path, n, from, r.level, r.span, tally);
     if r.a == 0 {
@@ -130,7 +136,7 @@ fn validate_html(
     w.tally
 }
 
-// Blocks that hold blocks or items, and those that hold neither.
+// Alerts, lists, HTML containers and container directives. `validate_leaf` takes the rest.
 fn validate_container(
     sheet: &[u32],
     bytes: &[u8],
@@ -143,7 +149,9 @@ fn validate_container(
     tally: Tally,
 ) -> Tally
     requires { ⌜ Start (now sheet) (now path) n from × Left left (r .level) ⌝ }
-    ensures { λ q. ⌜ Lists tally q (now (report .entry)) (now (report .exit)) (validateContainer (now (bytes .entry)) (now (path .entry)) r (under (now (sheet .entry)) n from (r .level))) ⌝ }
+    ensures { λ q. ⌜ Lists tally q (now (report .entry)) (now (report .exit))
+        (validateContainer (now (bytes .entry)) (now (path .entry)) r
+        (under (now (sheet .entry)) n from (r .level))) ⌝ }
 {
     let span = r.span;
     let first = r.first;
@@ -173,7 +181,7 @@ fn validate_container(
     }
 }
 
-// Blocks that report at the paths of what they hold, and the others.
+// Footnote definitions and tables, which report at the paths of what they hold. `validate_container` takes the rest.
 pub(crate) fn validate_own(
     sheet: &[u32],
     bytes: &[u8],
@@ -187,7 +195,10 @@ pub(crate) fn validate_own(
     tally: Tally,
 ) -> Tally
     requires { ⌜ Begin (now sheet) (now path) n from len (r .level) × Left left (r .level) ⌝ }
-    ensures { λ q. ⌜ Lists tally q (now (report .entry)) (now (report .exit)) (validateOwn (now (bytes .entry)) (take len (now (path .entry))) r (under (now (sheet .entry)) n from (r .level))) × (take len (now (path .exit)) ≡ take len (now (path .entry))) ⌝ }
+    ensures { λ q. ⌜ Lists tally q (now (report .entry)) (now (report .exit))
+        (validateOwn (now (bytes .entry)) (take len (now (path .entry))) r
+        (under (now (sheet .entry)) n from (r .level)))
+        × (take len (now (path .exit)) ≡ take len (now (path .entry))) ⌝ }
 {
     let level = r.level;
     let span = r.span;

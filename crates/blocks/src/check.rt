@@ -12,7 +12,7 @@ use leaves::refusal::verdict::Judged;
 use leaves::report::entries::Tally;
 use leaves::sheet::records::RECORD_WORDS;
 
-// The walk into no report at all: how much the list needs.
+// How many words and entries the list has: a walk with an empty report.
 fn measure(sheet: &[u32], text: &[u8], n: usize) -> Tally
     requires { ⌜ Sound (now sheet) (now text) × (n ≡ recordsOf (now sheet)) ⌝ }
     ensures { λ r. ⌜ r ≡ after start (validateDocument (now (sheet .entry)) (now (text .entry))) ⌝ }
@@ -21,8 +21,8 @@ fn measure(sheet: &[u32], text: &[u8], n: usize) -> Tally
     validate_document(sheet, text, &mut none, n)
 }
 
-// Refuses a malformed sheet by number and leaves every lent word; or writes the whole list into the report's
-// front. It measures before it says that the report is short, and a list of no entries is not written again.
+// Refuses a malformed sheet by number and changes no lent word; or writes the whole list into the report's front.
+// It measures the list before it says that the report is short, and does not walk again to write a list of no entries.
 pub fn check(sheet: &[u32], text: &[u8], report: &mut [u32]) -> Checked
     ensures { λ r. ⌜ (checkedAnswer r, now (report .exit)) ≡
         outcome (now (sheet .entry)) (now (text .entry)) (now (report .entry)) ⌝ }

@@ -1,4 +1,4 @@
-// A footnote definition, up to what its blocks report.
+// A footnote definition, up to the walk of its blocks.
 ghost use mathlib.Core.Path.{_≡_};
 ghost use lib.ListN.{take};
 ghost use Rattle.leaves.specs.Sheet.Forest.{under};
@@ -16,7 +16,7 @@ use leaves::sheet::records::Span;
 use leaves::sheet::records::Text;
 use leaves::sheet::records::record_at;
 
-// Rule 4: a blank line stands at neither end; one is reported.
+// Rule 4: neither the first nor the last block is a blank line. It reports one at most.
 fn blank_line_at(
     sheet: &[u32],
     report: &mut [u32],
@@ -28,7 +28,9 @@ fn blank_line_at(
     tally: Tally,
 ) -> Tally
     requires { ⌜ Begin (now sheet) (now path) n from len level ⌝ }
-    ensures { λ r. ⌜ Lists tally r (now (report .entry)) (now (report .exit)) (blankLineAt (take len (now (path .entry))) 0 (under (now (sheet .entry)) n from level)) × (take len (now (path .exit)) ≡ take len (now (path .entry))) ⌝ }
+    ensures { λ r. ⌜ Lists tally r (now (report .entry)) (now (report .exit))
+        (blankLineAt (take len (now (path .entry))) 0 (under (now (sheet .entry)) n from level))
+        × (take len (now (path .exit)) ≡ take len (now (path .entry))) ⌝ }
 {
     let mut k: u32 = 0;
     let mut i = from;
@@ -64,7 +66,10 @@ pub(crate) fn validate_footnote_definition(
     tally: Tally,
 ) -> Tally
     requires { ⌜ Begin (now sheet) (now path) n from len level ⌝ }
-    ensures { λ r. ⌜ Lists tally r (now (report .entry)) (now (report .exit)) (validateFootnoteDefinition (take len (now (path .entry))) span identifier (under (now (sheet .entry)) n from level)) × (take len (now (path .exit)) ≡ take len (now (path .entry))) ⌝ }
+    ensures { λ r. ⌜ Lists tally r (now (report .entry)) (now (report .exit))
+        (validateFootnoteDefinition (take len (now (path .entry))) span identifier
+        (under (now (sheet .entry)) n from level))
+        × (take len (now (path .exit)) ≡ take len (now (path .entry))) ⌝ }
 {
     let rule = rules::EMPTY_FOOTNOTE_DEFINITION;
     let out = list_if(

@@ -2,6 +2,7 @@
 ghost use mathlib.Core.Path.{_≡_};
 ghost use Prim.Native.Nat.{_≤_};
 ghost use lib.ListN.{length};
+ghost use Rattle.leaves.specs.Refusal.Limits.{mostLevel};
 ghost use Rattle.leaves.specs.Report.Entries.{Lists};
 ghost use Rattle.blocks.specs.Frontmatter.{frontmatterKind, validateFrontmatter};
 use leaves::report::entries::Tally;
@@ -33,8 +34,9 @@ pub(crate) fn validate_frontmatter(
     value: Text,
     tally: Tally,
 ) -> Tally
-    requires { ⌜ length (now path) ≤ 64 ⌝ }
-    ensures { λ r. ⌜ Lists tally r (now (report .entry)) (now (report .exit)) (validateFrontmatter (now (bytes .entry)) (now (path .entry)) span level a value) ⌝ }
+    requires { ⌜ length (now path) ≤ mostLevel ⌝ }
+    ensures { λ r. ⌜ Lists tally r (now (report .entry)) (now (report .exit))
+        (validateFrontmatter (now (bytes .entry)) (now (path .entry)) span level a value) ⌝ }
 {
     let inside = 1 < level;
     let out = list_if(inside, report, rules::FRONTMATTER_INSIDE, span, path, tally);

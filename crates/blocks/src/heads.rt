@@ -1,6 +1,7 @@
 // What a block reports by its own record.
 ghost use Prim.Native.Nat.{_≤_};
 ghost use lib.ListN.{length};
+ghost use Rattle.leaves.specs.Refusal.Limits.{mostLevel};
 ghost use Rattle.leaves.specs.Report.Entries.{Lists};
 ghost use Rattle.blocks.specs.Heads.{validateAlert, validateCodeBlock, validateDefinition, validateHeading};
 use inlines::single;
@@ -23,8 +24,9 @@ pub(crate) fn validate_heading(
     depth: u32,
     tally: Tally,
 ) -> Tally
-    requires { ⌜ length (now path) ≤ 64 ⌝ }
-    ensures { λ r. ⌜ Lists tally r (now (report .entry)) (now (report .exit)) (validateHeading (now (path .entry)) span depth) ⌝ }
+    requires { ⌜ length (now path) ≤ mostLevel ⌝ }
+    ensures { λ r. ⌜ Lists tally r (now (report .entry)) (now (report .exit))
+        (validateHeading (now (path .entry)) span depth) ⌝ }
 {
     let fault = (depth == 0) | (6 < depth);
     list_if(fault, report, rules::HEADING_DEPTH, span, path, tally)
@@ -40,14 +42,15 @@ pub(crate) fn validate_alert(
     title: Text,
     tally: Tally,
 ) -> Tally
-    requires { ⌜ length (now path) ≤ 64 ⌝ }
-    ensures { λ r. ⌜ Lists tally r (now (report .entry)) (now (report .exit)) (validateAlert (now (bytes .entry)) (now (path .entry)) span a title) ⌝ }
+    requires { ⌜ length (now path) ≤ mostLevel ⌝ }
+    ensures { λ r. ⌜ Lists tally r (now (report .entry)) (now (report .exit))
+        (validateAlert (now (bytes .entry)) (now (path .entry)) span a title) ⌝ }
 {
     let fault = (a == 1) & !is_alert_title(text_of(bytes, title));
     list_if(fault, report, rules::ALERT_TITLE, span, path, tally)
 }
 
-// Rule 26, where there is an info string (`b` is 1), and 27 of indented code (`a` is 1).
+// Rule 26, where there is an info string (`b` is 1), and 27, for indented code (`a` is 1).
 pub(crate) fn validate_code_block(
     bytes: &[u8],
     report: &mut [u32],
@@ -59,8 +62,9 @@ pub(crate) fn validate_code_block(
     info: Text,
     tally: Tally,
 ) -> Tally
-    requires { ⌜ length (now path) ≤ 64 ⌝ }
-    ensures { λ r. ⌜ Lists tally r (now (report .entry)) (now (report .exit)) (validateCodeBlock (now (bytes .entry)) (now (path .entry)) span a b value info) ⌝ }
+    requires { ⌜ length (now path) ≤ mostLevel ⌝ }
+    ensures { λ r. ⌜ Lists tally r (now (report .entry)) (now (report .exit))
+        (validateCodeBlock (now (bytes .entry)) (now (path .entry)) span a b value info) ⌝ }
 {
     let empty = (b == 1) & is_empty(info);
     let out = list_if(empty, report, rules::EMPTY_INFO, span, path, tally);
@@ -79,8 +83,9 @@ pub(crate) fn validate_definition(
     destination: Text,
     tally: Tally,
 ) -> Tally
-    requires { ⌜ length (now path) ≤ 64 ⌝ }
-    ensures { λ r. ⌜ Lists tally r (now (report .entry)) (now (report .exit)) (validateDefinition (now (bytes .entry)) (now (path .entry)) span a identifier destination) ⌝ }
+    requires { ⌜ length (now path) ≤ mostLevel ⌝ }
+    ensures { λ r. ⌜ Lists tally r (now (report .entry)) (now (report .exit))
+        (validateDefinition (now (bytes .entry)) (now (path .entry)) span a identifier destination) ⌝ }
 {
     let blank = is_blank_identifier(text_of(bytes, identifier));
     let out = list_if(blank, report, rules::BLANK_DEFINITION, span, path, tally);

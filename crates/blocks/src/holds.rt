@@ -1,9 +1,8 @@
-// Which blocks hold blocks.
+// Which kinds of block hold blocks.
 ghost use mathlib.Core.Path.{_≡_};
 ghost use Rattle.blocks.specs.Holds.{holdsBlocks};
 use leaves::sheet::kinds;
 
-// The blocks that hold blocks.
 pub(crate) fn holds_blocks(kind: u32, a: u32) -> bool
     ensures { λ r. ⌜ r ≡ holdsBlocks kind a ⌝ }
 {

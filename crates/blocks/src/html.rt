@@ -2,6 +2,7 @@
 ghost use Prim.Native.Nat.{_≤_};
 ghost use lib.ListN.{length};
 ghost use Rattle.leaves.specs.Sheet.Forest.{under};
+ghost use Rattle.leaves.specs.Refusal.Limits.{mostLevel};
 ghost use Rattle.leaves.specs.Report.Entries.{Lists};
 ghost use Rattle.inlines.specs.Walk.{Start};
 ghost use Rattle.blocks.specs.Html.{validateTags, validateHtmlContainer};
@@ -17,7 +18,7 @@ use leaves::sheet::records::record_at;
 use leaves::sheet::texts::text_of;
 use leaves::text::same::same_bytes;
 
-// Rules 5 to 9: names and sources that are not empty, and one name for both tags.
+// Rules 5 to 9: no tag has an empty name or source, and both have the same name.
 fn validate_tags(
     bytes: &[u8],
     report: &mut [u32],
@@ -27,8 +28,9 @@ fn validate_tags(
     closing: Rec,
     tally: Tally,
 ) -> Tally
-    requires { ⌜ length (now path) ≤ 64 ⌝ }
-    ensures { λ r. ⌜ Lists tally r (now (report .entry)) (now (report .exit)) (validateTags (now (bytes .entry)) (now (path .entry)) span opening closing) ⌝ }
+    requires { ⌜ length (now path) ≤ mostLevel ⌝ }
+    ensures { λ r. ⌜ Lists tally r (now (report .entry)) (now (report .exit))
+        (validateTags (now (bytes .entry)) (now (path .entry)) span opening closing) ⌝ }
 {
     let before = opening.first;
     let behind = closing.first;
@@ -58,7 +60,7 @@ fn validate_tags(
     )
 }
 
-// A container's first two children are its tags.
+// The rules of a container's tags, which are its first two children.
 pub(crate) fn validate_html_container(
     sheet: &[u32],
     bytes: &[u8],
@@ -71,7 +73,9 @@ pub(crate) fn validate_html_container(
     tally: Tally,
 ) -> Tally
     requires { ⌜ Start (now sheet) (now path) n from ⌝ }
-    ensures { λ r. ⌜ Lists tally r (now (report .entry)) (now (report .exit)) (validateHtmlContainer (now (bytes .entry)) (now (path .entry)) span (under (now (sheet .entry)) n from level)) ⌝ }
+    ensures { λ r. ⌜ Lists tally r (now (report .entry)) (now (report .exit))
+        (validateHtmlContainer (now (bytes .entry)) (now (path .entry)) span
+        (under (now (sheet .entry)) n from level)) ⌝ }
 {
     if ends(sheet, n, from, level) {
         return tally;

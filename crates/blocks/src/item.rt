@@ -1,10 +1,11 @@
-// What an item reports by its blocks, before these.
+// What an item reports because of the blocks that it holds, before the walk of them.
 ghost use mathlib.Core.Path.{_≡_};
 ghost use Prim.Native.Nat.{_+_, _*_, _≤_};
 ghost use lib.Dec.{eqb};
 ghost use lib.ListN.{length, take};
 ghost use Rattle.leaves.specs.Sheet.Records.{recordWords};
 ghost use Rattle.leaves.specs.Sheet.Forest.{under, size, count};
+ghost use Rattle.leaves.specs.Refusal.Limits.{mostLevel};
 ghost use Rattle.leaves.specs.Report.Entries.{Lists};
 ghost use Rattle.inlines.specs.Walk.{Start, Begin};
 ghost use Rattle.blocks.specs.Item.{
@@ -22,7 +23,7 @@ use leaves::sheet::kinds;
 use leaves::sheet::records::Span;
 use leaves::sheet::records::record_at;
 
-// Rules 51, 52 and 53 of one block.
+// Rules 51, 52 and 53 of one block. `last`: it is the last block of the list's last item.
 fn validate_blank_line(
     report: &mut [u32],
     path: &[u32],
@@ -33,8 +34,9 @@ fn validate_blank_line(
     last: bool,
     tally: Tally,
 ) -> Tally
-    requires { ⌜ length (now path) ≤ 64 ⌝ }
-    ensures { λ r. ⌜ Lists tally r (now (report .entry)) (now (report .exit)) (validateBlankLine (now (path .entry)) span blank tight first last) ⌝ }
+    requires { ⌜ length (now path) ≤ mostLevel ⌝ }
+    ensures { λ r. ⌜ Lists tally r (now (report .entry)) (now (report .exit))
+        (validateBlankLine (now (path .entry)) span blank tight first last) ⌝ }
 {
     let rule = rules::BLANK_LINE_IN_TIGHT_LIST;
     let out = list_if(blank & tight, report, rule, span, path, tally);
@@ -44,7 +46,8 @@ fn validate_blank_line(
     list_if(closes, report, rules::BLANK_LINE_LAST, span, path, out)
 }
 
-// The blank lines of an item of the level `level`, in a list of the level `outer`. A block that nothing deeper than `outer` stands behind is the last block of the last item.
+// The blank lines of an item of the level `level`, in a list of the level `outer`. A block is the last one of the
+// list's last item where the record behind it, if there is one, is not deeper than `outer`.
 pub(crate) fn validate_item_blank_lines(
     sheet: &[u32],
     report: &mut [u32],
@@ -58,7 +61,11 @@ pub(crate) fn validate_item_blank_lines(
     tally: Tally,
 ) -> Tally
     requires { ⌜ Begin (now sheet) (now path) n from len level × (outer ≤ level) ⌝ }
-    ensures { λ r. ⌜ Lists tally r (now (report .entry)) (now (report .exit)) (validateItemBlankLines (take len (now (path .entry))) tight (eqb (count (under (now (sheet .entry)) n (from + size (under (now (sheet .entry)) n from level)) outer)) 0) 0 (under (now (sheet .entry)) n from level)) × (take len (now (path .exit)) ≡ take len (now (path .entry))) ⌝ }
+    ensures { λ r. ⌜ Lists tally r (now (report .entry)) (now (report .exit))
+        (validateItemBlankLines (take len (now (path .entry))) tight
+        (eqb (count (under (now (sheet .entry)) n (from + size (under (now (sheet .entry)) n from level)) outer)) 0) 0
+        (under (now (sheet .entry)) n from level))
+        × (take len (now (path .exit)) ≡ take len (now (path .entry))) ⌝ }
 {
     let mut out = tally;
     let mut k: u32 = 0;
@@ -88,7 +95,7 @@ pub(crate) fn validate_item_blank_lines(
     out
 }
 
-// The first block that is no definition is a paragraph with a child.
+// Whether the first block that is not a definition is a paragraph with a child.
 fn opens_with_paragraph(sheet: &[u32], n: usize, from: usize, level: u32) -> bool
     requires { ⌜ (n * recordWords ≤ length (now sheet)) × (from ≤ n) ⌝ }
     ensures { λ r. ⌜ r ≡ opensWithParagraph (under (now (sheet .entry)) n from level) ⌝ }
@@ -120,7 +127,8 @@ pub(crate) fn validate_task_item(
     tally: Tally,
 ) -> Tally
     requires { ⌜ Start (now sheet) (now path) n from ⌝ }
-    ensures { λ r. ⌜ Lists tally r (now (report .entry)) (now (report .exit)) (validateTaskItem (now (path .entry)) span checked (under (now (sheet .entry)) n from level)) ⌝ }
+    ensures { λ r. ⌜ Lists tally r (now (report .entry)) (now (report .exit))
+        (validateTaskItem (now (path .entry)) span checked (under (now (sheet .entry)) n from level)) ⌝ }
 {
     if checked == 0 {
         return tally;

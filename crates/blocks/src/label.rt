@@ -1,4 +1,4 @@
-// Directives, up to their blocks.
+// Directives, up to the walk of their blocks.
 ghost use mathlib.Core.Path.{_≡_};
 ghost use Prim.Native.Nat.{_+_, _*_, _≤_};
 ghost use lib.ListN.{length};
@@ -18,7 +18,7 @@ use leaves::sheet::records::Span;
 use leaves::sheet::records::Text;
 use leaves::sheet::records::record_at;
 
-// The record where the blocks of a directive begin, or where it ends.
+// The record where the blocks of a directive begin, or the one behind it where it has none.
 fn label_end(sheet: &[u32], n: usize, from: usize, level: u32) -> usize
     requires { ⌜ (n * recordWords ≤ length (now sheet)) × (from ≤ n) ⌝ }
     ensures { λ r. ⌜ r ≡ from + size (beforeBlocks (under (now (sheet .entry)) n from level)) ⌝ }
@@ -38,7 +38,8 @@ fn label_end(sheet: &[u32], n: usize, from: usize, level: u32) -> usize
     i
 }
 
-// Rule 54, then 55, the label's inlines, and `rule` for each break in it. The records up to the first block are a sheet of their own, so no walk goes through the blocks.
+// Rule 54, then 55, the label's inlines, and `rule` for each break in the label. Each walk is told that the sheet ends
+// at the first block, so that none of them goes through the blocks.
 pub(crate) fn validate_directive(
     sheet: &[u32],
     bytes: &[u8],
@@ -54,7 +55,9 @@ pub(crate) fn validate_directive(
     tally: Tally,
 ) -> Tally
     requires { ⌜ Start (now sheet) (now path) n from × Left left level ⌝ }
-    ensures { λ r. ⌜ Lists tally r (now (report .entry)) (now (report .exit)) (validateDirective (now (bytes .entry)) (now (path .entry)) rule span name (under (now (sheet .entry)) n from level)) ⌝ }
+    ensures { λ r. ⌜ Lists tally r (now (report .entry)) (now (report .exit))
+        (validateDirective (now (bytes .entry)) (now (path .entry)) rule span name
+        (under (now (sheet .entry)) n from level)) ⌝ }
 {
     let out = validate_directive_name(bytes, report, path, span, name, tally);
     let end = label_end(sheet, n, from, level);

@@ -1,4 +1,5 @@
-// The block walk, up to the whole list, and the check. Each module's definitions are in the file of specs/ that bears its name.
+// The block walk, up to the whole list, and the check. The definitions of each module are in the file of specs/ with
+// its name.
 pub mod answer;
 pub mod before;
 mod block;

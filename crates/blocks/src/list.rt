@@ -1,4 +1,4 @@
-// A list, up to its items.
+// A list, up to the walk of its items.
 ghost use mathlib.Core.Path.{_≡_};
 ghost use Prim.Native.Nat.{_+_, _*_, _≤_};
 ghost use lib.Dec.{eqb};
@@ -7,6 +7,7 @@ ghost use Rattle.leaves.specs.Text.Lists.{if_then_else_};
 ghost use Rattle.leaves.specs.Sheet.Kinds.{blankLine};
 ghost use Rattle.leaves.specs.Sheet.Records.{recordWords};
 ghost use Rattle.leaves.specs.Sheet.Forest.{under};
+ghost use Rattle.leaves.specs.Refusal.Limits.{mostRecords};
 ghost use Rattle.leaves.specs.Report.Entries.{Lists};
 ghost use Rattle.inlines.specs.Walk.{Start};
 ghost use Rattle.blocks.specs.List.{countFull, holdsOneBlock, validateList};
@@ -20,9 +21,9 @@ use leaves::sheet::records::Span;
 use leaves::sheet::records::level_at;
 use leaves::sheet::records::record_at;
 
-// With one block more, which counts where it is no blank line.
+// `full` with one block more, which counts where it is not a blank line.
 fn with_block(full: usize, kind: u32) -> usize
-    requires { ⌜ full ≤ 65535 ⌝ }
+    requires { ⌜ full ≤ mostRecords ⌝ }
     ensures { λ r. ⌜ r ≡ (if eqb kind blankLine then full else full + 1) ⌝ }
 {
     if kind == kinds::BLANK_LINE {
@@ -31,9 +32,9 @@ fn with_block(full: usize, kind: u32) -> usize
     full + 1
 }
 
-// How many blocks that are no blank lines.
+// How many blocks are not blank lines.
 fn count_full(sheet: &[u32], n: usize, from: usize, level: u32) -> usize
-    requires { ⌜ (n * recordWords ≤ length (now sheet)) × (n ≤ 65535) × (from ≤ n) ⌝ }
+    requires { ⌜ (n * recordWords ≤ length (now sheet)) × (n ≤ mostRecords) × (from ≤ n) ⌝ }
     ensures { λ r. ⌜ r ≡ countFull (under (now (sheet .entry)) n from level) ⌝ }
 {
     let mut full: usize = 0;
@@ -49,9 +50,9 @@ fn count_full(sheet: &[u32], n: usize, from: usize, level: u32) -> usize
     full
 }
 
-// One item, of at most one block beside blank lines.
+// Whether there is one item alone, and it holds at most one block beside blank lines.
 fn holds_one_block(sheet: &[u32], n: usize, from: usize, level: u32) -> bool
-    requires { ⌜ (n * recordWords ≤ length (now sheet)) × (n ≤ 65535) × (from ≤ n) ⌝ }
+    requires { ⌜ (n * recordWords ≤ length (now sheet)) × (n ≤ mostRecords) × (from ≤ n) ⌝ }
     ensures { λ r. ⌜ r ≡ holdsOneBlock (under (now (sheet .entry)) n from level) ⌝ }
 {
     if ends(sheet, n, from, level) {
@@ -65,7 +66,7 @@ fn holds_one_block(sheet: &[u32], n: usize, from: usize, level: u32) -> bool
     count_full(sheet, n, from + 1, deep) < 2
 }
 
-// Rule 12: a list holds an item. Rule 13: one item of one block is tight.
+// Rule 12: a list holds an item. Rule 13: a list of one item that holds at most one block is tight (`tight` is 1).
 pub(crate) fn validate_list(
     sheet: &[u32],
     report: &mut [u32],
@@ -78,7 +79,8 @@ pub(crate) fn validate_list(
     tally: Tally,
 ) -> Tally
     requires { ⌜ Start (now sheet) (now path) n from ⌝ }
-    ensures { λ r. ⌜ Lists tally r (now (report .entry)) (now (report .exit)) (validateList (now (path .entry)) span tight (under (now (sheet .entry)) n from level)) ⌝ }
+    ensures { λ r. ⌜ Lists tally r (now (report .entry)) (now (report .exit))
+        (validateList (now (path .entry)) span tight (under (now (sheet .entry)) n from level)) ⌝ }
 {
     let empty = ends(sheet, n, from, level);
     let out = list_if(empty, report, rules::EMPTY_LIST, span, path, tally);

@@ -1,7 +1,8 @@
-// What an item reports by its number.
+// What an item reports because of its number.
 ghost use mathlib.Core.Path.{_≡_};
 ghost use Prim.Native.Nat.{_≤_};
 ghost use lib.ListN.{length};
+ghost use Rattle.leaves.specs.Refusal.Limits.{mostLevel};
 ghost use Rattle.leaves.specs.Report.Entries.{Lists};
 ghost use Rattle.blocks.specs.Number.{itemNumber, validateItemNumber};
 use leaves::report::entries::Tally;
@@ -17,7 +18,7 @@ pub(crate) enum Number {
     Present(u32),
 }
 
-// The number of an item whose B and C these are.
+// The number of an item, from its B and C.
 pub(crate) fn item_number(b: u32, c: u32) -> Number
     ensures { λ r. ⌜ r ≡ itemNumber b c ⌝ }
 {
@@ -27,7 +28,7 @@ pub(crate) fn item_number(b: u32, c: u32) -> Number
     Number::Absent
 }
 
-// Rule 49: a bullet has no number. Rule 50: a number has at most nine digits.
+// Rule 49: an item of a bullet list has no number. Rule 50: a number has at most nine digits.
 pub(crate) fn validate_item_number(
     report: &mut [u32],
     path: &[u32],
@@ -36,8 +37,9 @@ pub(crate) fn validate_item_number(
     number: Number,
     tally: Tally,
 ) -> Tally
-    requires { ⌜ length (now path) ≤ 64 ⌝ }
-    ensures { λ r. ⌜ Lists tally r (now (report .entry)) (now (report .exit)) (validateItemNumber (now (path .entry)) span ordered number) ⌝ }
+    requires { ⌜ length (now path) ≤ mostLevel ⌝ }
+    ensures { λ r. ⌜ Lists tally r (now (report .entry)) (now (report .exit))
+        (validateItemNumber (now (path .entry)) span ordered number) ⌝ }
 {
     let Number::Present(value) = number else {
         return tally;

@@ -52,7 +52,9 @@ pub(crate) fn validate_paragraph(
     tally: Tally,
 ) -> Tally
     requires { ⌜ Start (now sheet) (now path) n from × Left left level ⌝ }
-    ensures { λ r. ⌜ Lists tally r (now (report .entry)) (now (report .exit)) (validateParagraph (now (bytes .entry)) (now (path .entry)) span (under (now (sheet .entry)) n from level)) ⌝ }
+    ensures { λ r. ⌜ Lists tally r (now (report .entry)) (now (report .exit))
+        (validateParagraph (now (bytes .entry)) (now (path .entry)) span
+        (under (now (sheet .entry)) n from level)) ⌝ }
 {
     let empty = all_empty(sheet, n, from, level);
     let out = list_if(empty, report, rules::EMPTY_PARAGRAPH, span, path, tally);

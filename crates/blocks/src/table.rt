@@ -30,7 +30,9 @@ fn validate_cell(
     tally: Tally,
 ) -> Walked
     requires { ⌜ Start (now sheet) (now path) n from × Left left level ⌝ }
-    ensures { λ r. ⌜ Done (now (sheet .entry)) n from level (validateCell (now (bytes .entry)) (now (path .entry)) (under (now (sheet .entry)) n from level)) tally (now (report .entry)) r (now (report .exit)) ⌝ }
+    ensures { λ r. ⌜ Done (now (sheet .entry)) n from level
+        (validateCell (now (bytes .entry)) (now (path .entry)) (under (now (sheet .entry)) n from level))
+        tally (now (report .entry)) r (now (report .exit)) ⌝ }
 {
     let w = validate_inlines(sheet, bytes, report, path, n, from, level, left, tally);
     let w = depth::validate_cell_values(sheet, bytes, report, path, n, from, level, w.tally);
@@ -52,7 +54,11 @@ fn validate_cells(
     tally: Tally,
 ) -> Walked
     requires { ⌜ Begin (now sheet) (now path) n from len level × Left left level ⌝ }
-    ensures { λ r. ⌜ Done (now (sheet .entry)) n from level (validateCells (now (bytes .entry)) (take len (now (path .entry))) 0 (under (now (sheet .entry)) n from level)) tally (now (report .entry)) r (now (report .exit)) × (take len (now (path .exit)) ≡ take len (now (path .entry))) ⌝ }
+    ensures { λ r. ⌜ Done (now (sheet .entry)) n from level
+        (validateCells (now (bytes .entry)) (take len (now (path .entry))) 0
+        (under (now (sheet .entry)) n from level))
+        tally (now (report .entry)) r (now (report .exit))
+        × (take len (now (path .exit)) ≡ take len (now (path .entry))) ⌝ }
 {
     let mut out = tally;
     let mut k: u32 = 0;
@@ -87,7 +93,7 @@ fn validate_cells(
     }
 }
 
-// The rows of a table whose header has `width` cells: rule 19 of each, then its cells.
+// The rows of a table whose header has `width` cells: for each rule 19, then its cells.
 fn validate_rows(
     sheet: &[u32],
     bytes: &[u8],
@@ -102,7 +108,11 @@ fn validate_rows(
     tally: Tally,
 ) -> Walked
     requires { ⌜ Begin (now sheet) (now path) n from len level × Left left level ⌝ }
-    ensures { λ r. ⌜ Done (now (sheet .entry)) n from level (validateRows (now (bytes .entry)) (take len (now (path .entry))) width 0 (under (now (sheet .entry)) n from level)) tally (now (report .entry)) r (now (report .exit)) × (take len (now (path .exit)) ≡ take len (now (path .entry))) ⌝ }
+    ensures { λ r. ⌜ Done (now (sheet .entry)) n from level
+        (validateRows (now (bytes .entry)) (take len (now (path .entry))) width 0
+        (under (now (sheet .entry)) n from level))
+        tally (now (report .entry)) r (now (report .exit))
+        × (take len (now (path .exit)) ≡ take len (now (path .entry))) ⌝ }
 {
     let mut out = tally;
     let mut k: u32 = 0;
@@ -157,7 +167,10 @@ pub(crate) fn validate_table(
     tally: Tally,
 ) -> Tally
     requires { ⌜ Begin (now sheet) (now path) n from len level × Left left level ⌝ }
-    ensures { λ r. ⌜ Lists tally r (now (report .entry)) (now (report .exit)) (validateTable (now (bytes .entry)) (take len (now (path .entry))) span a (under (now (sheet .entry)) n from level)) × (take len (now (path .exit)) ≡ take len (now (path .entry))) ⌝ }
+    ensures { λ r. ⌜ Lists tally r (now (report .entry)) (now (report .exit))
+        (validateTable (now (bytes .entry)) (take len (now (path .entry))) span a
+        (under (now (sheet .entry)) n from level))
+        × (take len (now (path .exit)) ≡ take len (now (path .entry))) ⌝ }
 {
     if ends(sheet, n, from, level) {
         let rule = rules::TABLE_WITHOUT_ROW;

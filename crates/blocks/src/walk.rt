@@ -1,4 +1,4 @@
-// The walk from block to block: blocks hold items, items hold blocks, and levels left fall at each call.
+// The walk of blocks. Document 01: "Blocks hold items, items hold blocks, and levels left fall at each call."
 ghost use mathlib.Core.Path.{_≡_};
 ghost use Prim.Native.Nat.{_+_, _≤_};
 ghost use lib.Dec.{eqb};
@@ -30,9 +30,23 @@ use leaves::sheet::records::record_at;
 // How many levels a sheet has at most: no record is deeper.
 const LEVELS: u32 = 64;
 
-// The block walk (`validate_blocks`, `validate_block`), the list walk (`validate_list_items`) and the item walk (`validate_item`) call each other. `left`, the levels left, is 64 at the sheet and one less at each call for a deeper record: it is the number that falls, so that the calls end.
+// How many words a path has at most: one for each level.
+const PATH_WORDS: usize = 64;
 
-// The blocks from record `from` on that are deeper than `level`. The path of what holds them is the first `len` words of `path`.
+// The block walk (`validate_blocks`, `validate_block`), the list walk (`validate_list_items`) and the item walk
+// (`validate_item`) call each other. They end because the levels left, `left`, fall from LEVELS at the sheet:
+// - A loop over children (`validate_blocks`, `validate_list_items`) calls `validate_block` or `validate_item` for each
+//   child with `left - 1`: the child is a level deeper.
+// - A record (`validate_block`, `validate_item`) calls the loop over its children with its own `left`. The two share a
+//   level, the record's: nothing is deeper yet when the loop starts.
+// The number that falls at each call is therefore twice `left` for a loop, and one more for a record.
+
+// `path` is scratch for paths. Its first `len` words are the path of the record whose children are walked, or of the
+// record itself in `validate_block` and `validate_item`. Each contract promises that these words stay. It leaves open
+// what the words behind them are after a call, and nothing reads them: a loop writes the word at `len` before it lends
+// the path with that word.
+
+// The blocks from record `from` on that are deeper than `level`.
 fn validate_blocks(
     sheet: &[u32],
     bytes: &[u8],
@@ -46,7 +60,11 @@ fn validate_blocks(
     tally: Tally,
 ) -> Walked
     requires { ⌜ Begin (now sheet) (now path) n from len level × Left left level ⌝ }
-    ensures { λ q. ⌜ Done (now (sheet .entry)) n from level (validateBlocks (now (bytes .entry)) (take len (now (path .entry))) 0 first (under (now (sheet .entry)) n from level)) tally (now (report .entry)) q (now (report .exit)) × (take len (now (path .exit)) ≡ take len (now (path .entry))) ⌝ }
+    ensures { λ q. ⌜ Done (now (sheet .entry)) n from level
+        (validateBlocks (now (bytes .entry)) (take len (now (path .entry))) 0 first
+        (under (now (sheet .entry)) n from level))
+        tally (now (report .entry)) q (now (report .exit))
+        × (take len (now (path .exit)) ≡ take len (now (path .entry))) ⌝ }
 {
     let mut before = Before {
         kind: 0,
@@ -89,7 +107,8 @@ fn validate_blocks(
     }
 }
 
-// Record `i`, of level `level`, behind the block `before`: both side by side, then itself, then its items or blocks. What is no block is passed over.
+// Record `i`, of the level `level`: the rules of it and `before`, the block before it; then its own rules; then its
+// items or blocks. A record that is not a block is passed over.
 fn validate_block(
     sheet: &[u32],
     bytes: &[u8],
@@ -104,7 +123,11 @@ fn validate_block(
     tally: Tally,
 ) -> Walked
     requires { ⌜ At (now sheet) (now path) n i len level × Left left level ⌝ }
-    ensures { λ q. ⌜ Done (now (sheet .entry)) n (i + 1) level (blockAt (now (bytes .entry)) (take len (now (path .entry))) before (recordAt (now (sheet .entry)) i) (under (now (sheet .entry)) n (i + 1) level)) tally (now (report .entry)) q (now (report .exit)) × (take len (now (path .exit)) ≡ take len (now (path .entry))) ⌝ }
+    ensures { λ q. ⌜ Done (now (sheet .entry)) n (i + 1) level
+        (blockAt (now (bytes .entry)) (take len (now (path .entry))) before (recordAt (now (sheet .entry)) i)
+        (under (now (sheet .entry)) n (i + 1) level))
+        tally (now (report .entry)) q (now (report .exit))
+        × (take len (now (path .exit)) ≡ take len (now (path .entry))) ⌝ }
 {
     let r = record_at(sheet, i);
     if !kinds::is_block(r.kind) {
@@ -149,7 +172,7 @@ fn validate_block(
     }
 }
 
-// The items of a list of the level `level`, ordered where `ordered` is 1 and tight where `tight` is 1.
+// The items of a list of the level `level`. It is ordered where `ordered` is 1, and tight where `tight` is 1.
 fn validate_list_items(
     sheet: &[u32],
     bytes: &[u8],
@@ -165,7 +188,11 @@ fn validate_list_items(
     tally: Tally,
 ) -> Walked
     requires { ⌜ Begin (now sheet) (now path) n from len level × Left left level ⌝ }
-    ensures { λ q. ⌜ Done (now (sheet .entry)) n from level (validateListItems (now (bytes .entry)) (take len (now (path .entry))) 0 ordered tight (under (now (sheet .entry)) n from level)) tally (now (report .entry)) q (now (report .exit)) × (take len (now (path .exit)) ≡ take len (now (path .entry))) ⌝ }
+    ensures { λ q. ⌜ Done (now (sheet .entry)) n from level
+        (validateListItems (now (bytes .entry)) (take len (now (path .entry))) 0 ordered tight
+        (under (now (sheet .entry)) n from level))
+        tally (now (report .entry)) q (now (report .exit))
+        × (take len (now (path .exit)) ≡ take len (now (path .entry))) ⌝ }
 {
     let mut k: u32 = 0;
     let mut out = tally;
@@ -204,7 +231,7 @@ fn validate_list_items(
     }
 }
 
-// Item `i`, of level `level`, in a list of the level `outer`.
+// Item `i`, of the level `level`, in a list of the level `outer`.
 fn validate_item(
     sheet: &[u32],
     bytes: &[u8],
@@ -221,7 +248,14 @@ fn validate_item(
     tally: Tally,
 ) -> Walked
     requires { ⌜ At (now sheet) (now path) n i len level × (outer ≤ level) × Left left level ⌝ }
-    ensures { λ q. ⌜ Done (now (sheet .entry)) n (i + 1) level (validateItem (take len (now (path .entry))) ordered tight (eqb (count (under (now (sheet .entry)) n (i + 1 + size (under (now (sheet .entry)) n (i + 1) level)) outer)) 0) (recordAt (now (sheet .entry)) i) (under (now (sheet .entry)) n (i + 1) level) (validateBlocks (now (bytes .entry)) (take len (now (path .entry))) 0 first (under (now (sheet .entry)) n (i + 1) level))) tally (now (report .entry)) q (now (report .exit)) × (take len (now (path .exit)) ≡ take len (now (path .entry))) ⌝ }
+    ensures { λ q. ⌜ Done (now (sheet .entry)) n (i + 1) level
+        (validateItem (take len (now (path .entry))) ordered tight
+        (eqb (count (under (now (sheet .entry)) n (i + 1 + size (under (now (sheet .entry)) n (i + 1) level)) outer)) 0)
+        (recordAt (now (sheet .entry)) i) (under (now (sheet .entry)) n (i + 1) level)
+        (validateBlocks (now (bytes .entry)) (take len (now (path .entry))) 0 first
+        (under (now (sheet .entry)) n (i + 1) level)))
+        tally (now (report .entry)) q (now (report .exit))
+        × (take len (now (path .exit)) ≡ take len (now (path .entry))) ⌝ }
 {
     let r = record_at(sheet, i);
     let number = item_number(r.b, r.c);
@@ -245,12 +279,13 @@ fn validate_item(
     validate_blocks(sheet, bytes, report, path, len, n, i + 1, level, left, out)
 }
 
-// The whole list of an accepted sheet of n records.
+// The whole list of an accepted sheet of `n` records.
 pub(crate) fn validate_document(sheet: &[u32], bytes: &[u8], report: &mut [u32], n: usize) -> Tally
     requires { ⌜ Sound (now sheet) (now bytes) × (n ≡ recordsOf (now sheet)) ⌝ }
-    ensures { λ q. ⌜ Lists start q (now (report .entry)) (now (report .exit)) (validateDocument (now (sheet .entry)) (now (bytes .entry))) ⌝ }
+    ensures { λ q. ⌜ Lists start q (now (report .entry)) (now (report .exit))
+        (validateDocument (now (sheet .entry)) (now (bytes .entry))) ⌝ }
 {
-    let mut path = [0u32; 64];
+    let mut path = [0u32; PATH_WORDS];
     let w = validate_blocks(
         sheet,
         bytes,

@@ -1,4 +1,5 @@
--- What the code gathers in one pass over inlines side by side, for the rules that ask of all of them. No promise to a caller cites it: `ContentLaws` says that it is what the definitions of `Content` ask.
+-- What the code gathers in one pass over inlines side by side. No contract of a public function cites these
+-- definitions: `ContentLaws` proves that they agree with those of `Content`.
 use Prim.Native.Nat.{ℕ}
 use mathlib.Core.Bool.{true, false, not, _&&_, _||_}
 use mathlib.Core.List.{List}
@@ -12,11 +13,20 @@ use Rattle.inlines.specs.Values.{startsWhite, endsWhite}
 use Rattle.leaves.specs.Sheet.Classes.{isJoined}
 use Rattle.inlines.specs.declared.content.Content.{Content}
 
--- what no inline gives
+-- what is gathered before the first inline
 abbrev pub noContent : Content
-noContent = record { some = false; empty = true; starts = false; ends = false; joined = false; breaks = false; last = record { flag = 0; start = 0; end = 0 } }
+noContent = record {
+  some = false;
+  empty = true;
+  starts = false;
+  ends = false;
+  joined = false;
+  breaks = false;
+  last = record { flag = 0; start = 0; end = 0 };
+}
 
--- .. and with one inline more, in a container of the kind `outer` whose A is `a`; a tree of another sort is passed over
+-- `c` with the record r added, in a container of the kind `outer` whose A is `a`. A record that is not an inline
+-- changes nothing.
 unfoldable pub withInline : List ℕ → ℕ → ℕ → Content → Rec → Content
 withInline bytes outer a c r =
     if isInline (r .kind)
@@ -31,7 +41,7 @@ withInline bytes outer a c r =
     }
     else c
 
--- .. and with all of the trees
+-- `c` with all of the trees added
 unfoldable pub contentAfter : List ℕ → ℕ → ℕ → Content → Forest → Content
 contentAfter bytes outer a c none = c
 contentAfter bytes outer a c (tree r kids rest) = contentAfter bytes outer a (withInline bytes outer a c r) rest

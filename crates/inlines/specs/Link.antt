@@ -1,4 +1,5 @@
--- What validate.rs asks of the text of a link: the list of the entries in its order. `path` is that of the enclosing block or cell.
+-- The entries that validate.rs reports for the text of a link, in its order.
+-- `path` is the path of the enclosing block or cell.
 use Prim.Native.Nat.{ℕ}
 use mathlib.Core.Bool.{true}
 use mathlib.Core.List.{List, []}
@@ -8,7 +9,7 @@ use Rattle.leaves.specs.Report.Entries.{Entry, listIf, _⊕_}
 use Rattle.leaves.specs.Report.Rules
 use Rattle.leaves.specs.Sheet.Classes.{isLink}
 
--- `validate_link_text`: 42 for each link that is not inside another found here
+-- `validate_link_text`: 42 for each link that is not inside one already reported
 unfoldable pub validateLinkText : List ℕ → Forest → List Entry
 validateLinkText path none = []
 validateLinkText path (tree r kids rest) =

@@ -1,5 +1,6 @@
--- What validate.rs reports of one inline by itself: for each of its functions a definition of the same name, which gives the list of its entries in its order. What it calls is in `Single`, `Own`, `Link`, `Attribute` and `Content`.
--- `kids` are the trees under the inline, and `path` is that of the enclosing block or cell.
+-- The entries that validate.rs reports for one inline, without those of its children. Each definition has its
+-- function's name and gives its entries in its order. `kids` are the trees under the inline, and `path` is the path
+-- of the enclosing block or cell.
 use Prim.Native.Nat.{ℕ}
 use mathlib.Core.Bool.{not, _&&_, _||_}
 use mathlib.Core.List.{List}
@@ -17,21 +18,27 @@ use Rattle.inlines.specs.Single.{validateDestination, validateIdentifier
 use Rattle.inlines.specs.Own.{validateInlineValues}
 use Rattle.inlines.specs.Attribute.{validateDirectiveAttributes}
 use Rattle.inlines.specs.Link.{validateLinkText}
-use Rattle.inlines.specs.Content.{noInline, allEmpty, startsWithWhitespace, endsWithWhitespace, holdsJoined, finalBreak}
+use Rattle.inlines.specs.Content.{noInline, allEmpty, startsWithWhitespace, endsWithWhitespace}
+use Rattle.inlines.specs.Content.{holdsJoined, finalBreak}
 
 -- `validate_text_directive`, up to the walk of its label: 54, then 55
 unfoldable pub validateTextDirective : List ℕ → List ℕ → Span → Text → Forest → List Entry
-validateTextDirective bytes path span name kids = validateDirectiveName bytes path span name ⊕ validateDirectiveAttributes bytes path kids
+validateTextDirective bytes path span name kids =
+    validateDirectiveName bytes path span name
+    ⊕ validateDirectiveAttributes bytes path kids
 
 -- `validate_emphasis_container`, up to the walk of its children: 39, else 40; then 41; and 30
 unfoldable pub validateEmphasisContainer : List ℕ → List ℕ → Span → ℕ → ℕ → Forest → List Entry
 validateEmphasisContainer bytes path span kind a kids =
+    let white = startsWithWhitespace bytes kids || endsWithWhitespace bytes kids in
     listIf (allEmpty kids) Rules.emptyEmphasis span path
-    ⊕ listIf (not (allEmpty kids) && (startsWithWhitespace bytes kids || endsWithWhitespace bytes kids)) Rules.whiteEmphasis span path
+    ⊕ listIf (not (allEmpty kids) && white) Rules.whiteEmphasis span path
     ⊕ listIf (holdsJoined kind a kids) Rules.joinedEmphasis span path
     ⊕ finalBreak path kids
 
--- The match of `validate_inline_nodes` on one inline, up to the walk of its children: the kinds that are asked for what they hold, and those of `Own`.
+-- The match of `validate_inline_nodes` on one inline, up to the walk of its children. It answers the kinds whose
+-- rules look at what they hold: emphasis, strong, delete, mark, link, link reference, text directive and inline
+-- footnote. `validateInlineValues` takes the rest.
 unfoldable pub validateInline : List ℕ → List ℕ → Rec → Forest → List Entry
 validateInline bytes path r kids =
     if isEmphasisContainer (r .kind)

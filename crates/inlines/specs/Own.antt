@@ -1,4 +1,5 @@
--- What validate.rs reports of one inline by its own values. What it calls is in `Single` and `Literal`. `path` is that of the enclosing block or cell.
+-- The entries that validate.rs reports for one inline by its own values, in its order.
+-- `path` is the path of the enclosing block or cell.
 use Prim.Native.Nat.{ℕ}
 use mathlib.Core.List.{List, []}
 use lib.Dec.{eqb}
@@ -10,8 +11,9 @@ use Rattle.leaves.specs.Report.Rules
 use Rattle.inlines.specs.Single.{validateDestination, validateIdentifier, validateEscape}
 use Rattle.inlines.specs.Literal.{validateText, validateCodeInline, validateMathInline}
 
--- The match of `validate_inline_nodes` on one inline, for the kinds that are asked for their own values alone.
--- Shortcodes, tags, autolinks and character references have only messages that are dropped; raw HTML and breaks have none.
+-- The match of `validate_inline_nodes` on one inline, for the kinds whose rules look at nothing but its own values.
+-- Shortcodes, tags, autolinks and character references have only messages that are dropped; raw HTML and breaks have
+-- none.
 unfoldable pub validateInlineValues : List ℕ → List ℕ → Rec → List Entry
 validateInlineValues bytes path r =
     if eqb (r .kind) text

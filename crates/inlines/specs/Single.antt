@@ -1,4 +1,6 @@
--- The functions of validate.rs that ask of one record and its own values, or of one inline and the kind before it: for each a definition of the same name, which gives the list of its entries in its order. `path` is that of the enclosing block or cell.
+-- The functions of validate.rs that look at the own values of one record, or at one inline and the kind of the inline
+-- before it. Each definition has its function's name and gives its entries in its order.
+-- `path` is the path of the enclosing block or cell.
 use Prim.Native.Nat.{ℕ}
 use mathlib.Core.Bool.{not, _&&_}
 use mathlib.Core.List.{List}
@@ -16,9 +18,10 @@ use Rattle.leaves.specs.Sheet.Classes.{isBreak, isPlainBreak}
 
 -- `validate_destination`: 25. A is 0 for a bare destination.
 unfoldable pub validateDestination : List ℕ → Span → ℕ → Text → List Entry
-validateDestination path span a destination = listIf (eqb a 0 && isEmpty destination) Rules.emptyBareDestination span path
+validateDestination path span a destination =
+    listIf (eqb a 0 && isEmpty destination) Rules.emptyBareDestination span path
 
--- the match's `identifier.is_empty()` and `target.is_empty()`: 32, 33, 34, 36, as the rule says
+-- the tests `identifier.is_empty()` and `target.is_empty()` of the match: `rule` is 32, 33, 34 or 36
 unfoldable pub validateIdentifier : List ℕ → ℕ → Span → Text → List Entry
 validateIdentifier path rule span identifier = listIf (isEmpty identifier) rule span path
 
@@ -28,7 +31,8 @@ validateEscape path span a = listIf (not (isAsciiPunctuation a)) Rules.escapedVa
 
 -- `validate_directive_name`: 54
 unfoldable pub validateDirectiveName : List ℕ → List ℕ → Span → Text → List Entry
-validateDirectiveName bytes path span name = listIf (not (isDirectiveName (textOf bytes name))) Rules.directiveName span path
+validateDirectiveName bytes path span name =
+    listIf (not (isDirectiveName (textOf bytes name))) Rules.directiveName span path
 
 -- `validate_siblings`: 37, 38. `before` is the kind of the inline before, 0 where there is none.
 unfoldable pub validateSiblings : List ℕ → Span → ℕ → ℕ → ℕ → List Entry

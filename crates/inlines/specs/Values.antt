@@ -1,4 +1,4 @@
--- What the walks ask of one record: its own values.
+-- What the walks ask of the own values of one record.
 use Prim.Native.Nat.{ℕ}
 use mathlib.Core.Bool.{Bool, not, _&&_, _||_}
 use mathlib.Core.List.{List}
@@ -11,20 +11,21 @@ use Rattle.leaves.specs.Sheet.Classes.{isBreak, isPlainBreak, namesOwnValue, na
 use Rattle.leaves.specs.Sheet.Texts.{textOf}
 use Rattle.leaves.specs.declared.sheet.records.Rec.{Rec}
 
--- the match of `starts_with_whitespace` on the first inline that is no empty text
+-- the match of `starts_with_whitespace` on the first inline that is not an empty text
 unfoldable pub startsWhite : List ℕ → Rec → Bool
 startsWhite bytes r = eqb (r .kind) text && startsWithWhite (textOf bytes (r .first)) || isPlainBreak (r .kind) (r .a)
 
--- the match of `ends_with_whitespace` on the last
+-- the match of `ends_with_whitespace` on the last inline that is not an empty text
 unfoldable pub endsWhite : List ℕ → Rec → Bool
 endsWhite bytes r = eqb (r .kind) text && endsWithWhite (textOf bytes (r .first)) || isBreak (r .kind)
 
--- .. and a wikilink both its target and its label: a value that no cell source gives
+-- The match of `validate_cell_values`: the inline's value or label holds a `|` after an odd run of backslashes.
+-- Of a wikilink both the target and the label count.
 unfoldable pub isUnwritable : List ℕ → Rec → Bool
 isUnwritable bytes r =
     (namesOwnValue (r .kind) || eqb (r .kind) wikiLink) && hasOddEscapedPipe (textOf bytes (r .first))
     || (namesLabel (r .kind) || eqb (r .kind) wikiLink) && hasOddEscapedPipe (textOf bytes (r .second))
 
--- the test of `validate_directive_attributes`: an attribute whose name is none
+-- the test of `validate_directive_attributes`: an attribute whose name is not an attribute name
 unfoldable pub isBadAttribute : List ℕ → Rec → Bool
 isBadAttribute bytes r = eqb (r .kind) attribute && not (isAttributeName (textOf bytes (r .first)))

@@ -11,7 +11,7 @@ use leaves::sheet::forest::skip;
 use leaves::sheet::records;
 use leaves::sheet::records::Span;
 
-// Rule 55: each attribute has a name that one may have. The entry has no span.
+// Rule 55: the name of each attribute is an attribute name. The entry has no span.
 pub fn validate_directive_attributes(
     sheet: &[u32],
     bytes: &[u8],
@@ -23,7 +23,10 @@ pub fn validate_directive_attributes(
     tally: Tally,
 ) -> Walked
     requires { ⌜ Start (now sheet) (now path) n from ⌝ }
-    ensures { λ r. ⌜ Done (now (sheet .entry)) n from level (validateDirectiveAttributes (now (bytes .entry)) (now (path .entry)) (under (now (sheet .entry)) n from level)) tally (now (report .entry)) r (now (report .exit)) ⌝ }
+    ensures { λ r. ⌜ Done (now (sheet .entry)) n from level
+        (validateDirectiveAttributes (now (bytes .entry)) (now (path .entry))
+        (under (now (sheet .entry)) n from level))
+        tally (now (report .entry)) r (now (report .exit)) ⌝ }
 {
     let no_span = Span {
         flag: 0,

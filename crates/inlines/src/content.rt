@@ -1,4 +1,4 @@
-// What inlines side by side say of the container that holds them, gathered in one pass.
+// What the rules ask of the inlines of one container, gathered in one pass.
 ghost use mathlib.Core.Path.{_≡_};
 ghost use Prim.Native.Nat.{_*_, _≤_};
 ghost use lib.ListN.{length};
@@ -21,19 +21,20 @@ use leaves::sheet::records::Rec;
 use leaves::sheet::records::Span;
 use leaves::text::bytes::choose;
 
-// What inlines side by side give.
+// What is gathered of the inlines of one container.
 pub(crate) struct Content {
-    // an inline stands there
+    // there is an inline
     pub some: bool,
     // all of them are empty texts
     pub empty: bool,
-    // the first that is no empty text starts with white space, and the last ends with it
+    // the first that is not an empty text starts with white space, and the last such ends with it
     pub starts: bool,
     pub ends: bool,
-    // there is one alone, written with the container's delimiter
+    // there is one alone, and it is written with the container's delimiter
     pub joined: bool,
-    // the last is a line break, and its span
+    // the last is a line break
     pub breaks: bool,
+    // the span of the last
     pub last: Span,
 }
 
@@ -55,7 +56,7 @@ fn no_content() -> Content
     }
 }
 
-// With one more: an inline counts, and a record of another sort does not.
+// `c` with record `r` added. A record that is not an inline changes nothing.
 fn with_inline(bytes: &[u8], outer: u32, a: u32, c: Content, r: Rec) -> Content
     ensures { λ q. ⌜ q ≡ withInline (now (bytes .entry)) outer a c r ⌝ }
 {
@@ -75,7 +76,8 @@ fn with_inline(bytes: &[u8], outer: u32, a: u32, c: Content, r: Rec) -> Content
     }
 }
 
-// The content of a container of the kind `outer` whose A is `a`: the trees from record `from` on that are deeper than `level`.
+// Gathers the trees from record `from` on that are deeper than `level`: the children of a container of the kind
+// `outer` whose A is `a`.
 pub(crate) fn gather(
     sheet: &[u32],
     bytes: &[u8],
@@ -101,7 +103,8 @@ pub(crate) fn gather(
     c
 }
 
-// Rule 30: a hard break is not the last inline. A container that a `]` closes is not asked.
+// Rule 30: a hard break is not the last inline. Nothing calls this for a link, image, link or image reference, inline
+// footnote or text directive.
 pub(crate) fn final_break(
     sheet: &[u32],
     bytes: &[u8],
@@ -113,7 +116,8 @@ pub(crate) fn final_break(
     tally: Tally,
 ) -> Tally
     requires { ⌜ Start (now sheet) (now path) n from ⌝ }
-    ensures { λ q. ⌜ Lists tally q (now (report .entry)) (now (report .exit)) (finalBreak (now (path .entry)) (under (now (sheet .entry)) n from level)) ⌝ }
+    ensures { λ q. ⌜ Lists tally q (now (report .entry)) (now (report .exit))
+        (finalBreak (now (path .entry)) (under (now (sheet .entry)) n from level)) ⌝ }
 {
     let c = gather(sheet, bytes, n, from, level, 0, 0);
     list_if(

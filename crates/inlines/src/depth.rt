@@ -10,7 +10,7 @@ use leaves::report::rules;
 use leaves::sheet::classes;
 use leaves::sheet::records;
 
-// Rules 20, 22, 23: no break at any depth. Preorder is the sheet's order, so one loop goes through all depths.
+// Rules 20, 22, 23: no break at any depth. A record's children follow it in the sheet, so one loop reaches all depths.
 pub fn validate_one_line(
     sheet: &[u32],
     report: &mut [u32],
@@ -22,7 +22,9 @@ pub fn validate_one_line(
     tally: Tally,
 ) -> Walked
     requires { ⌜ Start (now sheet) (now path) n from ⌝ }
-    ensures { λ r. ⌜ Done (now (sheet .entry)) n from level (validateOneLine rule (now (path .entry)) (under (now (sheet .entry)) n from level)) tally (now (report .entry)) r (now (report .exit)) ⌝ }
+    ensures { λ r. ⌜ Done (now (sheet .entry)) n from level
+        (validateOneLine rule (now (path .entry)) (under (now (sheet .entry)) n from level))
+        tally (now (report .entry)) r (now (report .exit)) ⌝ }
 {
     let mut out = tally;
     let mut i = from;
@@ -56,7 +58,9 @@ pub fn validate_cell_values(
     tally: Tally,
 ) -> Walked
     requires { ⌜ Start (now sheet) (now path) n from ⌝ }
-    ensures { λ r. ⌜ Done (now (sheet .entry)) n from level (validateCellValues (now (bytes .entry)) (now (path .entry)) (under (now (sheet .entry)) n from level)) tally (now (report .entry)) r (now (report .exit)) ⌝ }
+    ensures { λ r. ⌜ Done (now (sheet .entry)) n from level
+        (validateCellValues (now (bytes .entry)) (now (path .entry)) (under (now (sheet .entry)) n from level))
+        tally (now (report .entry)) r (now (report .exit)) ⌝ }
 {
     let mut out = tally;
     let mut i = from;

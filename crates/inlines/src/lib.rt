@@ -1,4 +1,5 @@
-// The inline walk, and what it asks of one inline and of inlines side by side. Each module's definitions are in the file of specs/ that bears its name.
+// The inline walk, and the rules of one inline and of inlines side by side. The definitions of each module are in the
+// file of specs/ with its name.
 pub mod attribute;
 mod content;
 pub mod depth;

@@ -15,7 +15,8 @@ use leaves::sheet::classes;
 use leaves::sheet::forest::skip;
 use leaves::sheet::records;
 
-// The record to go on with: behind all that stands under record `i` where it is a link, else the next.
+// The record to go on with after record `i`: where it is a link (`found`), the one behind all that it holds; else the
+// next.
 fn past_link(sheet: &[u32], n: usize, i: usize, found: bool, level: u32) -> usize
     requires { ⌜ (n * recordWords ≤ length (now sheet)) × (i < n) ⌝ }
     ensures { λ r. ⌜ r ≡ (if found then i + 1 + size (under (now (sheet .entry)) n (i + 1) level) else i + 1) ⌝ }
@@ -26,7 +27,7 @@ fn past_link(sheet: &[u32], n: usize, i: usize, found: bool, level: u32) -> usiz
     i + 1
 }
 
-// Rule 42: link text holds no link, at any depth; not below a link that was found.
+// Rule 42: link text holds no link, at any depth. The walk does not look into a link that it has found.
 pub(crate) fn validate_link_text(
     sheet: &[u32],
     report: &mut [u32],
@@ -37,7 +38,9 @@ pub(crate) fn validate_link_text(
     tally: Tally,
 ) -> Walked
     requires { ⌜ Start (now sheet) (now path) n from ⌝ }
-    ensures { λ r. ⌜ Done (now (sheet .entry)) n from level (validateLinkText (now (path .entry)) (under (now (sheet .entry)) n from level)) tally (now (report .entry)) r (now (report .exit)) ⌝ }
+    ensures { λ r. ⌜ Done (now (sheet .entry)) n from level
+        (validateLinkText (now (path .entry)) (under (now (sheet .entry)) n from level))
+        tally (now (report .entry)) r (now (report .exit)) ⌝ }
 {
     let mut out = tally;
     let mut i = from;

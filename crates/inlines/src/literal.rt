@@ -1,6 +1,7 @@
 // The rules of text, code and math, whose values are written as they are.
 ghost use Prim.Native.Nat.{_≤_};
 ghost use lib.ListN.{length};
+ghost use Rattle.leaves.specs.Refusal.Limits.{mostLevel};
 ghost use Rattle.leaves.specs.Report.Entries.{Lists};
 ghost use Rattle.inlines.specs.Literal.{validateText, validateCodeInline, validateMathInline};
 use leaves::report::entries::Tally;
@@ -22,8 +23,9 @@ pub(crate) fn validate_text(
     value: Text,
     tally: Tally,
 ) -> Tally
-    requires { ⌜ length (now path) ≤ 64 ⌝ }
-    ensures { λ r. ⌜ Lists tally r (now (report .entry)) (now (report .exit)) (validateText (now (bytes .entry)) (now (path .entry)) span value) ⌝ }
+    requires { ⌜ length (now path) ≤ mostLevel ⌝ }
+    ensures { λ r. ⌜ Lists tally r (now (report .entry)) (now (report .exit))
+        (validateText (now (bytes .entry)) (now (path .entry)) span value) ⌝ }
 {
     let fault = holds_line_ending(text_of(bytes, value));
     list_if(fault, report, rules::LINE_ENDING_IN_TEXT, span, path, tally)
@@ -38,8 +40,9 @@ pub(crate) fn validate_code_inline(
     value: Text,
     tally: Tally,
 ) -> Tally
-    requires { ⌜ length (now path) ≤ 64 ⌝ }
-    ensures { λ r. ⌜ Lists tally r (now (report .entry)) (now (report .exit)) (validateCodeInline (now (bytes .entry)) (now (path .entry)) span value) ⌝ }
+    requires { ⌜ length (now path) ≤ mostLevel ⌝ }
+    ensures { λ r. ⌜ Lists tally r (now (report .entry)) (now (report .exit))
+        (validateCodeInline (now (bytes .entry)) (now (path .entry)) span value) ⌝ }
 {
     let empty = empty::is_empty(value);
     let out = list_if(empty, report, rules::EMPTY_CODE, span, path, tally);
@@ -47,7 +50,8 @@ pub(crate) fn validate_code_inline(
     list_if(ends, report, rules::LINE_ENDING_IN_CODE, span, path, out)
 }
 
-// Rules 46, 47, 48: inline math is not empty; a dollar fence (`a` is 0) has `b` dollars, at least one; the code form holds no "`$".
+// Rules 46, 47, 48: inline math is not empty; a dollar fence (`a` is 0) has `b` dollars, at least one; the code form
+// (`a` is 1) holds no "`$".
 pub(crate) fn validate_math_inline(
     bytes: &[u8],
     report: &mut [u32],
@@ -58,8 +62,9 @@ pub(crate) fn validate_math_inline(
     value: Text,
     tally: Tally,
 ) -> Tally
-    requires { ⌜ length (now path) ≤ 64 ⌝ }
-    ensures { λ r. ⌜ Lists tally r (now (report .entry)) (now (report .exit)) (validateMathInline (now (bytes .entry)) (now (path .entry)) span a b value) ⌝ }
+    requires { ⌜ length (now path) ≤ mostLevel ⌝ }
+    ensures { λ r. ⌜ Lists tally r (now (report .entry)) (now (report .exit))
+        (validateMathInline (now (bytes .entry)) (now (path .entry)) span a b value) ⌝ }
 {
     let empty = empty::is_empty(value);
     let out = list_if(empty, report, rules::EMPTY_MATH, span, path, tally);

@@ -19,7 +19,7 @@ use leaves::sheet::classes;
 use leaves::sheet::kinds;
 use leaves::sheet::records::Rec;
 
-// Rules 39 or 40, 41 and 30 of the container `r` whose children start at record `from`.
+// Rule 39, or else 40; then 41 and 30. The children of the container `r` start at record `from`.
 fn validate_emphasis_container(
     sheet: &[u32],
     bytes: &[u8],
@@ -31,7 +31,9 @@ fn validate_emphasis_container(
     tally: Tally,
 ) -> Tally
     requires { ⌜ Start (now sheet) (now path) n from ⌝ }
-    ensures { λ q. ⌜ Lists tally q (now (report .entry)) (now (report .exit)) (validateEmphasisContainer (now (bytes .entry)) (now (path .entry)) (r .span) (r .kind) (r .a) (under (now (sheet .entry)) n from (r .level))) ⌝ }
+    ensures { λ q. ⌜ Lists tally q (now (report .entry)) (now (report .exit))
+        (validateEmphasisContainer (now (bytes .entry)) (now (path .entry)) (r .span) (r .kind) (r .a)
+        (under (now (sheet .entry)) n from (r .level))) ⌝ }
 {
     let c = gather(sheet, bytes, n, from, r.level, r.kind, r.a);
     let out = list_if(c.empty, report, rules::EMPTY_EMPHASIS, r.span, path, tally);
@@ -41,7 +43,7 @@ fn validate_emphasis_container(
     list_if(c.breaks, report, rules::FINAL_HARD_BREAK, c.last, path, out)
 }
 
-// Rule 25, then 42 in all that the link holds.
+// Rule 25 of the link, then 42 of all that it holds.
 fn validate_link(
     sheet: &[u32],
     report: &mut [u32],
@@ -52,14 +54,16 @@ fn validate_link(
     tally: Tally,
 ) -> Tally
     requires { ⌜ Start (now sheet) (now path) n from ⌝ }
-    ensures { λ q. ⌜ Lists tally q (now (report .entry)) (now (report .exit)) (validateDestination (now (path .entry)) (r .span) (r .a) (r .first) ⊕ validateLinkText (now (path .entry)) (under (now (sheet .entry)) n from (r .level))) ⌝ }
+    ensures { λ q. ⌜ Lists tally q (now (report .entry)) (now (report .exit))
+        (validateDestination (now (path .entry)) (r .span) (r .a) (r .first)
+        ⊕ validateLinkText (now (path .entry)) (under (now (sheet .entry)) n from (r .level))) ⌝ }
 {
     let out = single::validate_destination(report, path, r.span, r.a, r.first, tally);
     let walked = validate_link_text(sheet, report, path, n, from, r.level, out);
     walked.tally
 }
 
-// Rule 32, then 42 in all that the link holds.
+// Rule 32 of the link, then 42 of all that it holds.
 fn validate_link_reference(
     sheet: &[u32],
     report: &mut [u32],
@@ -70,7 +74,9 @@ fn validate_link_reference(
     tally: Tally,
 ) -> Tally
     requires { ⌜ Start (now sheet) (now path) n from ⌝ }
-    ensures { λ q. ⌜ Lists tally q (now (report .entry)) (now (report .exit)) (validateIdentifier (now (path .entry)) Rules.emptyLinkReference (r .span) (r .first) ⊕ validateLinkText (now (path .entry)) (under (now (sheet .entry)) n from (r .level))) ⌝ }
+    ensures { λ q. ⌜ Lists tally q (now (report .entry)) (now (report .exit))
+        (validateIdentifier (now (path .entry)) Rules.emptyLinkReference (r .span) (r .first)
+        ⊕ validateLinkText (now (path .entry)) (under (now (sheet .entry)) n from (r .level))) ⌝ }
 {
     let rule = rules::EMPTY_LINK_REFERENCE;
     let out = single::validate_identifier(report, path, rule, r.span, r.first, tally);
@@ -90,7 +96,9 @@ fn validate_text_directive(
     tally: Tally,
 ) -> Tally
     requires { ⌜ Start (now sheet) (now path) n from ⌝ }
-    ensures { λ q. ⌜ Lists tally q (now (report .entry)) (now (report .exit)) (validateTextDirective (now (bytes .entry)) (now (path .entry)) (r .span) (r .first) (under (now (sheet .entry)) n from (r .level))) ⌝ }
+    ensures { λ q. ⌜ Lists tally q (now (report .entry)) (now (report .exit))
+        (validateTextDirective (now (bytes .entry)) (now (path .entry)) (r .span) (r .first)
+        (under (now (sheet .entry)) n from (r .level))) ⌝ }
 {
     let out = single::validate_directive_name(bytes, report, path, r.span, r.first, tally);
     let walked = validate_directive_attributes(sheet, bytes, report, path, n, from, r.level, out);
@@ -109,7 +117,9 @@ fn validate_inline_footnote(
     tally: Tally,
 ) -> Tally
     requires { ⌜ Start (now sheet) (now path) n from ⌝ }
-    ensures { λ q. ⌜ Lists tally q (now (report .entry)) (now (report .exit)) (listIf (noInline (under (now (sheet .entry)) n from (r .level))) Rules.emptyInlineFootnote (r .span) (now (path .entry))) ⌝ }
+    ensures { λ q. ⌜ Lists tally q (now (report .entry)) (now (report .exit))
+        (listIf (noInline (under (now (sheet .entry)) n from (r .level))) Rules.emptyInlineFootnote (r .span)
+        (now (path .entry))) ⌝ }
 {
     let c = gather(sheet, bytes, n, from, r.level, r.kind, r.a);
     list_if(
@@ -122,7 +132,9 @@ fn validate_inline_footnote(
     )
 }
 
-// What one inline reports of itself, before its children, which start at record `from`.
+// What one inline reports, up to the walk of its children, which start at record `from`. It answers the kinds whose
+// rules look at what they hold: emphasis, strong, delete, mark, link, link reference, text directive and inline
+// footnote. `validate_inline_values` takes the rest.
 pub(crate) fn validate_inline(
     sheet: &[u32],
     bytes: &[u8],
@@ -134,7 +146,8 @@ pub(crate) fn validate_inline(
     tally: Tally,
 ) -> Tally
     requires { ⌜ Start (now sheet) (now path) n from ⌝ }
-    ensures { λ q. ⌜ Lists tally q (now (report .entry)) (now (report .exit)) (validateInline (now (bytes .entry)) (now (path .entry)) r (under (now (sheet .entry)) n from (r .level))) ⌝ }
+    ensures { λ q. ⌜ Lists tally q (now (report .entry)) (now (report .exit))
+        (validateInline (now (bytes .entry)) (now (path .entry)) r (under (now (sheet .entry)) n from (r .level))) ⌝ }
 {
     let kind = r.kind;
     if classes::is_emphasis_container(kind) {

@@ -1,4 +1,4 @@
-// The walk of inlines: each with the one before it, by its kind and with its children.
+// The walk of inlines: for each the rules of it and the one before it, its own rules, and its children.
 ghost use Prim.Native.Nat.{_+_};
 ghost use Rattle.leaves.specs.Sheet.Records.{recordAt};
 ghost use Rattle.leaves.specs.Sheet.Forest.{under};
@@ -15,9 +15,12 @@ use leaves::sheet::kinds;
 use leaves::sheet::records::record_at;
 use leaves::text::bytes::pick;
 
-// `validate_node` and `validate_inline_nodes` call each other. `left`, the levels left under what holds the inlines, is one less at each call for a deeper record: it is the number that falls, so that the calls end.
+// `validate_node` and `validate_inline_nodes` call each other, and end because the levels left, `left`, fall: the loop
+// over inlines calls for each of them, one level deeper, with `left - 1`. An inline calls the loop over its children
+// with its own `left`: both stand at the inline's level, and only the loop goes deeper.
 
-// Record `i`, of level `level`, behind an inline of the kind `before`: both side by side, then itself, then its children. A record that is no inline is passed over.
+// Record `i`, of the level `level`: the rules of it and the inline before it, whose kind is `before`; then its own
+// rules; then its children. A record that is not an inline is passed over.
 fn validate_node(
     sheet: &[u32],
     bytes: &[u8],
@@ -31,7 +34,12 @@ fn validate_node(
     tally: Tally,
 ) -> Walked
     requires { ⌜ Here (now sheet) (now path) n i level × Left left level ⌝ }
-    ensures { λ q. ⌜ Done (now (sheet .entry)) n (i + 1) level (validateNode (now (bytes .entry)) (now (path .entry)) before (recordAt (now (sheet .entry)) i) (under (now (sheet .entry)) n (i + 1) level) (validateInlineNodesAfter (now (bytes .entry)) (now (path .entry)) 0 (under (now (sheet .entry)) n (i + 1) level))) tally (now (report .entry)) q (now (report .exit)) ⌝ }
+    ensures { λ q. ⌜ Done (now (sheet .entry)) n (i + 1) level
+        (validateNode (now (bytes .entry)) (now (path .entry)) before (recordAt (now (sheet .entry)) i)
+        (under (now (sheet .entry)) n (i + 1) level)
+        (validateInlineNodesAfter (now (bytes .entry)) (now (path .entry)) 0
+        (under (now (sheet .entry)) n (i + 1) level)))
+        tally (now (report .entry)) q (now (report .exit)) ⌝ }
 {
     let r = record_at(sheet, i);
     if !kinds::is_inline(r.kind) {
@@ -45,7 +53,8 @@ fn validate_node(
     validate_inline_nodes(sheet, bytes, report, path, n, i + 1, level, left, 0, out)
 }
 
-// The inlines from record `from` on that are deeper than `level`, behind one of the kind `before` (0 where there is none).
+// The inlines from record `from` on that are deeper than `level`. `before` is the kind of the inline before them, 0
+// where there is none.
 fn validate_inline_nodes(
     sheet: &[u32],
     bytes: &[u8],
@@ -59,7 +68,10 @@ fn validate_inline_nodes(
     tally: Tally,
 ) -> Walked
     requires { ⌜ Start (now sheet) (now path) n from × Left left level ⌝ }
-    ensures { λ q. ⌜ Done (now (sheet .entry)) n from level (validateInlineNodesAfter (now (bytes .entry)) (now (path .entry)) before (under (now (sheet .entry)) n from level)) tally (now (report .entry)) q (now (report .exit)) ⌝ }
+    ensures { λ q. ⌜ Done (now (sheet .entry)) n from level
+        (validateInlineNodesAfter (now (bytes .entry)) (now (path .entry)) before
+        (under (now (sheet .entry)) n from level))
+        tally (now (report .entry)) q (now (report .exit)) ⌝ }
 {
     let mut last = before;
     let mut out = tally;
@@ -107,7 +119,9 @@ pub fn validate_inlines(
     tally: Tally,
 ) -> Walked
     requires { ⌜ Start (now sheet) (now path) n from × Left left level ⌝ }
-    ensures { λ q. ⌜ Done (now (sheet .entry)) n from level (validateInlines (now (bytes .entry)) (now (path .entry)) (under (now (sheet .entry)) n from level)) tally (now (report .entry)) q (now (report .exit)) ⌝ }
+    ensures { λ q. ⌜ Done (now (sheet .entry)) n from level
+        (validateInlines (now (bytes .entry)) (now (path .entry)) (under (now (sheet .entry)) n from level))
+        tally (now (report .entry)) q (now (report .exit)) ⌝ }
 {
     let out = final_break(sheet, bytes, report, path, n, from, level, tally);
     validate_inline_nodes(sheet, bytes, report, path, n, from, level, left, 0, out)

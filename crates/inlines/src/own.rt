@@ -1,6 +1,7 @@
 // What one inline reports by its own values, by its kind.
 ghost use Prim.Native.Nat.{_≤_};
 ghost use lib.ListN.{length};
+ghost use Rattle.leaves.specs.Refusal.Limits.{mostLevel};
 ghost use Rattle.leaves.specs.Report.Entries.{Lists};
 ghost use Rattle.inlines.specs.Own.{validateInlineValues};
 use crate::literal;
@@ -10,7 +11,8 @@ use leaves::report::rules;
 use leaves::sheet::kinds;
 use leaves::sheet::records::Rec;
 
-// What an inline reports that is asked for its own values alone.
+// What a text, image, image reference, escape, footnote reference, wikilink, code or math reports: its rules look at
+// nothing but its own values. Every other kind lists nothing here.
 pub(crate) fn validate_inline_values(
     bytes: &[u8],
     report: &mut [u32],
@@ -18,8 +20,9 @@ pub(crate) fn validate_inline_values(
     r: Rec,
     tally: Tally,
 ) -> Tally
-    requires { ⌜ length (now path) ≤ 64 ⌝ }
-    ensures { λ q. ⌜ Lists tally q (now (report .entry)) (now (report .exit)) (validateInlineValues (now (bytes .entry)) (now (path .entry)) r) ⌝ }
+    requires { ⌜ length (now path) ≤ mostLevel ⌝ }
+    ensures { λ q. ⌜ Lists tally q (now (report .entry)) (now (report .exit))
+        (validateInlineValues (now (bytes .entry)) (now (path .entry)) r) ⌝ }
 {
     let kind = r.kind;
     match kind {

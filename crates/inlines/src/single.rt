@@ -1,8 +1,10 @@
 // The rules of one inline and its own values, and of two side by side.
 ghost use Prim.Native.Nat.{_≤_};
 ghost use lib.ListN.{length};
+ghost use Rattle.leaves.specs.Refusal.Limits.{mostLevel};
 ghost use Rattle.leaves.specs.Report.Entries.{Lists};
-ghost use Rattle.inlines.specs.Single.{validateDestination, validateIdentifier, validateEscape, validateDirectiveName, validateSiblings};
+ghost use Rattle.inlines.specs.Single.{validateDestination, validateIdentifier, validateEscape};
+ghost use Rattle.inlines.specs.Single.{validateDirectiveName, validateSiblings};
 use leaves::report::entries::Tally;
 use leaves::report::entries::list_if;
 use leaves::report::rules;
@@ -24,8 +26,9 @@ pub fn validate_destination(
     destination: Text,
     tally: Tally,
 ) -> Tally
-    requires { ⌜ length (now path) ≤ 64 ⌝ }
-    ensures { λ r. ⌜ Lists tally r (now (report .entry)) (now (report .exit)) (validateDestination (now (path .entry)) span a destination) ⌝ }
+    requires { ⌜ length (now path) ≤ mostLevel ⌝ }
+    ensures { λ r. ⌜ Lists tally r (now (report .entry)) (now (report .exit))
+        (validateDestination (now (path .entry)) span a destination) ⌝ }
 {
     let fault = (a == 0) & empty::is_empty(destination);
     list_if(
@@ -38,7 +41,7 @@ pub fn validate_destination(
     )
 }
 
-// Rules 32, 33, 34, 36, as the rule says: an identifier or a target is not empty.
+// An identifier or a target is not empty. `rule` is 32, 33, 34 or 36.
 pub(crate) fn validate_identifier(
     report: &mut [u32],
     path: &[u32],
@@ -47,8 +50,9 @@ pub(crate) fn validate_identifier(
     identifier: Text,
     tally: Tally,
 ) -> Tally
-    requires { ⌜ length (now path) ≤ 64 ⌝ }
-    ensures { λ r. ⌜ Lists tally r (now (report .entry)) (now (report .exit)) (validateIdentifier (now (path .entry)) rule span identifier) ⌝ }
+    requires { ⌜ length (now path) ≤ mostLevel ⌝ }
+    ensures { λ r. ⌜ Lists tally r (now (report .entry)) (now (report .exit))
+        (validateIdentifier (now (path .entry)) rule span identifier) ⌝ }
 {
     let fault = empty::is_empty(identifier);
     list_if(fault, report, rule, span, path, tally)
@@ -62,8 +66,9 @@ pub(crate) fn validate_escape(
     a: u32,
     tally: Tally,
 ) -> Tally
-    requires { ⌜ length (now path) ≤ 64 ⌝ }
-    ensures { λ r. ⌜ Lists tally r (now (report .entry)) (now (report .exit)) (validateEscape (now (path .entry)) span a) ⌝ }
+    requires { ⌜ length (now path) ≤ mostLevel ⌝ }
+    ensures { λ r. ⌜ Lists tally r (now (report .entry)) (now (report .exit))
+        (validateEscape (now (path .entry)) span a) ⌝ }
 {
     let fault = !is_ascii_punctuation(a);
     list_if(fault, report, rules::ESCAPED_VALUE, span, path, tally)
@@ -78,14 +83,16 @@ pub fn validate_directive_name(
     name: Text,
     tally: Tally,
 ) -> Tally
-    requires { ⌜ length (now path) ≤ 64 ⌝ }
-    ensures { λ r. ⌜ Lists tally r (now (report .entry)) (now (report .exit)) (validateDirectiveName (now (bytes .entry)) (now (path .entry)) span name) ⌝ }
+    requires { ⌜ length (now path) ≤ mostLevel ⌝ }
+    ensures { λ r. ⌜ Lists tally r (now (report .entry)) (now (report .exit))
+        (validateDirectiveName (now (bytes .entry)) (now (path .entry)) span name) ⌝ }
 {
     let fault = !is_directive_name(text_of(bytes, name));
     list_if(fault, report, rules::DIRECTIVE_NAME, span, path, tally)
 }
 
-// Rules 37, 38: a break after a break would leave an empty line, and two strikethroughs join their delimiters. `before` is the kind of the inline before, 0 where there is none.
+// Rules 37, 38: a break after a break would leave an empty line, and two strikethroughs join their delimiters.
+// `before` is the kind of the inline before, 0 where there is none.
 pub(crate) fn validate_siblings(
     report: &mut [u32],
     path: &[u32],
@@ -95,8 +102,9 @@ pub(crate) fn validate_siblings(
     a: u32,
     tally: Tally,
 ) -> Tally
-    requires { ⌜ length (now path) ≤ 64 ⌝ }
-    ensures { λ r. ⌜ Lists tally r (now (report .entry)) (now (report .exit)) (validateSiblings (now (path .entry)) span before kind a) ⌝ }
+    requires { ⌜ length (now path) ≤ mostLevel ⌝ }
+    ensures { λ r. ⌜ Lists tally r (now (report .entry)) (now (report .exit))
+        (validateSiblings (now (path .entry)) span before kind a) ⌝ }
 {
     let blank_line = classes::is_break(before) & classes::is_plain_break(kind, a);
     let out = list_if(

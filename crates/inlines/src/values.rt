@@ -1,4 +1,4 @@
-// What the walks ask of one record: its own values.
+// What the walks ask of the own values of one record.
 ghost use mathlib.Core.Path.{_≡_};
 ghost use Rattle.inlines.specs.Values.{startsWhite, endsWhite, isUnwritable, isBadAttribute};
 use leaves::sheet::classes::is_break;
@@ -29,7 +29,7 @@ pub(crate) fn ends_white(bytes: &[u8], r: Rec) -> bool
     white::ends_with_white(text_of(bytes, t)) | is_break(r.kind)
 }
 
-// Whether a cell cannot hold the inline's value, which has a `|` after an odd run of backslashes.
+// Whether the inline has a value that no cell can hold: one with a `|` after an odd run of backslashes.
 pub(crate) fn is_unwritable(bytes: &[u8], r: Rec) -> bool
     ensures { λ q. ⌜ q ≡ isUnwritable (now (bytes .entry)) r ⌝ }
 {
@@ -39,7 +39,7 @@ pub(crate) fn is_unwritable(bytes: &[u8], r: Rec) -> bool
     has_odd_escaped_pipe(text_of(bytes, first)) | has_odd_escaped_pipe(text_of(bytes, second))
 }
 
-// Whether a record is an attribute with a name that none may have.
+// Whether a record is an attribute whose name is not an attribute name.
 pub(crate) fn is_bad_attribute(bytes: &[u8], r: Rec) -> bool
     ensures { λ q. ⌜ q ≡ isBadAttribute (now (bytes .entry)) r ⌝ }
 {
