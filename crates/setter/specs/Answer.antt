@@ -36,7 +36,7 @@ isProper (Stopped stop i) = between 1 lastStop stop
 isProper (Refused refusal) = true
 isProper ShortMarks = true
 
--- s and the marks after it are the answer and the marks of p. Since s is an answer that can be, no other such answer has
+-- s and the marks after it are the answer and the marks of p. s is an answer that can be, and no other such answer has
 -- its number and value (`setting-one` in proofs/SetLaws.antt).
 pub record Answers (p : Answer × List ℕ) (s : Setting) (marked : List ℕ) : Type 0 where
   pub answer : (settingAnswer s, marked) ≡ p
