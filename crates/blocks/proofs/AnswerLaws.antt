@@ -17,7 +17,7 @@ use Rattle.leaves.specs.declared.sheet.records.Rec.{Rec}
 use Rattle.leaves.specs.declared.refusal.places.Open.{Open}
 use Rattle.leaves.specs.Report.Entries.{flat}
 use Rattle.leaves.proofs.refusal.FormedLaws.{accepted}
-use Rattle.leaves.specs.Refusal.Verdict.{Answer, judgedAnswer, isAccepted, orElse}
+use Rattle.leaves.specs.Refusal.Verdict.{judgedAnswer, isAccepted, orElse}
 use Rattle.leaves.specs.Refusal.Limits.{mostRecords, mostBytes}
 use Rattle.leaves.specs.Refusal.Record.{badLevel, judgeTexts, judge}
 use Rattle.leaves.specs.Refusal.Judge.{judgeAt, judgeFrom, judgeSheet, sheetAnswer}
@@ -25,19 +25,16 @@ use Rattle.leaves.specs.Refusal.Tags.{lacksTags, tagsFrom}
 use Rattle.leaves.specs.declared.refusal.verdict.Judged.{Judged}
 use Rattle.leaves.specs.declared.refusal.verdict.Judged.the-variants.{Accepted, Refused as Refuses}
 use Rattle.leaves.specs.declared.refusal.verdict.Refusal.the-variants.{OddSheet, LongSheet, LongText, UnknownKind, BadLevel, Misplaced, BadField, TextOutside, NotUtf8, TagsMissing}
-use Rattle.leaves.proofs.refusal.VerdictLaws.{is-accepted, refusal-numbered, refusal-one}
+use Rattle.leaves.proofs.refusal.VerdictLaws.{is-accepted, same-number, same-value, refusal-numbered, refusal-one}
 use Rattle.blocks.specs.Walk.{validateDocument}
-use Rattle.blocks.specs.Check.{shortReport, checkedAnswer, outcome}
+use Rattle.blocks.specs.Check.{checkedAnswer, outcome}
 use Rattle.blocks.proofs.CountLaws.{few-accepted}
 use Rattle.blocks.specs.declared.answer.Checked.{Checked}
 use Rattle.blocks.specs.declared.answer.Checked.the-variants.{Listed, Refused, ShortReport}
 
 -- ---- number and value tell which answer it is
-same-number : {a b : Answer} → a ≡ b → a .number ≡ b .number
-same-number e = ap (λ (a : Answer). a .number) e
-
 pub checked-one : (c d : Checked) → checkedAnswer c ≡ checkedAnswer d → c ≡ d
-checked-one (Listed m) (Listed n) e = ap Listed (ap (λ (a : Answer). a .value) e)
+checked-one (Listed m) (Listed n) e = ap Listed (same-value e)
 checked-one (Listed m) (Refused r) e = absurd (omega (arith, same-number e, refusal-numbered r .some))
 checked-one (Listed m) ShortReport e = absurd (omega (arith, same-number e))
 checked-one (Refused r) (Listed n) e = absurd (omega (arith, same-number e, refusal-numbered r .some))

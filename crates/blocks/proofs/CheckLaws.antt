@@ -30,7 +30,7 @@ module _ (w bytes : List ℕ) {j : Judged} (e : Judges w bytes j) where
   check-sound h = accepted w bytes (accepts h)
 
 -- ---- a sheet that is accepted: what the first walk measured, and what the second wrote
-no-entries : (es : List Entry) → length es ≡ 0 → es ≡ []
+pub no-entries : (es : List Entry) → length es ≡ 0 → es ≡ []
 no-entries [] h = refl
 no-entries (e ∷ es) h = absurd (omega arith)
 

@@ -25,7 +25,7 @@ use Rattle.leaves.specs.Report.Rules
 use Rattle.leaves.specs.declared.sheet.records.Rec.{Rec}
 use Rattle.leaves.specs.declared.sheet.records.Span.{Span}
 use Rattle.leaves.specs.declared.sheet.records.Text.{Text}
-use Rattle.leaves.proofs.sheet.ForestLaws.{size-at}
+use Rattle.leaves.proofs.sheet.ForestLaws.{size-of}
 use Rattle.leaves.proofs.sheet.KindLaws.{kind-cases}
 use Rattle.leaves.proofs.refusal.TagLaws.{container-group, container-tag}
 use Rattle.leaves.proofs.refusal.FormedLaws.{accepted}
@@ -490,10 +490,6 @@ item-most path ordered r kids = few-then (number-most (itemNumber (r .b) (r .c))
     number-most (Present number) = few-then (one-entry _ _ _ _) (one-entry _ _ _ _)
 
 -- ---- an accepted sheet: the first two children of a container are tags
-size-of : (w : List ℕ) → size (forestOf w) ≡ recordsOf w
-unfolding forestOf
-size-of w = size-at w (recordsOf w) 0
-
 container-strays : (bytes : List ℕ) (l a : ℕ) (kids : Forest) → Formed bytes l (opened (parentGroup htmlContainer a)) kids → strays kids ≡ 0
 unfolding Formed strays strayFaults opened joined
 container-strays bytes l a none h = refl

@@ -1,8 +1,8 @@
 -- What the C functions promise, from what the check and the machine do; and demand 3 from the two promises.
 use mathlib.Core.Path.{_≡_, refl, sym, ap, _∙_}
 use mathlib.Core.Bool.{Bool, true, false}
-use mathlib.Core.List.{List, []}
-use Prim.Native.Nat.{ℕ, _+_, _*_, _^_, _/_, _%_, _<_, _≤_}
+use mathlib.Core.List.{List}
+use Prim.Native.Nat.{ℕ, _^_, _/_, _%_, _<_}
 use native.Mathlib.Omega.{arith}
 use lib.ListN.{length}
 use lib.Dec.{ltb}
@@ -14,7 +14,7 @@ use Rattle.leaves.specs.declared.refusal.verdict.Judged.the-variants.{Accepted}
 use Rattle.leaves.proofs.refusal.VerdictLaws.{is-accepted}
 use Rattle.blocks.specs.Check.{outcome}
 use Rattle.blocks.proofs.AnswerLaws.{judged-record, value-word}
-use Rattle.setter.specs.Machine.{run, runAnswer}
+use Rattle.setter.specs.Machine.{runAnswer}
 use Rattle.setter.specs.Answer.{settingAnswer, Answers}
 use Rattle.setter.specs.Setting.{afterRun, settingOf}
 use Rattle.setter.specs.declared.answer.Setting.{Setting}
@@ -22,9 +22,6 @@ use Rattle.setter.specs.Agrees.{Agrees}
 use Rattle.setter.specs.Exports.{Halves, CheckPromise, SetPromise, Shipped}
 use Rattle.setter.proofs.agrees.Inside.{run-inside}
 use Rattle.setter.proofs.BothLaws.{Written, written, written-agrees}
-
-pub halves : (n v r : ℕ) → v < 2 ^ 32 → r ≡ n * 4294967296 + v → Halves r (answer n v)
-halves n v r h e = record { number = omega arith; value = omega arith }
 
 -- ---- the check
 module _ (w bytes x : List ℕ) {c : Answer} {y : List ℕ} (e : (c, y) ≡ outcome w bytes x) {n v : ℕ} (a : n ≡ c .number) (b : v ≡ c .value) where

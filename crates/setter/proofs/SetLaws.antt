@@ -9,8 +9,8 @@ use lib.Dec.{leb}
 use lib.ListN.{length}
 use Rattle.leaves.specs.Text.Bytes.{between}
 use Rattle.leaves.proofs.text.TestLaws.{and-left, and-right}
-use Rattle.leaves.specs.Refusal.Verdict.{Answer, refusalAnswer}
-use Rattle.leaves.proofs.refusal.VerdictLaws.{refusal-numbered, refusal-one}
+use Rattle.leaves.specs.Refusal.Verdict.{refusalAnswer}
+use Rattle.leaves.proofs.refusal.VerdictLaws.{same-number, same-value, refusal-numbered, refusal-one}
 use Rattle.leaves.specs.Sheet.Records.{recordsOf}
 use Rattle.leaves.specs.Refusal.Judge.{judgeSheet, Judges}
 use Rattle.leaves.specs.declared.refusal.verdict.Refusal.{Refusal}
@@ -45,12 +45,6 @@ record Placed (n : ℕ) : Type 0 where
 
 placed : (n : ℕ) → between 1 lastStop n ≡ true → Placed n
 placed n h = record { low = leb-true 1 n (and-left (leb 1 n) (leb n lastStop) h); high = leb-true n lastStop (and-right (leb 1 n) (leb n lastStop) h) }
-
-same-number : {a b : Answer} → a ≡ b → a .number ≡ b .number
-same-number e = ap (λ (a : Answer). a .number) e
-
-same-value : {a b : Answer} → a ≡ b → a .value ≡ b .value
-same-value e = ap (λ (a : Answer). a .value) e
 
 -- a refusal's own answer, from that of the machine
 refusal-same : (r s : Refusal) → settingAnswer (Refused r) ≡ settingAnswer (Refused s) → refusalAnswer r ≡ refusalAnswer s

@@ -1,7 +1,7 @@
 -- What the C functions promise: an answer in the two halves of one number, and the lent words after the call.
 use Prim.Native.Nat.{ℕ, _/_, _%_, _^_, _<_}
 use mathlib.Core.Path.{_≡_}
-use mathlib.Core.List.{List, []}
+use mathlib.Core.List.{List}
 use Rattle.leaves.specs.Sheet.Records.{recordsOf}
 use Rattle.leaves.specs.Report.Entries.{entriesIn}
 use Rattle.leaves.specs.Refusal.Verdict.{Answer}

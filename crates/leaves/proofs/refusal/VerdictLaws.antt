@@ -32,15 +32,17 @@ pub none-refused : (j : Judged) → judgedAnswer j .number ≡ 0 → j ≡ Accep
 none-refused Accepted e = refl
 none-refused (Refused r) e = absurd (omega (arith, refusal-numbered r .some))
 
-pub some-refused : (j : Judged) → (judgedAnswer j .number ≡ 0 → ⊥) → isAccepted j ≡ false
-some-refused Accepted e = absurd (e refl)
-some-refused (Refused r) e = refl
-
 pub is-accepted : (j : Judged) → isAccepted j ≡ true → j ≡ Accepted
 is-accepted Accepted h = refl
 is-accepted (Refused r) h = absurd (false≢true h)
 
 -- ---- number and record tell which answer it is
+pub same-number : {a b : Answer} → a ≡ b → a .number ≡ b .number
+same-number e = ap (λ (a : Answer). a .number) e
+
+pub same-value : {a b : Answer} → a ≡ b → a .value ≡ b .value
+same-value e = ap (λ (a : Answer). a .value) e
+
 read : Answer → Judged
 read a = getD (Accepted ∷ Refused OddSheet ∷ Refused LongSheet ∷ Refused LongText ∷ Refused (UnknownKind (a .value)) ∷ Refused (BadLevel (a .value)) ∷ Refused (Misplaced (a .value)) ∷ Refused (BadField (a .value)) ∷ Refused (TextOutside (a .value)) ∷ Refused (NotUtf8 (a .value)) ∷ Refused (TagsMissing (a .value)) ∷ []) (a .number) Accepted
 

@@ -6,10 +6,10 @@ use Prim.Native.Nat.{ℕ, zero, suc, _+_, _-_, _≤_, _<_}
 use native.Mathlib.Omega.{arith}
 use native.Mathlib.Nat.{add-zero, sub-zero, sub-add-eq}
 use native.Mathlib.Numerals.{add-one}
-use Rattle.leaves.specs.Sheet.Records.{recordAt}
+use Rattle.leaves.specs.Sheet.Records.{recordAt, recordsOf}
 use lib.Dec.{ltb}
 use borrow.Author.Tests.{ltb-true, ltb-false, lt-ltb, le-ltb}
-use Rattle.leaves.specs.Sheet.Forest.{Forest, none, tree, deeper, past, grow, forestAt, under, size, recordsIn, recordsFrom}
+use Rattle.leaves.specs.Sheet.Forest.{Forest, none, tree, deeper, past, grow, forestAt, forestOf, under, size, recordsIn, recordsFrom}
 use Rattle.leaves.specs.declared.sheet.records.Rec.{Rec}
 
 module _ (l : ℕ) (r : Rec) (kids rest : Forest) where
@@ -90,6 +90,10 @@ pub size-at : (w : List ℕ) (k i : ℕ) → size (forestAt w k i) ≡ k
 unfolding forestAt size grow
 size-at w zero i = refl
 size-at w (suc k) i = rw (← size-split (recordAt w i .level) (forestAt w k (suc i))) (ap suc (size-at w k (suc i)))
+
+pub size-of : (w : List ℕ) → size (forestOf w) ≡ recordsOf w
+unfolding forestOf
+size-of w = size-at w (recordsOf w) 0
 
 -- a forest whose trees are all deeper than l is all of its trees deeper than l
 abbrev Over : ℕ → Forest → Type 0

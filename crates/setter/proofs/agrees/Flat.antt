@@ -12,7 +12,7 @@ use Rattle.leaves.specs.Text.Lists.{if_then_else_}
 use Rattle.leaves.specs.Sheet.Records.{recordsOf}
 use Rattle.leaves.specs.Sheet.Forest.{Forest, none, tree, forestOf, size, recordsIn}
 use Rattle.leaves.specs.declared.sheet.records.Rec.{Rec}
-use Rattle.leaves.proofs.sheet.ForestLaws.{flat-forest, size-at}
+use Rattle.leaves.proofs.sheet.ForestLaws.{flat-forest, size-of}
 use Rattle.setter.specs.Steps.{Frame, fresh, withKid, theSheet, Step, closings, stepsFrom, stepsOf, opens, closes}
 use Rattle.setter.proofs.StepLaws.{Low, open-one, close-one}
 use Rattle.setter.specs.Agrees.{timesOpened, timesClosed}
@@ -101,15 +101,12 @@ closed j f st i (tree r kids rest) =
     let n : i + suc (size kids + size rest) ≡ suc i + size kids + size rest = omega arith in
     rw (n, closed-append) (omega (arith, below-suc j i, closed j (fresh i r) (f ∷ st) (suc i) kids, closed j (withKid r f) st (suc i + size kids) rest))
 
-pub size-of : (w : List ℕ) → 0 + size (forestOf w) ≡ recordsOf w
-unfolding forestOf
-size-of w = zero-add _ ∙ size-at w (recordsOf w) 0
-
 module _ (w : List ℕ) (h : Deep 0 (forestOf w)) (i : ℕ) where
   times : (timesOpened i (stepsOf w) ≡ below i (recordsOf w)) × (timesClosed i (stepsOf w) ≡ below i (recordsOf w))
   times =
       let z : below i 0 ≡ 0 = ap (λ (b : Bool). if b then 1 else 0) (le-ltb i 0 (omega arith)) in
-      rw (walk-of w h, ← size-of w) (omega (arith, z, opened i theSheet [] 0 (forestOf w)), omega (arith, z, closed i theSheet [] 0 (forestOf w)))
+      let n : 0 + size (forestOf w) ≡ recordsOf w = zero-add _ ∙ size-of w in
+      rw (walk-of w h, ← n) (omega (arith, z, opened i theSheet [] 0 (forestOf w)), omega (arith, z, closed i theSheet [] 0 (forestOf w)))
 
   pub once-of : i < recordsOf w → (timesOpened i (stepsOf w) ≡ 1) × (timesClosed i (stepsOf w) ≡ 1)
   once-of g = rw (lt-ltb i (recordsOf w) g) at times

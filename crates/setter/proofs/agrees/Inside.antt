@@ -1,5 +1,5 @@
 -- The record of an opening or a closing is one of the sheet's, and so is that of a stop.
-use mathlib.Core.Path.{_≡_, refl, sym, _∙_}
+use mathlib.Core.Path.{_≡_, refl}
 use mathlib.Core.Bool.{Bool, true, false}
 use mathlib.Core.List.{List, [], _∷_, _++_}
 use Prim.Native.Nat.{ℕ, suc, _+_, _<_, _≤_}
@@ -10,10 +10,11 @@ use Rattle.leaves.specs.Sheet.Forest.{Forest, none, tree, forestOf, size}
 use Rattle.leaves.specs.Refusal.Judge.{judgeSheet}
 use Rattle.leaves.specs.declared.refusal.verdict.Judged.the-variants.{Accepted}
 use Rattle.leaves.proofs.refusal.FormedLaws.{accepted}
-use Rattle.setter.specs.Steps.{Frame, fresh, withKid, theSheet, Step, opens, closes, stepsOf}
+use Rattle.setter.specs.Steps.{Frame, fresh, withKid, theSheet, Step, stepsOf}
 use Rattle.setter.specs.Stops.{stopOf}
-use Rattle.setter.specs.Machine.{recordAtStep, End, reached, stopped, runOf, run, endAnswer, runAnswer}
-use Rattle.setter.proofs.agrees.Flat.{walk, filled, pile, walk-of, size-of}
+use Rattle.setter.specs.Machine.{recordAtStep, runOf, run, endAnswer, runAnswer}
+use Rattle.leaves.proofs.sheet.ForestLaws.{size-of}
+use Rattle.setter.proofs.agrees.Flat.{walk, walk-of}
 use Rattle.setter.proofs.agrees.Placed.{deep-of}
 
 -- every record of the steps is below n

@@ -9,20 +9,21 @@ use borrow.Author.Tests.{le-ltb, ltb-true, ltb-false, eq-eqb, ne-eqb}
 use mir.Syntax.{w32}
 use mir.Val.{Fits}
 use lib.Dec.{ltb}
-use lib.ListN.{length, take, drop, replicate, length-take, length-replicate}
+use lib.ListN.{length, take, replicate, length-take, length-replicate}
 use lib.Seq.{take-all, take-at}
 use Rattle.leaves.specs.Sheet.Records.{recordWords, recordsOf}
-use Rattle.leaves.specs.Report.Entries.{Entry, flat}
+use Rattle.leaves.specs.Report.Entries.{flat}
 use Rattle.leaves.proofs.report.EntryLaws.{few-entries}
 use Rattle.leaves.specs.Refusal.Verdict.{Answer, answer, isAccepted}
 use Rattle.leaves.specs.Refusal.Judge.{judgeSheet}
 use Rattle.leaves.specs.declared.refusal.verdict.Judged.the-variants.{Accepted}
 use Rattle.blocks.specs.Walk.{validateDocument}
-use Rattle.setter.specs.Machine.{run, runAnswer}
+use Rattle.setter.specs.Machine.{runAnswer}
 use Rattle.setter.specs.Answer.{settingAnswer, Answers}
 use Rattle.setter.specs.Setting.{afterRun, settingOf}
 use Rattle.setter.specs.declared.answer.Setting.{Setting}
 use Rattle.blocks.specs.Check.{outcome}
+use Rattle.blocks.proofs.CheckLaws.{no-entries}
 use Rattle.blocks.proofs.AnswerLaws.{value-word}
 use Rattle.leaves.specs.Text.Columns.{line}
 use Rattle.setter.specs.Listing.Film.{recordCount, behindCounts, filmSheet, textBehind, filmText, mostFilmRecords, mostInput, filmOf, Reads}
@@ -143,16 +144,11 @@ listing-cut s = go (ltb mostInput (length s)) refl
     go false e = rw (take-all (suc mostInput) s (omega (arith, ltb-false mostInput (length s) e)))
 
 -- ---- an empty list is printed with stop 0 and all records, by demand 3
-no-entries : (es : List Entry) → 0 ≡ length es → es ≡ []
-no-entries [] h = refl
-no-entries (e ∷ es) h = absurd (omega arith)
-
 empty-page : (s : List ℕ) → filmOf s .number ≡ 0 → checkedWith (filmSheet s) (filmText s) ≡ answer 0 0 → listing s ≡ listLines [] 0 (recordsOf (filmSheet s))
 unfolding listing sheetLines Demand runAnswer
 empty-page s f c =
-    let w : List ℕ = filmSheet s in
     let b = written (filmSheet s) (filmText s) (replicate reportWords 0) (ap (λ (p : Answer). p .number) c) in
-    let z : validateDocument (filmSheet s) (filmText s) ≡ [] = no-entries _ (sym (ap (λ (p : Answer). p .value) c) ∙ b .count) in
+    let z : validateDocument (filmSheet s) (filmText s) ≡ [] = no-entries _ (sym (b .count) ∙ ap (λ (p : Answer). p .value) c) in
     rw (eq-eqb _ _ f, c, z, demand-accepted (filmSheet s) (filmText s) (b .accepted) .empty z .end)
 
 pub page : (s old new : List ℕ) (n : ℕ) → Prints old (listing s) new n → Page s old new n
