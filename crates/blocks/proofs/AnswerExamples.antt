@@ -2,59 +2,59 @@
 use mathlib.Core.Path.{◌≡◌, refl}
 use mathlib.Core.List.{List, [], ◌∷◌, ◌++◌}
 use Prim.Native.Nat.{ℕ, ◌+◌}
-use Rattle.leaves.specs.Text.Fence.{holdsFenceLine, isFence}
-use Rattle.leaves.specs.Text.Edges.{hasBlankEdgeLine}
-use Rattle.leaves.specs.Text.Lines.{holdsLineEnding, isBlank, isCrOfCrlf, lines, longer, starts_with}
+use Rattle.leaves.specs.Text.Fence.{holds_fence_line, is_fence}
+use Rattle.leaves.specs.Text.Edges.{has_blank_edge_line}
+use Rattle.leaves.specs.Text.Lines.{holds_line_ending, is_blank, is_cr_of_crlf, lines, longer, starts_with}
 use Rattle.leaves.specs.Text.Lists.{all, any, none, first_or, last_or}
-use Rattle.leaves.specs.Text.Marker.{writtenMarker}
-use Rattle.leaves.specs.Text.Name.{isAttributeName, isBlankIdentifier, isDirectiveName, isRun, runs}
+use Rattle.leaves.specs.Text.Marker.{written_marker}
+use Rattle.leaves.specs.Text.Name.{is_attribute_name, is_blank_identifier, is_directive_name, is_run, runs}
 use Rattle.leaves.specs.Text.Part.{part_of}
-use Rattle.leaves.specs.Text.Pipe.{hasOddEscapedPipe, oddPipeAfter}
-use Rattle.leaves.specs.Text.Same.{sameBytes}
-use Rattle.leaves.specs.Text.Scalars.{scalars, decode, emit, leadBits, trailBits}
-use Rattle.leaves.specs.Text.Title.{isAlertTitle}
-use Rattle.leaves.specs.Text.Trim.{trim, trimCons, trimEnd, trimStart}
-use Rattle.leaves.specs.Text.Utf8.{isUtf8, wellFormed, follow}
-use Rattle.leaves.specs.Text.White.{isWhite, startsWithWhite, endsWithWhite}
-use Rattle.leaves.specs.Sheet.Forest.{count, countKind, deeper, forestAt, forestOf, grow, past}
-use Rattle.leaves.specs.Sheet.Kinds.{paragraph, heading, blockQuote, list, table, leafDirective, blankLine, item, row, cell, attribute, text, delete, code, link, autolink, softBreak, lineBreak}
-use Rattle.leaves.specs.Sheet.Records.{recordAt}
+use Rattle.leaves.specs.Text.Pipe.{has_odd_escaped_pipe, odd_pipe_after}
+use Rattle.leaves.specs.Text.Same.{same_bytes}
+use Rattle.leaves.specs.Text.Scalars.{scalars, decode, emit, lead_bits, trail_bits}
+use Rattle.leaves.specs.Text.Title.{is_alert_title}
+use Rattle.leaves.specs.Text.Trim.{trim, trim_cons, trim_end, trim_start}
+use Rattle.leaves.specs.Text.Utf8.{is_utf8, well_formed, follow}
+use Rattle.leaves.specs.Text.White.{is_white, starts_with_white, ends_with_white}
+use Rattle.leaves.specs.Sheet.Forest.{count, count_kind, deeper, forest_at, forest_of, grow, past}
+use Rattle.leaves.specs.Sheet.Kinds.{paragraph, heading, block_quote, list, table, leaf_directive, blank_line, item, row, cell, attribute, text, delete, code, link, autolink, soft_break, line_break}
+use Rattle.leaves.specs.Sheet.Records.{record_at}
 use Rattle.leaves.specs.Sheet.Siblings.{gather}
-use Rattle.leaves.specs.Sheet.Texts.{text_of, textOutside, textIllFormed}
-use Rattle.leaves.specs.Refusal.Fields.{mostA, mostB, mostC, hasFirst, hasSecond, badText, badSpan, isSurrogate, badNumber, badField}
-use Rattle.leaves.specs.Refusal.Groups.{parentGroup, otherGroup, childGroup}
-use Rattle.leaves.specs.Refusal.Judge.{judgeAt, judgeFrom, judgeSheet}
+use Rattle.leaves.specs.Sheet.Texts.{text_of, text_outside, text_ill_formed}
+use Rattle.leaves.specs.Refusal.Fields.{most_a, most_b, most_c, has_first, has_second, bad_text, bad_span, is_surrogate, bad_number, bad_field}
+use Rattle.leaves.specs.Refusal.Groups.{parent_group, other_group, child_group}
+use Rattle.leaves.specs.Refusal.Judge.{judge_at, judge_from, judge_sheet}
 use Rattle.leaves.specs.Refusal.Places.{holds, place_in, place_of, opened, joined, misplaced, open_at}
-use Rattle.leaves.specs.Refusal.Record.{levelBefore, badLevel, judgeTexts, judge}
-use Rattle.leaves.specs.Refusal.Tags.{lacksTags, tagsFrom}
+use Rattle.leaves.specs.Refusal.Record.{level_before, bad_level, judge_texts, judge}
+use Rattle.leaves.specs.Refusal.Tags.{lacks_tags, tags_from}
 use Rattle.leaves.specs.Refusal.Verdict.{Answer, answer, or_else}
-use Rattle.leaves.specs.Report.Entries.{flat, listIf, words, ◌⊕◌}
-use Rattle.inlines.specs.Attribute.{validateDirectiveAttributes}
-use Rattle.inlines.specs.Depth.{eachRecord, validateCellValues, validateOneLine}
-use Rattle.inlines.specs.Link.{validateLinkText}
-use Rattle.inlines.specs.Literal.{validateCodeInline, validateText}
-use Rattle.inlines.specs.Nodes.{allEmpty, endsWithWhitespace, endsWithWhitespaceAfter, finalBreak, finalBreakAfter, holdsJoined, noInline, startsWithWhitespace, validateEmphasisContainer, validateInline, validateInlineNodes, validateInlineNodesAfter, validateInlineValues, validateInlines, validateNode}
-use Rattle.inlines.specs.Single.{validateDestination, validateDirectiveName, validateSiblings}
-use Rattle.inlines.specs.Values.{endsWhite, isBadAttribute, isUnwritable, startsWhite}
-use Rattle.blocks.specs.Before.{takesIndentedCode, validateTakenBlock, beforeNext}
-use Rattle.blocks.specs.Block.{validateContainer, validateHtml, validateLeaf, validateOwn}
+use Rattle.leaves.specs.Report.Entries.{flat, list_if, words, ◌⊕◌}
+use Rattle.inlines.specs.Attribute.{validate_directive_attributes}
+use Rattle.inlines.specs.Depth.{each_record, validate_cell_values, validate_one_line}
+use Rattle.inlines.specs.Link.{validate_link_text}
+use Rattle.inlines.specs.Literal.{validate_code_inline, validate_text}
+use Rattle.inlines.specs.Nodes.{all_empty, ends_with_whitespace, ends_with_whitespace_after, final_break, final_break_after, holds_joined, no_inline, starts_with_whitespace, validate_emphasis_container, validate_inline, validate_inline_nodes, validate_inline_nodes_after, validate_inline_values, validate_inlines, validate_node}
+use Rattle.inlines.specs.Single.{validate_destination, validate_directive_name, validate_siblings}
+use Rattle.inlines.specs.Values.{ends_white, is_bad_attribute, is_unwritable, starts_white}
+use Rattle.blocks.specs.Before.{takes_indented_code, validate_taken_block, before_next}
+use Rattle.blocks.specs.Block.{validate_container, validate_html, validate_leaf, validate_own}
 use Rattle.blocks.specs.Check.{outcome}
-use Rattle.blocks.specs.Footnote.{blankLineAt, validateFootnoteDefinition}
-use Rattle.blocks.specs.Frontmatter.{frontmatterKind, validateFrontmatter}
-use Rattle.blocks.specs.Heads.{validateAlert, validateCodeBlock, validateDefinition, validateHeading}
-use Rattle.blocks.specs.Holds.{holdsBlocks}
-use Rattle.blocks.specs.Html.{validateHtmlContainer, validateTags}
-use Rattle.blocks.specs.Item.{opensWithParagraph, validateBlankLine, validateItemBlankLines, validateTaskItem}
-use Rattle.blocks.specs.Label.{beforeBlocks, validateDirective}
-use Rattle.blocks.specs.List.{countFull, holdsOneBlock, validateList}
-use Rattle.blocks.specs.Number.{itemNumber, validateItemNumber}
-use Rattle.blocks.specs.Paragraph.{validateParagraph}
-use Rattle.blocks.specs.Table.{headerWidth, validateCell, validateCells, validateRows, validateTable}
-use Rattle.blocks.specs.Walk.{validateBlock, validateBlocks, validateDocument, validateItem, validateListItems}
+use Rattle.blocks.specs.Footnote.{blank_line_at, validate_footnote_definition}
+use Rattle.blocks.specs.Frontmatter.{frontmatter_kind, validate_frontmatter}
+use Rattle.blocks.specs.Heads.{validate_alert, validate_code_block, validate_definition, validate_heading}
+use Rattle.blocks.specs.Holds.{holds_blocks}
+use Rattle.blocks.specs.Html.{validate_html_container, validate_tags}
+use Rattle.blocks.specs.Item.{opens_with_paragraph, validate_blank_line, validate_item_blank_lines, validate_task_item}
+use Rattle.blocks.specs.Label.{before_blocks, validate_directive}
+use Rattle.blocks.specs.List.{count_full, holds_one_block, validate_list}
+use Rattle.blocks.specs.Number.{item_number, validate_item_number}
+use Rattle.blocks.specs.Paragraph.{validate_paragraph}
+use Rattle.blocks.specs.Table.{header_width, validate_cell, validate_cells, validate_rows, validate_table}
+use Rattle.blocks.specs.Walk.{validate_block, validate_blocks, validate_document, validate_item, validate_list_items}
 
 -- the check; a declaration that unfolds this unfolds all that the answer and the report compute with
 unfoldable pub checks : List ℕ → List ℕ → List ℕ → Answer × List ℕ
-unfolding outcome flat words judgeSheet or_else judgeFrom judgeAt judge judgeTexts levelBefore badLevel tagsFrom lacksTags countKind misplaced open_at gather opened joined parentGroup otherGroup childGroup holds place_in place_of badField badNumber mostA mostB mostC isSurrogate badSpan hasFirst hasSecond badText textOutside textIllFormed isUtf8 wellFormed follow Rattle.leaves.specs.Text.Utf8.table none trim trimCons trimEnd trimStart holdsFenceLine isFence hasBlankEdgeLine holdsLineEnding isBlank isCrOfCrlf lines longer starts_with all any first_or last_or isAttributeName isBlankIdentifier isDirectiveName isRun runs part_of hasOddEscapedPipe oddPipeAfter sameBytes isAlertTitle text_of count deeper forestAt forestOf grow past listIf ◌⊕◌ recordAt validateCodeInline validateDestination validateDirectiveName validateLinkText validateSiblings validateText isBadAttribute isUnwritable eachRecord validateCellValues validateDirectiveAttributes validateOneLine validateEmphasisContainer allEmpty startsWithWhitespace endsWithWhitespace endsWithWhitespaceAfter startsWhite endsWhite holdsJoined startsWithWhite endsWithWhite isWhite scalars decode emit leadBits trailBits finalBreak finalBreakAfter noInline validateInline validateInlineValues validateInlineNodes validateInlineNodesAfter validateInlines validateNode blankLineAt countFull frontmatterKind holdsOneBlock opensWithParagraph takesIndentedCode validateAlert validateCodeBlock validateDefinition validateFootnoteDefinition validateFrontmatter validateHeading validateHtmlContainer validateItemBlankLines validateItemNumber validateList validateTakenBlock validateTaskItem writtenMarker headerWidth validateCell validateCells validateRows validateTable beforeNext validateTags itemNumber validateBlankLine beforeBlocks validateParagraph holdsBlocks validateContainer validateHtml validateLeaf validateOwn validateBlock validateBlocks validateDirective validateDocument validateItem validateListItems
+unfolding outcome flat words judge_sheet or_else judge_from judge_at judge judge_texts level_before bad_level tags_from lacks_tags count_kind misplaced open_at gather opened joined parent_group other_group child_group holds place_in place_of bad_field bad_number most_a most_b most_c is_surrogate bad_span has_first has_second bad_text text_outside text_ill_formed is_utf8 well_formed follow Rattle.leaves.specs.Text.Utf8.table none trim trim_cons trim_end trim_start holds_fence_line is_fence has_blank_edge_line holds_line_ending is_blank is_cr_of_crlf lines longer starts_with all any first_or last_or is_attribute_name is_blank_identifier is_directive_name is_run runs part_of has_odd_escaped_pipe odd_pipe_after same_bytes is_alert_title text_of count deeper forest_at forest_of grow past list_if ◌⊕◌ record_at validate_code_inline validate_destination validate_directive_name validate_link_text validate_siblings validate_text is_bad_attribute is_unwritable each_record validate_cell_values validate_directive_attributes validate_one_line validate_emphasis_container all_empty starts_with_whitespace ends_with_whitespace ends_with_whitespace_after starts_white ends_white holds_joined starts_with_white ends_with_white is_white scalars decode emit lead_bits trail_bits final_break final_break_after no_inline validate_inline validate_inline_values validate_inline_nodes validate_inline_nodes_after validate_inlines validate_node blank_line_at count_full frontmatter_kind holds_one_block opens_with_paragraph takes_indented_code validate_alert validate_code_block validate_definition validate_footnote_definition validate_frontmatter validate_heading validate_html_container validate_item_blank_lines validate_item_number validate_list validate_taken_block validate_task_item written_marker header_width validate_cell validate_cells validate_rows validate_table before_next validate_tags item_number validate_blank_line before_blocks validate_paragraph holds_blocks validate_container validate_html validate_leaf validate_own validate_block validate_blocks validate_directive validate_document validate_item validate_list_items
 checks w bytes report = outcome w bytes report
 
 -- ---- sheets over the text `a \ | \ \ |`, and a report of nine words, each 77
@@ -98,7 +98,7 @@ cases :
     × (outcome (spanned heading 1 2 6 6 0 0 0 0) bytes report ≡ (answer 0 0, report))
     × (outcome (spanned list 1 1 9 1 3 1 0 0 ++ spanned item 2 3 8 0 1 999999999 0 0) bytes report ≡ (answer 0 0, report))
     × (outcome (spanned list 1 1 9 1 3 1 0 0 ++ spanned item 2 3 8 0 1 1000000000 0 0) bytes report ≡ (answer 0 1, 50 ∷ 1 ∷ 3 ∷ 8 ∷ 2 ∷ 0 ∷ 0 ∷ 77 ∷ 77 ∷ []))
-    × (outcome (spanned list 1 0 1 0 0 1 0 0 ++ bare item 2 0 0 0 0 0 ++ at blankLine 1 1 2 ++ spanned list 1 2 4 0 0 1 0 0 ++ bare item 2 0 0 0 0 0) bytes report ≡ (answer 0 1, 1 ∷ 1 ∷ 2 ∷ 4 ∷ 1 ∷ 2 ∷ 77 ∷ 77 ∷ 77 ∷ []))
+    × (outcome (spanned list 1 0 1 0 0 1 0 0 ++ bare item 2 0 0 0 0 0 ++ at blank_line 1 1 2 ++ spanned list 1 2 4 0 0 1 0 0 ++ bare item 2 0 0 0 0 0) bytes report ≡ (answer 0 1, 1 ∷ 1 ∷ 2 ∷ 4 ∷ 1 ∷ 2 ∷ 77 ∷ 77 ∷ 77 ∷ []))
     × (outcome (at list 1 4 8 ++ bare item 2 0 0 0 0 0 ++ block 3) bytes report ≡ (answer 0 1, 13 ∷ 1 ∷ 4 ∷ 8 ∷ 1 ∷ 0 ∷ 77 ∷ 77 ∷ 77 ∷ []))
     × (outcome (at list 1 4 8 ++ bare item 2 0 0 0 0 0 ++ block 3 ++ block 3) bytes report ≡ (answer 0 0, report))
     × (outcome (celled 1 2) bytes report ≡ (answer 0 1, 21 ∷ 1 ∷ 5 ∷ 9 ∷ 3 ∷ 0 ∷ 0 ∷ 0 ∷ 77 ∷ []))
@@ -108,10 +108,10 @@ cases = (refl, refl, refl, refl, refl, refl, refl, refl, refl, refl, refl, refl)
 
 -- ---- the span and the path of 30 (the break), 37 (the second break), 38 (the second strikethrough), 42 (the inner link); 55, whose record is the attribute, has no span
 spans :
-    (outcome (at blockQuote 1 0 9 ++ at paragraph 2 1 8 ++ says 3 ++ at lineBreak 3 5 7) bytes report ≡ (answer 0 1, 30 ∷ 1 ∷ 5 ∷ 7 ∷ 2 ∷ 0 ∷ 0 ∷ 77 ∷ 77 ∷ []))
-    × (outcome (block 1 ++ at paragraph 1 1 8 ++ at softBreak 2 2 3 ++ at softBreak 2 4 5 ++ says 2) bytes report ≡ (answer 0 1, 37 ∷ 1 ∷ 4 ∷ 5 ∷ 1 ∷ 1 ∷ 77 ∷ 77 ∷ 77 ∷ []))
+    (outcome (at block_quote 1 0 9 ++ at paragraph 2 1 8 ++ says 3 ++ at line_break 3 5 7) bytes report ≡ (answer 0 1, 30 ∷ 1 ∷ 5 ∷ 7 ∷ 2 ∷ 0 ∷ 0 ∷ 77 ∷ 77 ∷ []))
+    × (outcome (block 1 ++ at paragraph 1 1 8 ++ at soft_break 2 2 3 ++ at soft_break 2 4 5 ++ says 2) bytes report ≡ (answer 0 1, 37 ∷ 1 ∷ 4 ∷ 5 ∷ 1 ∷ 1 ∷ 77 ∷ 77 ∷ 77 ∷ []))
     × (outcome (at paragraph 1 1 8 ++ at delete 2 2 3 ++ says 3 ++ at delete 2 4 5 ++ says 3) bytes report ≡ (answer 0 1, 38 ∷ 1 ∷ 4 ∷ 5 ∷ 1 ∷ 0 ∷ 77 ∷ 77 ∷ 77 ∷ []))
     × (outcome (at paragraph 1 1 8 ++ spanned link 2 2 7 0 0 0 0 1 ++ spanned autolink 3 3 6 0 0 0 0 1) bytes report ≡ (answer 0 1, 42 ∷ 1 ∷ 3 ∷ 6 ∷ 1 ∷ 0 ∷ 77 ∷ 77 ∷ 77 ∷ []))
-    × (outcome (spanned leafDirective 1 1 8 0 0 0 0 1 ++ bare attribute 2 0 0 0 1 1) bytes report ≡ (answer 0 1, 55 ∷ 0 ∷ 0 ∷ 0 ∷ 1 ∷ 0 ∷ 77 ∷ 77 ∷ 77 ∷ []))
+    × (outcome (spanned leaf_directive 1 1 8 0 0 0 0 1 ++ bare attribute 2 0 0 0 1 1) bytes report ≡ (answer 0 1, 55 ∷ 0 ∷ 0 ∷ 0 ∷ 1 ∷ 0 ∷ 77 ∷ 77 ∷ 77 ∷ []))
 unfolding checks
 spans = (refl, refl, refl, refl, refl)

@@ -8,32 +8,32 @@ use borrow.Author.Tests.{ltb-false}
 use lib.Dec.{eqb, ltb}
 use lib.ListN.{length}
 use Rattle.leaves.specs.Text.Lists.{if◌then◌else◌}
-use Rattle.leaves.specs.Sheet.Kinds.{isKind}
-use Rattle.leaves.specs.Sheet.Records.{recordWords, recordsOf}
+use Rattle.leaves.specs.Sheet.Kinds.{is_kind}
+use Rattle.leaves.specs.Sheet.Records.{record_words, records_of}
 use Rattle.leaves.specs.Refusal.Places.{misplaced}
-use Rattle.leaves.specs.Refusal.Fields.{badField}
-use Rattle.leaves.specs.Sheet.Texts.{textOutside, textIllFormed}
+use Rattle.leaves.specs.Refusal.Fields.{bad_field}
+use Rattle.leaves.specs.Sheet.Texts.{text_outside, text_ill_formed}
 use Rattle.leaves.specs.declared.sheet.records.Rec.{Rec}
 use Rattle.leaves.specs.declared.refusal.places.Open.{Open}
 use Rattle.leaves.specs.Report.Entries.{flat}
 use Rattle.leaves.proofs.refusal.FormedLaws.{accepted}
-use Rattle.leaves.specs.Refusal.Verdict.{judgedAnswer, isAccepted, or_else}
-use Rattle.leaves.specs.Refusal.Limits.{mostRecords, mostBytes}
-use Rattle.leaves.specs.Refusal.Record.{badLevel, judgeTexts, judge}
-use Rattle.leaves.specs.Refusal.Judge.{judgeAt, judgeFrom, judgeSheet, sheetAnswer}
-use Rattle.leaves.specs.Refusal.Tags.{lacksTags, tagsFrom}
+use Rattle.leaves.specs.Refusal.Verdict.{judged_answer, is_accepted, or_else}
+use Rattle.leaves.specs.Refusal.Limits.{most_records, most_bytes}
+use Rattle.leaves.specs.Refusal.Record.{bad_level, judge_texts, judge}
+use Rattle.leaves.specs.Refusal.Judge.{judge_at, judge_from, judge_sheet, sheet_answer}
+use Rattle.leaves.specs.Refusal.Tags.{lacks_tags, tags_from}
 use Rattle.leaves.specs.declared.refusal.verdict.Judged.{Judged}
 use Rattle.leaves.specs.declared.refusal.verdict.Judged.TheVariants.{Accepted, Refused as Refuses}
 use Rattle.leaves.specs.declared.refusal.verdict.Refusal.TheVariants.{OddSheet, LongSheet, LongText, UnknownKind, BadLevel, Misplaced, BadField, TextOutside, NotUtf8, TagsMissing}
 use Rattle.leaves.proofs.refusal.VerdictLaws.{is-accepted, same_number, same-value, refusal-numbered, refusal-one}
-use Rattle.blocks.specs.Walk.{validateDocument}
-use Rattle.blocks.specs.Check.{checkedAnswer, outcome}
+use Rattle.blocks.specs.Walk.{validate_document}
+use Rattle.blocks.specs.Check.{checked_answer, outcome}
 use Rattle.blocks.proofs.CountLaws.{few-accepted}
 use Rattle.blocks.specs.declared.answer.Checked.{Checked}
 use Rattle.blocks.specs.declared.answer.Checked.TheVariants.{Listed, Refused, ShortReport}
 
 -- ---- number and value tell which answer it is
-pub checked-one : (c d : Checked) → checkedAnswer c ≡ checkedAnswer d → c ≡ d
+pub checked-one : (c d : Checked) → checked_answer c ≡ checked_answer d → c ≡ d
 checked-one (Listed m) (Listed n) e = ap Listed (same-value e)
 checked-one (Listed m) (Refused r) e = absurd (omega (arith, same_number e, (refusal-numbered r).some))
 checked-one (Listed m) ShortReport e = absurd (omega (arith, same_number e))
@@ -45,68 +45,68 @@ checked-one ShortReport (Refused r) e = absurd (omega (arith, same_number e, (re
 checked-one ShortReport ShortReport e = refl
 
 -- ---- the record of a refusal
-either : (b : Bool) (j k : Judged) (n : ℕ) → (judgedAnswer j).value ≤ n → (judgedAnswer k).value ≤ n → (judgedAnswer (if b then j else k)).value ≤ n
+either : (b : Bool) (j k : Judged) (n : ℕ) → (judged_answer j).value ≤ n → (judged_answer k).value ≤ n → (judged_answer (if b then j else k)).value ≤ n
 either true j k n g h = g
 either false j k n g h = h
 
-texts-record : (bytes : List ℕ) (i : ℕ) (r : Rec) → (judgedAnswer (judgeTexts bytes i r)).value ≤ i
-unfolding judgeTexts
+texts-record : (bytes : List ℕ) (i : ℕ) (r : Rec) → (judged_answer (judge_texts bytes i r)).value ≤ i
+unfolding judge_texts
 texts-record bytes i r =
-    let ill = textIllFormed bytes r.first || textIllFormed bytes r.second in
-    either (textOutside bytes r.first || textOutside bytes r.second) (Refuses (TextOutside i)) (if ill then Refuses (NotUtf8 i) else Accepted) i (omega arith) (either ill (Refuses (NotUtf8 i)) Accepted i (omega arith) (omega arith))
+    let ill = text_ill_formed bytes r.first || text_ill_formed bytes r.second in
+    either (text_outside bytes r.first || text_outside bytes r.second) (Refuses (TextOutside i)) (if ill then Refuses (NotUtf8 i) else Accepted) i (omega arith) (either ill (Refuses (NotUtf8 i)) Accepted i (omega arith) (omega arith))
 
-judge-record : (bytes : List ℕ) (i : ℕ) (r : Rec) (before : ℕ) (o : Open) → (judgedAnswer (judge bytes i r before o)).value ≤ i
+judge-record : (bytes : List ℕ) (i : ℕ) (r : Rec) (before : ℕ) (o : Open) → (judged_answer (judge bytes i r before o)).value ≤ i
 unfolding judge
 judge-record bytes i r before o =
-    let texts = judgeTexts bytes i r in
-    let field = if badField r then Refuses (BadField i) else texts in
+    let texts = judge_texts bytes i r in
+    let field = if bad_field r then Refuses (BadField i) else texts in
     let place = if misplaced o r.kind then Refuses (Misplaced i) else field in
-    let level = if badLevel before r.level then Refuses (BadLevel i) else place in
-    either (not (isKind r.kind)) (Refuses (UnknownKind i)) level i (omega arith)
-    (either (badLevel before r.level) (Refuses (BadLevel i)) place i (omega arith)
+    let level = if bad_level before r.level then Refuses (BadLevel i) else place in
+    either (not (is_kind r.kind)) (Refuses (UnknownKind i)) level i (omega arith)
+    (either (bad_level before r.level) (Refuses (BadLevel i)) place i (omega arith)
     (either (misplaced o r.kind) (Refuses (Misplaced i)) field i (omega arith)
-    (either (badField r) (Refuses (BadField i)) texts i (omega arith) (texts-record bytes i r))))
+    (either (bad_field r) (Refuses (BadField i)) texts i (omega arith) (texts-record bytes i r))))
 
-at-record : (w bytes : List ℕ) (i : ℕ) → (judgedAnswer (judgeAt w bytes i)).value ≤ i
-unfolding judgeAt
+at-record : (w bytes : List ℕ) (i : ℕ) → (judged_answer (judge_at w bytes i)).value ≤ i
+unfolding judge_at
 at-record w bytes i = judge-record bytes i _ _ _
 
-else-record : (j k : Judged) (n : ℕ) → (judgedAnswer j).value ≤ n → (judgedAnswer k).value ≤ n → (judgedAnswer (or_else j k)).value ≤ n
+else-record : (j k : Judged) (n : ℕ) → (judged_answer j).value ≤ n → (judged_answer k).value ≤ n → (judged_answer (or_else j k)).value ≤ n
 unfolding or_else
-else-record j k n g h = either (isAccepted j) k j n h g
+else-record j k n g h = either (is_accepted j) k j n h g
 
-from-record : (w bytes : List ℕ) (k i : ℕ) → (judgedAnswer (judgeFrom w bytes k i)).value ≤ i + k
-unfolding judgeFrom
+from-record : (w bytes : List ℕ) (k i : ℕ) → (judged_answer (judge_from w bytes k i)).value ≤ i + k
+unfolding judge_from
 from-record w bytes zero i = omega arith
-from-record w bytes (suc k) i = else-record (judgeAt w bytes i) (judgeFrom w bytes k (suc i)) (i + suc k) (omega (arith, at-record w bytes i)) (omega (arith, from-record w bytes k (suc i)))
+from-record w bytes (suc k) i = else-record (judge_at w bytes i) (judge_from w bytes k (suc i)) (i + suc k) (omega (arith, at-record w bytes i)) (omega (arith, from-record w bytes k (suc i)))
 
-tags-record : (w : List ℕ) (n k i : ℕ) → (judgedAnswer (tagsFrom w n k i)).value ≤ i + k
-unfolding tagsFrom
+tags-record : (w : List ℕ) (n k i : ℕ) → (judged_answer (tags_from w n k i)).value ≤ i + k
+unfolding tags_from
 tags-record w n zero i = omega arith
-tags-record w n (suc k) i = either (lacksTags w n i) (Refuses (TagsMissing i)) (tagsFrom w n k (suc i)) (i + suc k) (omega arith) (omega (arith, tags-record w n k (suc i)))
+tags-record w n (suc k) i = either (lacks_tags w n i) (Refuses (TagsMissing i)) (tags_from w n k (suc i)) (i + suc k) (omega arith) (omega (arith, tags-record w n k (suc i)))
 
-pub judged-record : (w bytes : List ℕ) → (sheetAnswer w bytes).value ≤ 65535
-unfolding judgeSheet
-judged-record w bytes = go (ltb mostRecords (recordsOf w)) refl
+pub judged-record : (w bytes : List ℕ) → (sheet_answer w bytes).value ≤ 65535
+unfolding judge_sheet
+judged-record w bytes = go (ltb most_records (records_of w)) refl
   where
-    go : (b : Bool) → ltb mostRecords (recordsOf w) ≡ b → (sheetAnswer w bytes).value ≤ 65535
-    go true e = rw e (either (not (eqb (length w % recordWords) 0)) (Refuses OddSheet) (Refuses LongSheet) 65535 (omega arith) (omega arith))
+    go : (b : Bool) → ltb most_records (records_of w) ≡ b → (sheet_answer w bytes).value ≤ 65535
+    go true e = rw e (either (not (eqb (length w % record_words) 0)) (Refuses OddSheet) (Refuses LongSheet) 65535 (omega arith) (omega arith))
     go false e =
-        let few : recordsOf w ≤ 65535 = ltb-false mostRecords (recordsOf w) e in
-        let judged = or_else (judgeFrom w bytes (recordsOf w) 0) (tagsFrom w (recordsOf w) (recordsOf w) 0) in
-        let one : (judgedAnswer (judgeFrom w bytes (recordsOf w) 0)).value ≤ 65535 = omega (arith, from-record w bytes (recordsOf w) 0) in
-        let two : (judgedAnswer (tagsFrom w (recordsOf w) (recordsOf w) 0)).value ≤ 65535 = omega (arith, tags-record w (recordsOf w) (recordsOf w) 0) in
-        let three : (judgedAnswer judged).value ≤ 65535 = else-record (judgeFrom w bytes (recordsOf w) 0) (tagsFrom w (recordsOf w) (recordsOf w) 0) 65535 one two in
-        rw e (either (not (eqb (length w % recordWords) 0)) (Refuses OddSheet) (if ltb mostBytes (length bytes) then Refuses LongText else judged) 65535 (omega arith) (either (ltb mostBytes (length bytes)) (Refuses LongText) judged 65535 (omega arith) three))
+        let few : records_of w ≤ 65535 = ltb-false most_records (records_of w) e in
+        let judged = or_else (judge_from w bytes (records_of w) 0) (tags_from w (records_of w) (records_of w) 0) in
+        let one : (judged_answer (judge_from w bytes (records_of w) 0)).value ≤ 65535 = omega (arith, from-record w bytes (records_of w) 0) in
+        let two : (judged_answer (tags_from w (records_of w) (records_of w) 0)).value ≤ 65535 = omega (arith, tags-record w (records_of w) (records_of w) 0) in
+        let three : (judged_answer judged).value ≤ 65535 = else-record (judge_from w bytes (records_of w) 0) (tags_from w (records_of w) (records_of w) 0) 65535 one two in
+        rw e (either (not (eqb (length w % record_words) 0)) (Refuses OddSheet) (if ltb most_bytes (length bytes) then Refuses LongText else judged) 65535 (omega arith) (either (ltb most_bytes (length bytes)) (Refuses LongText) judged 65535 (omega arith) three))
 
 -- ---- the value of an answer: a list has at most three entries for each record, so that its count always fits in half of a number for C
 pub value-word : (w bytes x : List ℕ) → (outcome w bytes x).0.value < 2 ^ 32
 unfolding outcome
-value-word w bytes x = go (isAccepted (judgeSheet w bytes)) refl (ltb (length x) (length (flat (validateDocument w bytes)))) refl
+value-word w bytes x = go (is_accepted (judge_sheet w bytes)) refl (ltb (length x) (length (flat (validate_document w bytes)))) refl
   where
-    go : (b : Bool) → isAccepted (judgeSheet w bytes) ≡ b → (c : Bool) → ltb (length x) (length (flat (validateDocument w bytes))) ≡ c → (outcome w bytes x).0.value < 2 ^ 32
+    go : (b : Bool) → is_accepted (judge_sheet w bytes) ≡ b → (c : Bool) → ltb (length x) (length (flat (validate_document w bytes))) ≡ c → (outcome w bytes x).0.value < 2 ^ 32
     go false e c f = rw e (omega (arith, judged-record w bytes))
     go true e true f = rw (e, f) (omega arith)
     go true e false f =
-        let ok = is-accepted (judgeSheet w bytes) e in
+        let ok = is-accepted (judge_sheet w bytes) e in
         rw (e, f) (omega (arith, few-accepted w bytes ok, (accepted w bytes ok).few))

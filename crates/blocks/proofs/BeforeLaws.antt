@@ -5,39 +5,39 @@ use mathlib.Core.List.{List}
 use Prim.Native.Nat.{ℕ, ◌+◌}
 use borrow.Author.Tests.{not-true, not-false, eq-eqb, ne_eqb}
 use lib.Dec.{eqb}
-use Rattle.leaves.specs.Sheet.Kinds.{isBlock, list, codeBlock, blankLine}
-use Rattle.leaves.specs.Report.Entries.{Lists, listIf}
+use Rattle.leaves.specs.Sheet.Kinds.{is_block, list, code_block, blank_line}
+use Rattle.leaves.specs.Report.Entries.{Lists, list_if}
 use Rattle.leaves.specs.declared.sheet.records.Span.{Span}
 use Rattle.leaves.specs.declared.report.entries.Tally.{Tally}
 use Rattle.leaves.proofs.report.EntryLaws.{lists-then}
 use Rattle.leaves.specs.Report.Rules
-use Rattle.blocks.specs.Before.{beforeAt, beforeNext, index_at, takesIndentedCode, validateTakenBlock}
-use Rattle.leaves.specs.Text.Marker.{writtenMarker}
+use Rattle.blocks.specs.Before.{before_at, before_next, index_at, takes_indented_code, validate_taken_block}
+use Rattle.leaves.specs.Text.Marker.{written_marker}
 use Rattle.blocks.specs.declared.before.Before.{Before}
 
-pub taken-law : (path : List ℕ) (span : Span) {s t u : Tally} {x y z : List ℕ} (before : Before) (kind a b : ℕ) {m n : ℕ} {q : Bool} → m ≡ writtenMarker before.a before.b → n ≡ writtenMarker a b → q ≡ takesIndentedCode before.kind before.a → Lists s t x y (listIf (eqb before.kind list && eqb kind list && eqb m n) Rules.adjacentLists span path) → Lists t u y z (listIf (eqb kind codeBlock && eqb a 1 && q) Rules.indentedCodeTaken span path) → Lists s u x z (validateTakenBlock path span before kind a b)
-unfolding validateTakenBlock
+pub taken-law : (path : List ℕ) (span : Span) {s t u : Tally} {x y z : List ℕ} (before : Before) (kind a b : ℕ) {m n : ℕ} {q : Bool} → m ≡ written_marker before.a before.b → n ≡ written_marker a b → q ≡ takes_indented_code before.kind before.a → Lists s t x y (list_if (eqb before.kind list && eqb kind list && eqb m n) Rules.adjacent_lists span path) → Lists t u y z (list_if (eqb kind code_block && eqb a 1 && q) Rules.indented_code_taken span path) → Lists s u x z (validate_taken_block path span before kind a b)
+unfolding validate_taken_block
 taken-law path span before kind a b e f g l m = lists-then (rw (e, f) at l) (rw g at m)
 
 -- ---- the block before the next tree, and its index
-module _ (before : Before) (kind a b : ℕ) {f : Bool} (e : f ≡ isBlock kind) where
-  pub before-other : not f ≡ true → before ≡ beforeAt before kind a b
-  unfolding beforeAt
-  before-other h = let no : isBlock kind ≡ false = not-true _ (rw e at h) in rw no
+module _ (before : Before) (kind a b : ℕ) {f : Bool} (e : f ≡ is_block kind) where
+  pub before-other : not f ≡ true → before ≡ before_at before kind a b
+  unfolding before_at
+  before-other h = let no : is_block kind ≡ false = not-true _ (rw e at h) in rw no
 
-  pub before-blank : not f ≡ false → kind ≡ blankLine → before ≡ beforeAt before kind a b
-  unfolding beforeAt beforeNext
-  before-blank h k = let block : isBlock kind ≡ true = not-false _ (rw e at h) in rw (block, eq-eqb kind blankLine k)
+  pub before-blank : not f ≡ false → kind ≡ blank_line → before ≡ before_at before kind a b
+  unfolding before_at before_next
+  before-blank h k = let block : is_block kind ≡ true = not-false _ (rw e at h) in rw (block, eq-eqb kind blank_line k)
 
-  pub before-block : not f ≡ false → (kind ≡ blankLine → ⊥) → record { kind = kind; a = a; b = b } ≡ beforeAt before kind a b
-  unfolding beforeAt beforeNext
-  before-block h k = let block : isBlock kind ≡ true = not-false _ (rw e at h) in rw (block, ne_eqb kind blankLine k)
+  pub before-block : not f ≡ false → (kind ≡ blank_line → ⊥) → record { kind = kind; a = a; b = b } ≡ before_at before kind a b
+  unfolding before_at before_next
+  before-block h k = let block : is_block kind ≡ true = not-false _ (rw e at h) in rw (block, ne_eqb kind blank_line k)
 
-module _ (k kind : ℕ) {f : Bool} (e : f ≡ isBlock kind) where
+module _ (k kind : ℕ) {f : Bool} (e : f ≡ is_block kind) where
   pub index-block : f ≡ true → k + 1 ≡ index_at k kind
   unfolding index_at
-  index-block h = let block : isBlock kind ≡ true = rw e at h in rw block
+  index-block h = let block : is_block kind ≡ true = rw e at h in rw block
 
   pub index-other : f ≡ false → k ≡ index_at k kind
   unfolding index_at
-  index-other h = let no : isBlock kind ≡ false = rw e at h in rw no
+  index-other h = let no : is_block kind ≡ false = rw e at h in rw no

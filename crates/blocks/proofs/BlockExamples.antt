@@ -2,9 +2,9 @@
 use mathlib.Core.Path.{◌≡◌, refl}
 use mathlib.Core.List.{List, [], ◌∷◌, ◌++◌, map}
 use Prim.Native.Nat.{ℕ, ◌+◌}
-use Rattle.leaves.specs.Sheet.Kinds.{paragraph, heading, blockQuote, alert, list, codeBlock, htmlContainer, definition, footnoteDefinition, table, frontmatter, leafDirective, containerDirective, blankLine, item, row, cell, htmlTag, text, softBreak}
+use Rattle.leaves.specs.Sheet.Kinds.{paragraph, heading, block_quote, alert, list, code_block, html_container, definition, footnote_definition, table, frontmatter, leaf_directive, container_directive, blank_line, item, row, cell, html_tag, text, soft_break}
 use Rattle.leaves.specs.Report.Entries.{Entry}
-use Rattle.blocks.specs.Walk.{validateDocument}
+use Rattle.blocks.specs.Walk.{validate_document}
 use Rattle.blocks.proofs.AnswerExamples.{checks}
 
 -- ---- sheets over the text `a \ | \ \ | - - - LF space`
@@ -26,34 +26,34 @@ bare kind level a b c = rec kind level a b c unnamed
 abbrev says : ℕ → List ℕ
 says level = bare paragraph level 0 0 0 ++ rec text (level + 1) 0 0 0 (0 ∷ 1 ∷ 0 ∷ 0 ∷ [])
 
-abbrev ruleOf : Entry → ℕ
-ruleOf e = e.rule
+abbrev rule_of : Entry → ℕ
+rule_of e = e.rule
 
 listed : List ℕ → List ℕ
-listed w = map ruleOf (validateDocument w bytes)
+listed w = map rule_of (validate_document w bytes)
 
 -- ---- 2; 3; 4 at either end, and once; 11; 28 and 29
-plain : (listed (bare paragraph 1 0 0 0) ≡ 2 ∷ []) × (listed (says 1) ≡ []) × (listed (bare footnoteDefinition 1 0 0 0) ≡ 3 ∷ []) × (listed (rec footnoteDefinition 1 0 0 0 (0 ∷ 1 ∷ 0 ∷ 0 ∷ [])) ≡ []) × (listed (rec footnoteDefinition 1 0 0 0 (0 ∷ 1 ∷ 0 ∷ 0 ∷ []) ++ bare blankLine 2 0 0 0 ++ says 2) ≡ 4 ∷ []) × (listed (rec footnoteDefinition 1 0 0 0 (0 ∷ 1 ∷ 0 ∷ 0 ∷ []) ++ says 2 ++ bare blankLine 2 0 0 0) ≡ 4 ∷ []) × (listed (rec footnoteDefinition 1 0 0 0 (0 ∷ 1 ∷ 0 ∷ 0 ∷ []) ++ bare blankLine 2 0 0 0 ++ says 2 ++ bare blankLine 2 0 0 0) ≡ 4 ∷ []) × (listed (rec footnoteDefinition 1 0 0 0 (0 ∷ 1 ∷ 0 ∷ 0 ∷ []) ++ says 2 ++ bare blankLine 2 0 0 0 ++ says 2) ≡ []) × (listed (rec alert 1 1 0 0 (10 ∷ 1 ∷ 0 ∷ 0 ∷ [])) ≡ 11 ∷ []) × (listed (rec alert 1 1 0 0 (0 ∷ 1 ∷ 0 ∷ 0 ∷ [])) ≡ []) × (listed (bare alert 1 0 0 0) ≡ []) × (listed (bare blockQuote 1 0 0 0 ++ rec frontmatter 2 0 0 0 (0 ∷ 1 ∷ 0 ∷ 0 ∷ [])) ≡ 28 ∷ []) × (listed (rec frontmatter 1 0 0 0 (0 ∷ 1 ∷ 0 ∷ 0 ∷ [])) ≡ []) × (listed (rec frontmatter 1 0 0 0 (6 ∷ 4 ∷ 0 ∷ 0 ∷ [])) ≡ 29 ∷ []) × (listed (rec frontmatter 1 1 0 0 (6 ∷ 4 ∷ 0 ∷ 0 ∷ [])) ≡ [])
+plain : (listed (bare paragraph 1 0 0 0) ≡ 2 ∷ []) × (listed (says 1) ≡ []) × (listed (bare footnote_definition 1 0 0 0) ≡ 3 ∷ []) × (listed (rec footnote_definition 1 0 0 0 (0 ∷ 1 ∷ 0 ∷ 0 ∷ [])) ≡ []) × (listed (rec footnote_definition 1 0 0 0 (0 ∷ 1 ∷ 0 ∷ 0 ∷ []) ++ bare blank_line 2 0 0 0 ++ says 2) ≡ 4 ∷ []) × (listed (rec footnote_definition 1 0 0 0 (0 ∷ 1 ∷ 0 ∷ 0 ∷ []) ++ says 2 ++ bare blank_line 2 0 0 0) ≡ 4 ∷ []) × (listed (rec footnote_definition 1 0 0 0 (0 ∷ 1 ∷ 0 ∷ 0 ∷ []) ++ bare blank_line 2 0 0 0 ++ says 2 ++ bare blank_line 2 0 0 0) ≡ 4 ∷ []) × (listed (rec footnote_definition 1 0 0 0 (0 ∷ 1 ∷ 0 ∷ 0 ∷ []) ++ says 2 ++ bare blank_line 2 0 0 0 ++ says 2) ≡ []) × (listed (rec alert 1 1 0 0 (10 ∷ 1 ∷ 0 ∷ 0 ∷ [])) ≡ 11 ∷ []) × (listed (rec alert 1 1 0 0 (0 ∷ 1 ∷ 0 ∷ 0 ∷ [])) ≡ []) × (listed (bare alert 1 0 0 0) ≡ []) × (listed (bare block_quote 1 0 0 0 ++ rec frontmatter 2 0 0 0 (0 ∷ 1 ∷ 0 ∷ 0 ∷ [])) ≡ 28 ∷ []) × (listed (rec frontmatter 1 0 0 0 (0 ∷ 1 ∷ 0 ∷ 0 ∷ [])) ≡ []) × (listed (rec frontmatter 1 0 0 0 (6 ∷ 4 ∷ 0 ∷ 0 ∷ [])) ≡ 29 ∷ []) × (listed (rec frontmatter 1 1 0 0 (6 ∷ 4 ∷ 0 ∷ 0 ∷ [])) ≡ [])
 unfolding checks listed
 plain = (refl, refl, refl, refl, refl, refl, refl, refl, refl, refl, refl, refl, refl, refl, refl)
 
 -- ---- 5 to 9: the names, whether they match, the sources
-tags : (listed (bare htmlContainer 1 0 0 0 ++ bare htmlTag 2 0 0 0 ++ bare htmlTag 2 0 0 0) ≡ 5 ∷ 6 ∷ 8 ∷ 9 ∷ []) × (listed (bare htmlContainer 1 0 0 0 ++ rec htmlTag 2 0 0 0 (0 ∷ 1 ∷ 0 ∷ 1 ∷ []) ++ rec htmlTag 2 0 0 0 (1 ∷ 1 ∷ 0 ∷ 1 ∷ [])) ≡ 7 ∷ []) × (listed (bare htmlContainer 1 0 0 0 ++ rec htmlTag 2 0 0 0 (0 ∷ 1 ∷ 0 ∷ 1 ∷ []) ++ rec htmlTag 2 0 0 0 (0 ∷ 1 ∷ 0 ∷ 1 ∷ []) ++ says 2) ≡ []) × (listed (bare htmlContainer 1 1 0 0 ++ rec htmlTag 2 0 0 0 (0 ∷ 1 ∷ 0 ∷ 1 ∷ []) ++ rec htmlTag 2 0 0 0 (0 ∷ 1 ∷ 0 ∷ 1 ∷ []) ++ rec text 2 0 0 0 (6 ∷ 4 ∷ 0 ∷ 0 ∷ [])) ≡ 31 ∷ [])
+tags : (listed (bare html_container 1 0 0 0 ++ bare html_tag 2 0 0 0 ++ bare html_tag 2 0 0 0) ≡ 5 ∷ 6 ∷ 8 ∷ 9 ∷ []) × (listed (bare html_container 1 0 0 0 ++ rec html_tag 2 0 0 0 (0 ∷ 1 ∷ 0 ∷ 1 ∷ []) ++ rec html_tag 2 0 0 0 (1 ∷ 1 ∷ 0 ∷ 1 ∷ [])) ≡ 7 ∷ []) × (listed (bare html_container 1 0 0 0 ++ rec html_tag 2 0 0 0 (0 ∷ 1 ∷ 0 ∷ 1 ∷ []) ++ rec html_tag 2 0 0 0 (0 ∷ 1 ∷ 0 ∷ 1 ∷ []) ++ says 2) ≡ []) × (listed (bare html_container 1 1 0 0 ++ rec html_tag 2 0 0 0 (0 ∷ 1 ∷ 0 ∷ 1 ∷ []) ++ rec html_tag 2 0 0 0 (0 ∷ 1 ∷ 0 ∷ 1 ∷ []) ++ rec text 2 0 0 0 (6 ∷ 4 ∷ 0 ∷ 0 ∷ [])) ≡ 31 ∷ [])
 unfolding checks listed
 tags = (refl, refl, refl, refl)
 
 -- ---- 12; 14 behind definitions; 49; 51, else 52, else 53; 1 for each marker
-items : (listed (bare list 1 0 0 0) ≡ 12 ∷ []) × (listed (bare list 1 0 0 1 ++ bare item 2 0 0 0) ≡ []) × (listed (bare list 1 0 0 1 ++ bare item 2 1 0 0 ++ bare paragraph 3 0 0 0) ≡ 14 ∷ 2 ∷ []) × (listed (bare list 1 0 0 1 ++ bare item 2 2 0 0 ++ rec definition 3 0 0 0 (0 ∷ 1 ∷ 0 ∷ 1 ∷ []) ++ says 3) ≡ []) × (listed (bare list 1 0 0 1 ++ bare item 2 0 1 5) ≡ 49 ∷ []) × (listed (bare list 1 0 0 1 ++ bare item 2 0 0 0 ++ bare blankLine 3 0 0 0) ≡ 51 ∷ []) × (listed (bare list 1 0 0 0 ++ bare item 2 0 0 0 ++ bare blankLine 3 0 0 0 ++ says 3 ++ bare item 2 0 0 0 ++ says 3) ≡ 52 ∷ []) × (listed (bare list 1 0 0 0 ++ bare item 2 0 0 0 ++ says 3 ++ bare item 2 0 0 0 ++ says 3 ++ bare blankLine 3 0 0 0) ≡ 53 ∷ []) × (listed (bare list 1 0 0 0 ++ bare item 2 0 0 0 ++ says 3 ++ bare blankLine 3 0 0 0 ++ bare item 2 0 0 0 ++ says 3) ≡ []) × (listed (bare list 1 0 1 1 ++ bare item 2 0 0 0 ++ bare list 1 0 0 1 ++ bare item 2 0 0 0) ≡ []) × (listed (bare list 1 0 3 1 ++ bare item 2 0 0 0 ++ bare list 1 0 0 1 ++ bare item 2 0 0 0) ≡ 1 ∷ []) × (listed (bare list 1 1 4 1 ++ bare item 2 0 0 0 ++ bare list 1 1 3 1 ++ bare item 2 0 0 0) ≡ [])
+items : (listed (bare list 1 0 0 0) ≡ 12 ∷ []) × (listed (bare list 1 0 0 1 ++ bare item 2 0 0 0) ≡ []) × (listed (bare list 1 0 0 1 ++ bare item 2 1 0 0 ++ bare paragraph 3 0 0 0) ≡ 14 ∷ 2 ∷ []) × (listed (bare list 1 0 0 1 ++ bare item 2 2 0 0 ++ rec definition 3 0 0 0 (0 ∷ 1 ∷ 0 ∷ 1 ∷ []) ++ says 3) ≡ []) × (listed (bare list 1 0 0 1 ++ bare item 2 0 1 5) ≡ 49 ∷ []) × (listed (bare list 1 0 0 1 ++ bare item 2 0 0 0 ++ bare blank_line 3 0 0 0) ≡ 51 ∷ []) × (listed (bare list 1 0 0 0 ++ bare item 2 0 0 0 ++ bare blank_line 3 0 0 0 ++ says 3 ++ bare item 2 0 0 0 ++ says 3) ≡ 52 ∷ []) × (listed (bare list 1 0 0 0 ++ bare item 2 0 0 0 ++ says 3 ++ bare item 2 0 0 0 ++ says 3 ++ bare blank_line 3 0 0 0) ≡ 53 ∷ []) × (listed (bare list 1 0 0 0 ++ bare item 2 0 0 0 ++ says 3 ++ bare blank_line 3 0 0 0 ++ bare item 2 0 0 0 ++ says 3) ≡ []) × (listed (bare list 1 0 1 1 ++ bare item 2 0 0 0 ++ bare list 1 0 0 1 ++ bare item 2 0 0 0) ≡ []) × (listed (bare list 1 0 3 1 ++ bare item 2 0 0 0 ++ bare list 1 0 0 1 ++ bare item 2 0 0 0) ≡ 1 ∷ []) × (listed (bare list 1 1 4 1 ++ bare item 2 0 0 0 ++ bare list 1 1 3 1 ++ bare item 2 0 0 0) ≡ [])
 unfolding checks listed
 items = (refl, refl, refl, refl, refl, refl, refl, refl, refl, refl, refl, refl)
 
 -- ---- 16 alone; 17, 18; 19; 20
-tables : (listed (bare table 1 1 0 0) ≡ 16 ∷ []) × (listed (bare table 1 0 0 0 ++ bare row 2 0 0 0) ≡ 17 ∷ []) × (listed (bare table 1 1 0 0 ++ bare row 2 0 0 0) ≡ 17 ∷ 18 ∷ []) × (listed (bare table 1 1 0 0 ++ bare row 2 0 0 0 ++ bare cell 3 0 0 0) ≡ []) × (listed (bare table 1 2 0 0 ++ bare row 2 0 0 0 ++ bare cell 3 0 0 0) ≡ 18 ∷ []) × (listed (bare table 1 1 0 0 ++ bare row 2 0 0 0 ++ bare cell 3 0 0 0 ++ bare row 2 0 0 0) ≡ 19 ∷ []) × (listed (bare table 1 1 0 0 ++ bare row 2 0 0 0 ++ bare cell 3 0 0 0 ++ bare softBreak 4 0 0 0) ≡ 20 ∷ [])
+tables : (listed (bare table 1 1 0 0) ≡ 16 ∷ []) × (listed (bare table 1 0 0 0 ++ bare row 2 0 0 0) ≡ 17 ∷ []) × (listed (bare table 1 1 0 0 ++ bare row 2 0 0 0) ≡ 17 ∷ 18 ∷ []) × (listed (bare table 1 1 0 0 ++ bare row 2 0 0 0 ++ bare cell 3 0 0 0) ≡ []) × (listed (bare table 1 2 0 0 ++ bare row 2 0 0 0 ++ bare cell 3 0 0 0) ≡ 18 ∷ []) × (listed (bare table 1 1 0 0 ++ bare row 2 0 0 0 ++ bare cell 3 0 0 0 ++ bare row 2 0 0 0) ≡ 19 ∷ []) × (listed (bare table 1 1 0 0 ++ bare row 2 0 0 0 ++ bare cell 3 0 0 0 ++ bare soft_break 4 0 0 0) ≡ 20 ∷ [])
 unfolding checks listed
 tables = (refl, refl, refl, refl, refl, refl, refl)
 
 -- ---- 15; 22; 23, and not in the blocks of a container directive; 24, 25; 26, 27
-others : (listed (rec codeBlock 1 1 0 0 (0 ∷ 1 ∷ 0 ∷ 0 ∷ []) ++ bare blankLine 1 0 0 0 ++ rec codeBlock 1 1 0 0 (0 ∷ 1 ∷ 0 ∷ 0 ∷ [])) ≡ 15 ∷ []) × (listed (rec codeBlock 1 0 0 0 (0 ∷ 1 ∷ 0 ∷ 0 ∷ []) ++ rec codeBlock 1 1 0 0 (0 ∷ 1 ∷ 0 ∷ 0 ∷ [])) ≡ []) × (listed (rec footnoteDefinition 1 0 0 0 (0 ∷ 1 ∷ 0 ∷ 0 ∷ []) ++ rec codeBlock 1 1 0 0 (0 ∷ 1 ∷ 0 ∷ 0 ∷ [])) ≡ 15 ∷ []) × (listed (rec footnoteDefinition 1 0 0 0 (0 ∷ 1 ∷ 0 ∷ 0 ∷ []) ++ rec codeBlock 1 0 0 0 (0 ∷ 1 ∷ 0 ∷ 0 ∷ [])) ≡ []) × (listed (rec leafDirective 1 0 0 0 (0 ∷ 1 ∷ 0 ∷ 0 ∷ []) ++ bare softBreak 2 0 0 0) ≡ 22 ∷ []) × (listed (rec leafDirective 1 0 0 0 (0 ∷ 1 ∷ 0 ∷ 0 ∷ []) ++ rec text 2 0 0 0 (0 ∷ 1 ∷ 0 ∷ 0 ∷ [])) ≡ []) × (listed (rec containerDirective 1 0 0 0 (0 ∷ 1 ∷ 0 ∷ 0 ∷ []) ++ bare softBreak 2 0 0 0) ≡ 23 ∷ []) × (listed (rec containerDirective 1 0 0 0 (0 ∷ 1 ∷ 0 ∷ 0 ∷ []) ++ bare paragraph 2 0 0 0 ++ bare softBreak 3 0 0 0) ≡ []) × (listed (rec definition 1 0 0 0 (10 ∷ 1 ∷ 0 ∷ 1 ∷ [])) ≡ 24 ∷ []) × (listed (rec definition 1 0 0 0 (0 ∷ 1 ∷ 0 ∷ 0 ∷ [])) ≡ 25 ∷ []) × (listed (rec definition 1 1 0 0 (0 ∷ 1 ∷ 0 ∷ 0 ∷ [])) ≡ []) × (listed (rec codeBlock 1 0 1 0 (0 ∷ 0 ∷ 0 ∷ 0 ∷ [])) ≡ 26 ∷ []) × (listed (rec codeBlock 1 0 1 0 (0 ∷ 0 ∷ 0 ∷ 1 ∷ [])) ≡ []) × (listed (bare codeBlock 1 1 0 0) ≡ 27 ∷ []) × (listed (rec codeBlock 1 1 0 0 (6 ∷ 5 ∷ 0 ∷ 0 ∷ [])) ≡ 27 ∷ []) × (listed (rec codeBlock 1 1 0 0 (6 ∷ 4 ∷ 0 ∷ 0 ∷ [])) ≡ [])
+others : (listed (rec code_block 1 1 0 0 (0 ∷ 1 ∷ 0 ∷ 0 ∷ []) ++ bare blank_line 1 0 0 0 ++ rec code_block 1 1 0 0 (0 ∷ 1 ∷ 0 ∷ 0 ∷ [])) ≡ 15 ∷ []) × (listed (rec code_block 1 0 0 0 (0 ∷ 1 ∷ 0 ∷ 0 ∷ []) ++ rec code_block 1 1 0 0 (0 ∷ 1 ∷ 0 ∷ 0 ∷ [])) ≡ []) × (listed (rec footnote_definition 1 0 0 0 (0 ∷ 1 ∷ 0 ∷ 0 ∷ []) ++ rec code_block 1 1 0 0 (0 ∷ 1 ∷ 0 ∷ 0 ∷ [])) ≡ 15 ∷ []) × (listed (rec footnote_definition 1 0 0 0 (0 ∷ 1 ∷ 0 ∷ 0 ∷ []) ++ rec code_block 1 0 0 0 (0 ∷ 1 ∷ 0 ∷ 0 ∷ [])) ≡ []) × (listed (rec leaf_directive 1 0 0 0 (0 ∷ 1 ∷ 0 ∷ 0 ∷ []) ++ bare soft_break 2 0 0 0) ≡ 22 ∷ []) × (listed (rec leaf_directive 1 0 0 0 (0 ∷ 1 ∷ 0 ∷ 0 ∷ []) ++ rec text 2 0 0 0 (0 ∷ 1 ∷ 0 ∷ 0 ∷ [])) ≡ []) × (listed (rec container_directive 1 0 0 0 (0 ∷ 1 ∷ 0 ∷ 0 ∷ []) ++ bare soft_break 2 0 0 0) ≡ 23 ∷ []) × (listed (rec container_directive 1 0 0 0 (0 ∷ 1 ∷ 0 ∷ 0 ∷ []) ++ bare paragraph 2 0 0 0 ++ bare soft_break 3 0 0 0) ≡ []) × (listed (rec definition 1 0 0 0 (10 ∷ 1 ∷ 0 ∷ 1 ∷ [])) ≡ 24 ∷ []) × (listed (rec definition 1 0 0 0 (0 ∷ 1 ∷ 0 ∷ 0 ∷ [])) ≡ 25 ∷ []) × (listed (rec definition 1 1 0 0 (0 ∷ 1 ∷ 0 ∷ 0 ∷ [])) ≡ []) × (listed (rec code_block 1 0 1 0 (0 ∷ 0 ∷ 0 ∷ 0 ∷ [])) ≡ 26 ∷ []) × (listed (rec code_block 1 0 1 0 (0 ∷ 0 ∷ 0 ∷ 1 ∷ [])) ≡ []) × (listed (bare code_block 1 1 0 0) ≡ 27 ∷ []) × (listed (rec code_block 1 1 0 0 (6 ∷ 5 ∷ 0 ∷ 0 ∷ [])) ≡ 27 ∷ []) × (listed (rec code_block 1 1 0 0 (6 ∷ 4 ∷ 0 ∷ 0 ∷ [])) ≡ [])
 unfolding checks listed
 others = (refl, refl, refl, refl, refl, refl, refl, refl, refl, refl, refl, refl, refl, refl, refl, refl)
 
@@ -62,8 +62,8 @@ abbrev place_of : Entry → List ℕ
 place_of e = e.rule ∷ e.span.start ∷ e.path
 
 places : List ℕ → List (List ℕ)
-places w = map place_of (validateDocument w bytes)
+places w = map place_of (validate_document w bytes)
 
-placed : (places (says 1 ++ bare blockQuote 1 0 0 0 ++ says 2 ++ bare heading 2 9 0 0) ≡ (10 ∷ 0 ∷ 1 ∷ 1 ∷ []) ∷ []) × (places (rec footnoteDefinition 1 0 0 0 (0 ∷ 1 ∷ 0 ∷ 0 ∷ []) ++ says 2 ++ bare blankLine 2 0 0 0) ≡ (4 ∷ 0 ∷ 0 ∷ 1 ∷ []) ∷ []) × (places (bare list 1 0 0 1 ++ bare item 2 0 0 0 ++ bare item 2 0 0 0 ++ says 3 ++ bare blankLine 3 0 0 0) ≡ (51 ∷ 0 ∷ 0 ∷ 1 ∷ 1 ∷ []) ∷ []) × (places (bare table 1 1 0 0 ++ bare row 2 0 0 0 ++ bare cell 3 0 0 0 ++ bare softBreak 4 0 0 0 ++ bare row 2 0 0 0) ≡ (20 ∷ 0 ∷ 0 ∷ 0 ∷ 0 ∷ []) ∷ (19 ∷ 0 ∷ 0 ∷ 1 ∷ []) ∷ []) × (places (bare htmlContainer 1 0 0 0 ++ (htmlTag ∷ 2 ∷ 1 ∷ 5 ∷ 8 ∷ 0 ∷ 0 ∷ 0 ∷ 0 ∷ 1 ∷ 0 ∷ 0 ∷ []) ++ rec htmlTag 2 0 0 0 (0 ∷ 1 ∷ 0 ∷ 1 ∷ []) ++ bare heading 2 7 0 0) ≡ (8 ∷ 5 ∷ 0 ∷ []) ∷ (10 ∷ 0 ∷ 0 ∷ 0 ∷ []) ∷ [])
+placed : (places (says 1 ++ bare block_quote 1 0 0 0 ++ says 2 ++ bare heading 2 9 0 0) ≡ (10 ∷ 0 ∷ 1 ∷ 1 ∷ []) ∷ []) × (places (rec footnote_definition 1 0 0 0 (0 ∷ 1 ∷ 0 ∷ 0 ∷ []) ++ says 2 ++ bare blank_line 2 0 0 0) ≡ (4 ∷ 0 ∷ 0 ∷ 1 ∷ []) ∷ []) × (places (bare list 1 0 0 1 ++ bare item 2 0 0 0 ++ bare item 2 0 0 0 ++ says 3 ++ bare blank_line 3 0 0 0) ≡ (51 ∷ 0 ∷ 0 ∷ 1 ∷ 1 ∷ []) ∷ []) × (places (bare table 1 1 0 0 ++ bare row 2 0 0 0 ++ bare cell 3 0 0 0 ++ bare soft_break 4 0 0 0 ++ bare row 2 0 0 0) ≡ (20 ∷ 0 ∷ 0 ∷ 0 ∷ 0 ∷ []) ∷ (19 ∷ 0 ∷ 0 ∷ 1 ∷ []) ∷ []) × (places (bare html_container 1 0 0 0 ++ (html_tag ∷ 2 ∷ 1 ∷ 5 ∷ 8 ∷ 0 ∷ 0 ∷ 0 ∷ 0 ∷ 1 ∷ 0 ∷ 0 ∷ []) ++ rec html_tag 2 0 0 0 (0 ∷ 1 ∷ 0 ∷ 1 ∷ []) ++ bare heading 2 7 0 0) ≡ (8 ∷ 5 ∷ 0 ∷ []) ∷ (10 ∷ 0 ∷ 0 ∷ 0 ∷ []) ∷ [])
 unfolding checks places
 placed = (refl, refl, refl, refl, refl)

@@ -4,17 +4,17 @@ use mathlib.Core.Bool.{Bool}
 use mathlib.Core.List.{List}
 use Prim.Native.Nat.{ℕ}
 use lib.Dec.{ltb}
-use Rattle.leaves.specs.Text.Fence.{holdsFenceLine}
+use Rattle.leaves.specs.Text.Fence.{holds_fence_line}
 use Rattle.leaves.specs.declared.text.fence.FrontmatterKind.{FrontmatterKind}
 use Rattle.leaves.specs.Sheet.Texts.{text_of}
-use Rattle.leaves.specs.Report.Entries.{Lists, listIf}
+use Rattle.leaves.specs.Report.Entries.{Lists, list_if}
 use Rattle.leaves.specs.declared.sheet.records.Span.{Span}
 use Rattle.leaves.specs.declared.sheet.records.Text.{Text}
 use Rattle.leaves.specs.declared.report.entries.Tally.{Tally}
 use Rattle.leaves.proofs.report.EntryLaws.{lists-then}
 use Rattle.leaves.specs.Report.Rules
-use Rattle.blocks.specs.Frontmatter.{frontmatterKind, validateFrontmatter}
+use Rattle.blocks.specs.Frontmatter.{frontmatter_kind, validate_frontmatter}
 
-pub frontmatter-law : (path : List ℕ) (span : Span) {s t u : Tally} {x y z : List ℕ} (bytes : List ℕ) (level a : ℕ) (value : Text) {n : List ℕ} {k : FrontmatterKind} {q : Bool} → n ≡ text_of bytes value → k ≡ frontmatterKind a → q ≡ holdsFenceLine k n → Lists s t x y (listIf (ltb 1 level) Rules.frontmatterInside span path) → Lists t u y z (listIf q Rules.fenceInFrontmatter span path) → Lists s u x z (validateFrontmatter bytes path span level a value)
-unfolding validateFrontmatter
+pub frontmatter-law : (path : List ℕ) (span : Span) {s t u : Tally} {x y z : List ℕ} (bytes : List ℕ) (level a : ℕ) (value : Text) {n : List ℕ} {k : FrontmatterKind} {q : Bool} → n ≡ text_of bytes value → k ≡ frontmatter_kind a → q ≡ holds_fence_line k n → Lists s t x y (list_if (ltb 1 level) Rules.frontmatter_inside span path) → Lists t u y z (list_if q Rules.fence_in_frontmatter span path) → Lists s u x z (validate_frontmatter bytes path span level a value)
+unfolding validate_frontmatter
 frontmatter-law path span bytes level a value f e g l m = lists-then l (rw (g, f, e) at m)

@@ -7,30 +7,30 @@ use native.Mathlib.Omega.{arith}
 use borrow.Author.Tests.{lt-ltb, le-ltb, ltb-true, ltb-false, eqb-true}
 use lib.Dec.{eqb, ltb}
 use Rattle.leaves.specs.Text.Lists.{if◌then◌else◌}
-use Rattle.leaves.specs.Sheet.Kinds.{isKind, isBlock, list, item}
-use Rattle.leaves.specs.Sheet.Forest.{Forest, none, tree, forestOf}
+use Rattle.leaves.specs.Sheet.Kinds.{is_kind, is_block, list, item}
+use Rattle.leaves.specs.Sheet.Forest.{Forest, none, tree, forest_of}
 use Rattle.leaves.specs.declared.sheet.records.Rec.{Rec}
-use Rattle.leaves.specs.Refusal.Groups.{holdsBlocks, holdsItems, parentGroup}
+use Rattle.leaves.specs.Refusal.Groups.{holds_blocks, holds_items, parent_group}
 use Rattle.leaves.specs.Refusal.Places.{opened, joined, misplaced}
 use Rattle.leaves.specs.declared.refusal.places.Open.{Open}
 use Rattle.leaves.proofs.refusal.PlacedLaws.{items-only, joined-group, opened-group}
 use Rattle.leaves.specs.Refusal.Formed.{Formed, Sound}
-use Rattle.blocks.specs.WalkDepth.{depthUnder, Counted}
+use Rattle.blocks.specs.WalkDepth.{depth_under, Counted}
 
 -- where a block may stand under a parent of the level l, that level and the depth are both 0 or both above it
 abbrev Agree : ℕ → ℕ → ℕ → Type 0
-Agree group l depth = (o : Open) (k : ℕ) → o.group ≡ group → isKind k ≡ true → isBlock k ≡ true → misplaced o k ≡ false → ltb 0 l ≡ ltb 0 depth
+Agree group l depth = (o : Open) (k : ℕ) → o.group ≡ group → is_kind k ≡ true → is_block k ≡ true → misplaced o k ≡ false → ltb 0 l ≡ ltb 0 depth
 
-no_item : (k : ℕ) → isBlock k ≡ true → eqb k item ≡ true → ⊥
-no_item k b e = true≢false (sym b ∙ ap isBlock (eqb-true k item e))
+no_item : (k : ℕ) → is_block k ≡ true → eqb k item ≡ true → ⊥
+no_item k b e = true≢false (sym b ∙ ap is_block (eqb-true k item e))
 
-list-items : (kind a : ℕ) → eqb kind list ≡ true → parentGroup kind a ≡ holdsItems
-unfolding parentGroup
+list-items : (kind a : ℕ) → eqb kind list ≡ true → parent_group kind a ≡ holds_items
+unfolding parent_group
 list-items kind a e = rw (eqb-true kind list e)
 
 -- no block stands in a list, and below every other record both are above 0
-agree-under : (r : Rec) (l depth : ℕ) → Agree (parentGroup r.kind r.a) (l + 1) (depthUnder depth r)
-unfolding depthUnder
+agree-under : (r : Rec) (l depth : ℕ) → Agree (parent_group r.kind r.a) (l + 1) (depth_under depth r)
+unfolding depth_under
 agree-under r l depth o k g known b m = go (eqb r.kind list) refl
   where
     go : (t : Bool) → eqb r.kind list ≡ t → ltb 0 (l + 1) ≡ ltb 0 (if t then depth else suc depth)
@@ -48,12 +48,12 @@ counted : (bytes : List ℕ) (l depth : ℕ) (o : Open) (ts : Forest) → Formed
 unfolding Formed Counted
 counted bytes l depth o none f a = tt
 counted bytes l depth o (tree r kids rest) f a =
-    let below : Agree (opened (parentGroup r.kind r.a)).group (l + 1) (depthUnder depth r) = rw (opened-group (parentGroup r.kind r.a)) (agree-under r l depth) in
+    let below : Agree (opened (parent_group r.kind r.a)).group (l + 1) (depth_under depth r) = rw (opened-group (parent_group r.kind r.a)) (agree-under r l depth) in
     let beside : Agree (joined o r.kind).group l depth = rw (joined-group o r.kind) a in (
       λ b. rw f.0.level (shift l ∙ a o r.kind refl f.0.kind b f.0.place),
-      counted bytes (l + 1) (depthUnder depth r) (opened (parentGroup r.kind r.a)) kids f.1 below,
+      counted bytes (l + 1) (depth_under depth r) (opened (parent_group r.kind r.a)) kids f.1 below,
       counted bytes l depth (joined o r.kind) rest f.2 beside,
     )
 
-pub depth-counted : (w bytes : List ℕ) → Sound w bytes → Counted 0 (forestOf w)
-depth-counted w bytes s = counted bytes 0 0 (opened holdsBlocks) (forestOf w) s.tree (λ o k g known b m. refl)
+pub depth-counted : (w bytes : List ℕ) → Sound w bytes → Counted 0 (forest_of w)
+depth-counted w bytes s = counted bytes 0 0 (opened holds_blocks) (forest_of w) s.tree (λ o k g known b m. refl)

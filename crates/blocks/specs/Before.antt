@@ -2,25 +2,25 @@
 -- the name of its function in validate.rs. `path` is the block's own.
 use Rattle.std.specs.Prelude.{ℕ, ◌+◌, Bool, ◌&&◌, ◌||◌, List, eqb}
 use Rattle.leaves.specs.Text.Lists.{if◌then◌else◌}
-use Rattle.leaves.specs.Sheet.Kinds.{isBlock, list, codeBlock, footnoteDefinition, blankLine}
-use Rattle.leaves.specs.Report.Entries.{Entry, listIf, ◌⊕◌}
+use Rattle.leaves.specs.Sheet.Kinds.{is_block, list, code_block, footnote_definition, blank_line}
+use Rattle.leaves.specs.Report.Entries.{Entry, list_if, ◌⊕◌}
 use Rattle.leaves.specs.declared.sheet.records.Span.{Span}
-use Rattle.leaves.specs.Text.Marker.{writtenMarker}
+use Rattle.leaves.specs.Text.Marker.{written_marker}
 use Rattle.leaves.specs.Report.Rules
 use Rattle.blocks.specs.declared.before.Before.{Before}
 
 -- `takes_indented_code`
-unfoldable pub takesIndentedCode : ℕ → ℕ → Bool
-takesIndentedCode kind a = eqb kind codeBlock && eqb a 1 || eqb kind footnoteDefinition
+unfoldable pub takes_indented_code : ℕ → ℕ → Bool
+takes_indented_code kind a = eqb kind code_block && eqb a 1 || eqb kind footnote_definition
 
 -- The first part of `validate_blocks`, and `validate_taken_block`: 1, 15.
 -- `before` is the last block before this one that is not a blank line; its kind is 0 where there is none.
-unfoldable pub validateTakenBlock : List ℕ → Span → Before → ℕ → ℕ → ℕ → List Entry
-validateTakenBlock path span before kind a b =
-    let same = eqb (writtenMarker before.a before.b) (writtenMarker a b) in
-    let taken = takesIndentedCode before.kind before.a in
-    listIf (eqb before.kind list && eqb kind list && same) Rules.adjacentLists span path
-    ⊕ listIf (eqb kind codeBlock && eqb a 1 && taken) Rules.indentedCodeTaken span path
+unfoldable pub validate_taken_block : List ℕ → Span → Before → ℕ → ℕ → ℕ → List Entry
+validate_taken_block path span before kind a b =
+    let same = eqb (written_marker before.a before.b) (written_marker a b) in
+    let taken = takes_indented_code before.kind before.a in
+    list_if (eqb before.kind list && eqb kind list && same) Rules.adjacent_lists span path
+    ⊕ list_if (eqb kind code_block && eqb a 1 && taken) Rules.indented_code_taken span path
 
 -- what the first block has before it: no block
 abbrev pub first : Before
@@ -28,13 +28,13 @@ first = record { kind = 0; a = 0; b = 0 }
 
 -- The block before the next one. validate.rs: "Blank lines beyond the separator change how no block reads, so the
 -- block before each one is the last one before them."
-unfoldable pub beforeNext : Before → ℕ → ℕ → ℕ → Before
-beforeNext before kind a b = if eqb kind blankLine then before else record { kind = kind; a = a; b = b }
+unfoldable pub before_next : Before → ℕ → ℕ → ℕ → Before
+before_next before kind a b = if eqb kind blank_line then before else record { kind = kind; a = a; b = b }
 
 -- For the walk by index: the block before the next tree, and the next tree's index where that is a block. A tree that
--- is not a block changes neither. A reader need not believe these two: `validateDocument` does not cite them.
-unfoldable pub beforeAt : Before → ℕ → ℕ → ℕ → Before
-beforeAt before kind a b = if isBlock kind then beforeNext before kind a b else before
+-- is not a block changes neither. A reader need not believe these two: `validate_document` does not cite them.
+unfoldable pub before_at : Before → ℕ → ℕ → ℕ → Before
+before_at before kind a b = if is_block kind then before_next before kind a b else before
 
 unfoldable pub index_at : ℕ → ℕ → ℕ
-index_at k kind = if isBlock kind then k + 1 else k
+index_at k kind = if is_block kind then k + 1 else k

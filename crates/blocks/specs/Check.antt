@@ -2,10 +2,10 @@
 use Rattle.std.specs.Prelude.{ℕ, not, List, ◌++◌, ltb, length, drop}
 use Rattle.leaves.specs.Text.Lists.{if◌then◌else◌}
 use Rattle.leaves.specs.Report.Entries.{flat}
-use Rattle.leaves.specs.Refusal.Verdict.{Answer, answer, isAccepted}
-use Rattle.leaves.specs.Refusal.Judge.{judgeSheet, sheetAnswer}
-pub use Rattle.blocks.specs.Answer.{shortReport, checkedAnswer}
-use Rattle.blocks.specs.Walk.{validateDocument}
+use Rattle.leaves.specs.Refusal.Verdict.{Answer, answer, is_accepted}
+use Rattle.leaves.specs.Refusal.Judge.{judge_sheet, sheet_answer}
+pub use Rattle.blocks.specs.Answer.{short_report, checked_answer}
+use Rattle.blocks.specs.Walk.{validate_document}
 
 -- The answer for a sheet, its text and a report, by number and value, and the report after it.
 -- "Order: 1, 2, 3; then 4 to 9 record by record; then 10 ..; then 11": 11 where the "list needs more words" than
@@ -13,9 +13,9 @@ use Rattle.blocks.specs.Walk.{validateDocument}
 -- "An accepted check answers 0 and the number of entries."
 unfoldable pub outcome : List ℕ → List ℕ → List ℕ → Answer × List ℕ
 outcome w bytes report =
-    let es = validateDocument w bytes in
-    if not (isAccepted (judgeSheet w bytes))
-    then (sheetAnswer w bytes, report)
+    let es = validate_document w bytes in
+    if not (is_accepted (judge_sheet w bytes))
+    then (sheet_answer w bytes, report)
     else if ltb (length report) (length (flat es))
-    then (answer shortReport 0, report)
+    then (answer short_report 0, report)
     else (answer 0 (length es), flat es ++ drop (length (flat es)) report)

@@ -3,25 +3,25 @@
 -- definition".
 use Rattle.std.specs.Prelude.{ℕ, suc, true, ◌&&◌, ◌||◌, List, [], ◌∷◌, ◌++◌, eqb}
 use Rattle.leaves.specs.Text.Lists.{if◌then◌else◌}
-use Rattle.leaves.specs.Sheet.Kinds.{blankLine}
+use Rattle.leaves.specs.Sheet.Kinds.{blank_line}
 use Rattle.leaves.specs.Sheet.Forest.{Forest, none, tree, count}
-use Rattle.leaves.specs.Report.Entries.{Entry, listIf, ◌⊕◌}
+use Rattle.leaves.specs.Report.Entries.{Entry, list_if, ◌⊕◌}
 use Rattle.leaves.specs.declared.sheet.records.Span.{Span}
 use Rattle.leaves.specs.declared.sheet.records.Text.{Text}
 use Rattle.leaves.specs.Report.Rules
 use Rattle.leaves.specs.Sheet.Empty.{is_empty}
 
 -- 4 at a blank line that is the first block, or else at one that is the last. k blocks stand before these trees.
-unfoldable pub blankLineAt : List ℕ → ℕ → Forest → List Entry
-blankLineAt path k none = []
-blankLineAt path k (tree r kids rest) =
-    let later = blankLineAt path (suc k) rest in
-    if eqb r.kind blankLine && (eqb k 0 || eqb (count rest) 0)
-    then listIf true Rules.blankLineInFootnote r.span (path ++ k ∷ [])
+unfoldable pub blank_line_at : List ℕ → ℕ → Forest → List Entry
+blank_line_at path k none = []
+blank_line_at path k (tree r kids rest) =
+    let later = blank_line_at path (suc k) rest in
+    if eqb r.kind blank_line && (eqb k 0 || eqb (count rest) 0)
+    then list_if true Rules.blank_line_in_footnote r.span (path ++ k ∷ [])
     else later
 
 -- 3, then 4. Document 01: "rule 4 reports once though both ends are blank".
-unfoldable pub validateFootnoteDefinition : List ℕ → Span → Text → Forest → List Entry
-validateFootnoteDefinition path span identifier kids =
-    listIf (is_empty identifier) Rules.emptyFootnoteDefinition span path
-    ⊕ blankLineAt path 0 kids
+unfoldable pub validate_footnote_definition : List ℕ → Span → Text → Forest → List Entry
+validate_footnote_definition path span identifier kids =
+    list_if (is_empty identifier) Rules.empty_footnote_definition span path
+    ⊕ blank_line_at path 0 kids

@@ -4,36 +4,36 @@
 -- definition".
 use Rattle.std.specs.Prelude.{ℕ, suc, Bool, false, not, ◌&&◌, List, [], ◌∷◌, ◌++◌, eqb}
 use Rattle.leaves.specs.Text.Lists.{if◌then◌else◌}
-use Rattle.leaves.specs.Sheet.Kinds.{paragraph, definition, blankLine}
+use Rattle.leaves.specs.Sheet.Kinds.{paragraph, definition, blank_line}
 use Rattle.leaves.specs.Sheet.Forest.{Forest, none, tree, count}
-use Rattle.leaves.specs.Report.Entries.{Entry, listIf, ◌⊕◌}
+use Rattle.leaves.specs.Report.Entries.{Entry, list_if, ◌⊕◌}
 use Rattle.leaves.specs.declared.sheet.records.Span.{Span}
 use Rattle.leaves.specs.Report.Rules
 
 -- One block of an item: where it is a blank line (`blank`), 51, or else 52, or else 53. `first`: it is the item's first
 -- block. `last`: it is the last block of the list's last item.
-unfoldable pub validateBlankLine : List ℕ → Span → Bool → Bool → Bool → Bool → List Entry
-validateBlankLine path span blank tight first last =
-    listIf (blank && tight) Rules.blankLineInTightList span path
-    ⊕ listIf (blank && not tight && first) Rules.blankLineFirst span path
-    ⊕ listIf (blank && not tight && not first && last) Rules.blankLineLast span path
+unfoldable pub validate_blank_line : List ℕ → Span → Bool → Bool → Bool → Bool → List Entry
+validate_blank_line path span blank tight first last =
+    list_if (blank && tight) Rules.blank_line_in_tight_list span path
+    ⊕ list_if (blank && not tight && first) Rules.blank_line_first span path
+    ⊕ list_if (blank && not tight && not first && last) Rules.blank_line_last span path
 
 -- `validate_item_blank_lines`. `last`: the item is the list's last. k blocks stand before these trees.
-unfoldable pub validateItemBlankLines : List ℕ → Bool → Bool → ℕ → Forest → List Entry
-validateItemBlankLines path tight last k none = []
-validateItemBlankLines path tight last k (tree r kids rest) =
-    let blank = eqb r.kind blankLine in
-    validateBlankLine (path ++ k ∷ []) r.span blank tight (eqb k 0) (last && eqb (count rest) 0)
-    ⊕ validateItemBlankLines path tight last (suc k) rest
+unfoldable pub validate_item_blank_lines : List ℕ → Bool → Bool → ℕ → Forest → List Entry
+validate_item_blank_lines path tight last k none = []
+validate_item_blank_lines path tight last k (tree r kids rest) =
+    let blank = eqb r.kind blank_line in
+    validate_blank_line (path ++ k ∷ []) r.span blank tight (eqb k 0) (last && eqb (count rest) 0)
+    ⊕ validate_item_blank_lines path tight last (suc k) rest
 
 -- the first block that is not a definition is a paragraph with a child
-unfoldable pub opensWithParagraph : Forest → Bool
-opensWithParagraph none = false
-opensWithParagraph (tree r kids rest) =
-    let later = opensWithParagraph rest in
+unfoldable pub opens_with_paragraph : Forest → Bool
+opens_with_paragraph none = false
+opens_with_paragraph (tree r kids rest) =
+    let later = opens_with_paragraph rest in
     if eqb r.kind definition then later else eqb r.kind paragraph && not (eqb (count kids) 0)
 
 -- `validate_task_item`: 14, where the item has a checkbox (A is not 0)
-unfoldable pub validateTaskItem : List ℕ → Span → ℕ → Forest → List Entry
-validateTaskItem path span checked kids =
-    listIf (not (eqb checked 0) && not (opensWithParagraph kids)) Rules.taskItem span path
+unfoldable pub validate_task_item : List ℕ → Span → ℕ → Forest → List Entry
+validate_task_item path span checked kids =
+    list_if (not (eqb checked 0) && not (opens_with_paragraph kids)) Rules.task_item span path

@@ -1,6 +1,6 @@
 // The answer of the check, with its number and its record or count.
 ghost use Rattle.std.specs.Prelude.{◌≡◌};
-ghost use Rattle.blocks.specs.Answer.{checkedAnswer};
+ghost use Rattle.blocks.specs.Answer.{checked_answer};
 
 use leaves::refusal::verdict;
 use leaves::refusal::verdict::Refusal;
@@ -17,7 +17,7 @@ const SHORT_REPORT: u32 = 11;
 
 // Document 01's number of the answer; 0 where the sheet is accepted.
 pub fn answer_number(c: Checked) -> u32
-    ensures { result ≡ (checkedAnswer c).number }
+    ensures { result ≡ (checked_answer c).number }
 {
     match c {
         Checked::Listed(_) => 0,
@@ -28,7 +28,7 @@ pub fn answer_number(c: Checked) -> u32
 
 // The number of entries, or the record of a refusal.
 pub fn answer_value(c: Checked) -> usize
-    ensures { result ≡ (checkedAnswer c).value }
+    ensures { result ≡ (checked_answer c).value }
 {
     match c {
         Checked::Listed(entries) => entries,

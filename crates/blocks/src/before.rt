@@ -1,8 +1,8 @@
 // What a block reports because of the block before it, and which block stands before the next one.
 ghost use Rattle.std.specs.Prelude.{◌≡◌, ◌≤◌, length};
-ghost use Rattle.leaves.specs.Refusal.Limits.{mostLevel, mostRecords};
+ghost use Rattle.leaves.specs.Refusal.Limits.{most_level, most_records};
 ghost use Rattle.leaves.specs.Report.Entries.{Lists};
-ghost use Rattle.blocks.specs.Before.{beforeAt, index_at, takesIndentedCode, validateTakenBlock};
+ghost use Rattle.blocks.specs.Before.{before_at, index_at, takes_indented_code, validate_taken_block};
 
 use leaves::report::entries::{Tally, list_if};
 use leaves::report::rules;
@@ -20,7 +20,7 @@ pub struct Before {
 
 // Indented code and footnote definitions take the lines of indented code that follows them.
 fn takes_indented_code(kind: u32, a: u32) -> bool
-    ensures { result ≡ takesIndentedCode kind a }
+    ensures { result ≡ takes_indented_code kind a }
 {
     ((kind == kinds::CODE_BLOCK) & (a == 1)) | (kind == kinds::FOOTNOTE_DEFINITION)
 }
@@ -36,9 +36,9 @@ pub(crate) fn validate_taken_block(
     b: u32,
     tally: Tally,
 ) -> Tally
-    requires { length path.now ≤ mostLevel }
+    requires { length path.now ≤ most_level }
     ensures { Lists tally result report.old report.new
-        (validateTakenBlock path.now span before kind a b) }
+        (validate_taken_block path.now span before kind a b) }
 {
     let same = written_marker(before.a, before.b) == written_marker(a, b);
     let lists = (before.kind == kinds::LIST) & (kind == kinds::LIST) & same;
@@ -50,7 +50,7 @@ pub(crate) fn validate_taken_block(
 
 // The block before the next tree. Blank lines do not count, and trees that are not blocks do not either.
 pub(crate) fn before_at(before: Before, kind: u32, a: u32, b: u32) -> Before
-    ensures { result ≡ beforeAt before kind a b }
+    ensures { result ≡ before_at before kind a b }
 {
     if !kinds::is_block(kind) {
         return before;
@@ -63,7 +63,7 @@ pub(crate) fn before_at(before: Before, kind: u32, a: u32, b: u32) -> Before
 
 // The next tree's index: one more after a block.
 pub(crate) fn index_at(k: u32, kind: u32) -> u32
-    requires { k ≤ mostRecords }
+    requires { k ≤ most_records }
     ensures { result ≡ index_at k kind }
 {
     if kinds::is_block(kind) { k + 1 } else { k }

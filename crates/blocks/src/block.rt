@@ -2,10 +2,10 @@
 ghost use Rattle.std.specs.Prelude.{◌≡◌, take};
 ghost use Rattle.leaves.specs.Sheet.Forest.{under};
 ghost use Rattle.leaves.specs.Report.Entries.{Lists, ◌⊕◌};
-ghost use Rattle.blocks.specs.Heads.{validateHeading};
-ghost use Rattle.inlines.specs.Nodes.{validateInlines};
+ghost use Rattle.blocks.specs.Heads.{validate_heading};
+ghost use Rattle.inlines.specs.Nodes.{validate_inlines};
 ghost use Rattle.inlines.specs.Walk.{Start, Begin, Left};
-ghost use Rattle.blocks.specs.Block.{validateLeaf, validateHtml, validateContainer, validateOwn};
+ghost use Rattle.blocks.specs.Block.{validate_leaf, validate_html, validate_container, validate_own};
 
 use crate::footnote::validate_footnote_definition;
 use crate::frontmatter::validate_frontmatter;
@@ -35,8 +35,8 @@ fn validate_heading(
 ) -> Tally
     requires { Start sheet.now path.now n from × Left left r.level }
     ensures { Lists tally result report.old report.new
-        (validateHeading path.now r.span r.a
-        ⊕ validateInlines bytes.now path.now
+        (validate_heading path.now r.span r.a
+        ⊕ validate_inlines bytes.now path.now
         (under sheet.now n from r.level)) }
 {
     let out = heads::validate_heading(report, path, r.span, r.a, tally);
@@ -58,7 +58,7 @@ fn validate_leaf(
 ) -> Tally
     requires { Start sheet.now path.now n from × Left left r.level }
     ensures { Lists tally result report.old report.new
-        (validateLeaf bytes.now path.now r (under sheet.now n from r.level)) }
+        (validate_leaf bytes.now path.now r (under sheet.now n from r.level)) }
 {
     let span = r.span;
     let a = r.a;
@@ -105,7 +105,7 @@ fn validate_html(
 ) -> Tally
     requires { Start sheet.now path.now n from × Left left r.level }
     ensures { Lists tally result report.old report.new
-        (validateHtml bytes.now path.now r.span r.a
+        (validate_html bytes.now path.now r.span r.a
         (under sheet.now n from r.level)) }
 {
     let out = validate_html_container(sheet, bytes, report, path, n, from, r.level, r.span, tally);
@@ -130,7 +130,7 @@ fn validate_container(
 ) -> Tally
     requires { Start sheet.now path.now n from × Left left r.level }
     ensures { Lists tally result report.old report.new
-        (validateContainer bytes.now path.now r
+        (validate_container bytes.now path.now r
         (under sheet.now n from r.level)) }
 {
     let span = r.span;
@@ -165,7 +165,7 @@ pub(crate) fn validate_own(
 ) -> Tally
     requires { Begin sheet.now path.old n from len r.level × Left left r.level }
     ensures { Lists tally result report.old report.new
-        (validateOwn bytes.now (take len path.old) r
+        (validate_own bytes.now (take len path.old) r
         (under sheet.now n from r.level))
         × (take len path.new ≡ take len path.old) }
 {

@@ -1,10 +1,10 @@
 // The check of a sheet and its text.
 ghost use Rattle.std.specs.Prelude.{◌≡◌};
-ghost use Rattle.leaves.specs.Sheet.Records.{recordsOf};
+ghost use Rattle.leaves.specs.Sheet.Records.{records_of};
 ghost use Rattle.leaves.specs.Report.Entries.{start, after};
 ghost use Rattle.leaves.specs.Refusal.Formed.{Sound};
-ghost use Rattle.blocks.specs.Walk.{validateDocument};
-ghost use Rattle.blocks.specs.Check.{checkedAnswer, outcome};
+ghost use Rattle.blocks.specs.Walk.{validate_document};
+ghost use Rattle.blocks.specs.Check.{checked_answer, outcome};
 
 use crate::answer::Checked;
 use crate::walk::validate_document;
@@ -15,8 +15,8 @@ use leaves::sheet::records::RECORD_WORDS;
 
 // How many words and entries the list has: a walk with an empty report.
 fn measure(sheet: &[u32], text: &[u8], n: usize) -> Tally
-    requires { Sound sheet.now text.now × (n ≡ recordsOf sheet.now) }
-    ensures { result ≡ after start (validateDocument sheet.now text.now) }
+    requires { Sound sheet.now text.now × (n ≡ records_of sheet.now) }
+    ensures { result ≡ after start (validate_document sheet.now text.now) }
 {
     let mut none = [0u32; 0];
     validate_document(sheet, text, &mut none, n)
@@ -25,7 +25,7 @@ fn measure(sheet: &[u32], text: &[u8], n: usize) -> Tally
 // Refuses a malformed sheet by number and changes no lent word; or writes the whole list into the report's front.
 // It measures the list before it says that the report is short, and does not walk again to write a list of no entries.
 pub fn check(sheet: &[u32], text: &[u8], report: &mut [u32]) -> Checked
-    ensures { (checkedAnswer result, report.new) ≡
+    ensures { (checked_answer result, report.new) ≡
         outcome sheet.now text.now report.old }
 {
     let judged = judge::accept(sheet, text);

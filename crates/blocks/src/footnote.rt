@@ -3,7 +3,7 @@ ghost use Rattle.std.specs.Prelude.{◌≡◌, take};
 ghost use Rattle.leaves.specs.Sheet.Forest.{under};
 ghost use Rattle.leaves.specs.Report.Entries.{Lists};
 ghost use Rattle.inlines.specs.Walk.{Begin};
-ghost use Rattle.blocks.specs.Footnote.{blankLineAt, validateFootnoteDefinition};
+ghost use Rattle.blocks.specs.Footnote.{blank_line_at, validate_footnote_definition};
 
 use leaves::report::entries::{Tally, list_if};
 use leaves::report::rules;
@@ -25,7 +25,7 @@ fn blank_line_at(
 ) -> Tally
     requires { Begin sheet.now path.old n from len level }
     ensures { Lists tally result report.old report.new
-        (blankLineAt (take len path.old) 0 (under sheet.now n from level))
+        (blank_line_at (take len path.old) 0 (under sheet.now n from level))
         × (take len path.new ≡ take len path.old) }
 {
     let mut k: u32 = 0;
@@ -63,7 +63,7 @@ pub(crate) fn validate_footnote_definition(
 ) -> Tally
     requires { Begin sheet.now path.old n from len level }
     ensures { Lists tally result report.old report.new
-        (validateFootnoteDefinition (take len path.old) span identifier
+        (validate_footnote_definition (take len path.old) span identifier
         (under sheet.now n from level))
         × (take len path.new ≡ take len path.old) }
 {

@@ -1,8 +1,8 @@
 // What frontmatter reports by its own record.
 ghost use Rattle.std.specs.Prelude.{◌≡◌, ◌≤◌, length};
-ghost use Rattle.leaves.specs.Refusal.Limits.{mostLevel};
+ghost use Rattle.leaves.specs.Refusal.Limits.{most_level};
 ghost use Rattle.leaves.specs.Report.Entries.{Lists};
-ghost use Rattle.blocks.specs.Frontmatter.{frontmatterKind, validateFrontmatter};
+ghost use Rattle.blocks.specs.Frontmatter.{frontmatter_kind, validate_frontmatter};
 
 use leaves::report::entries::{Tally, list_if};
 use leaves::report::rules;
@@ -11,7 +11,7 @@ use leaves::sheet::texts::text_of;
 use leaves::text::fence::{FrontmatterKind, holds_fence_line};
 
 fn frontmatter_kind(a: u32) -> FrontmatterKind
-    ensures { result ≡ frontmatterKind a }
+    ensures { result ≡ frontmatter_kind a }
 {
     if a == 1 {
         return FrontmatterKind::Toml;
@@ -30,9 +30,9 @@ pub(crate) fn validate_frontmatter(
     value: Text,
     tally: Tally,
 ) -> Tally
-    requires { length path.now ≤ mostLevel }
+    requires { length path.now ≤ most_level }
     ensures { Lists tally result report.old report.new
-        (validateFrontmatter bytes.now path.now span level a value) }
+        (validate_frontmatter bytes.now path.now span level a value) }
 {
     let inside = 1 < level;
     let out = list_if(inside, report, rules::FRONTMATTER_INSIDE, span, path, tally);

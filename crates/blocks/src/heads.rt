@@ -1,8 +1,8 @@
 // What a block reports by its own record.
 ghost use Rattle.std.specs.Prelude.{◌≤◌, length};
-ghost use Rattle.leaves.specs.Refusal.Limits.{mostLevel};
+ghost use Rattle.leaves.specs.Refusal.Limits.{most_level};
 ghost use Rattle.leaves.specs.Report.Entries.{Lists};
-ghost use Rattle.blocks.specs.Heads.{validateAlert, validateCodeBlock, validateDefinition, validateHeading};
+ghost use Rattle.blocks.specs.Heads.{validate_alert, validate_code_block, validate_definition, validate_heading};
 
 use inlines::single;
 use leaves::report::entries::{Tally, list_if};
@@ -22,9 +22,9 @@ pub(crate) fn validate_heading(
     depth: u32,
     tally: Tally,
 ) -> Tally
-    requires { length path.now ≤ mostLevel }
+    requires { length path.now ≤ most_level }
     ensures { Lists tally result report.old report.new
-        (validateHeading path.now span depth) }
+        (validate_heading path.now span depth) }
 {
     let fault = (depth == 0) | (6 < depth);
     list_if(fault, report, rules::HEADING_DEPTH, span, path, tally)
@@ -40,9 +40,9 @@ pub(crate) fn validate_alert(
     title: Text,
     tally: Tally,
 ) -> Tally
-    requires { length path.now ≤ mostLevel }
+    requires { length path.now ≤ most_level }
     ensures { Lists tally result report.old report.new
-        (validateAlert bytes.now path.now span a title) }
+        (validate_alert bytes.now path.now span a title) }
 {
     let fault = (a == 1) & !is_alert_title(text_of(bytes, title));
     list_if(fault, report, rules::ALERT_TITLE, span, path, tally)
@@ -60,9 +60,9 @@ pub(crate) fn validate_code_block(
     info: Text,
     tally: Tally,
 ) -> Tally
-    requires { length path.now ≤ mostLevel }
+    requires { length path.now ≤ most_level }
     ensures { Lists tally result report.old report.new
-        (validateCodeBlock bytes.now path.now span a b value info) }
+        (validate_code_block bytes.now path.now span a b value info) }
 {
     let empty = (b == 1) & is_empty(info);
     let out = list_if(empty, report, rules::EMPTY_INFO, span, path, tally);
@@ -81,9 +81,9 @@ pub(crate) fn validate_definition(
     destination: Text,
     tally: Tally,
 ) -> Tally
-    requires { length path.now ≤ mostLevel }
+    requires { length path.now ≤ most_level }
     ensures { Lists tally result report.old report.new
-        (validateDefinition bytes.now path.now span a identifier destination) }
+        (validate_definition bytes.now path.now span a identifier destination) }
 {
     let blank = is_blank_identifier(text_of(bytes, identifier));
     let out = list_if(blank, report, rules::BLANK_DEFINITION, span, path, tally);

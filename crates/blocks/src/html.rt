@@ -1,10 +1,10 @@
 // The tags of an HTML container.
 ghost use Rattle.std.specs.Prelude.{◌≤◌, length};
 ghost use Rattle.leaves.specs.Sheet.Forest.{under};
-ghost use Rattle.leaves.specs.Refusal.Limits.{mostLevel};
+ghost use Rattle.leaves.specs.Refusal.Limits.{most_level};
 ghost use Rattle.leaves.specs.Report.Entries.{Lists};
 ghost use Rattle.inlines.specs.Walk.{Start};
-ghost use Rattle.blocks.specs.Html.{validateTags, validateHtmlContainer};
+ghost use Rattle.blocks.specs.Html.{validate_tags, validate_html_container};
 
 use leaves::report::entries::{Tally, list_if};
 use leaves::report::rules;
@@ -24,9 +24,9 @@ fn validate_tags(
     closing: Rec,
     tally: Tally,
 ) -> Tally
-    requires { length path.now ≤ mostLevel }
+    requires { length path.now ≤ most_level }
     ensures { Lists tally result report.old report.new
-        (validateTags bytes.now path.now span opening closing) }
+        (validate_tags bytes.now path.now span opening closing) }
 {
     let before = opening.first;
     let behind = closing.first;
@@ -70,7 +70,7 @@ pub(crate) fn validate_html_container(
 ) -> Tally
     requires { Start sheet.now path.now n from }
     ensures { Lists tally result report.old report.new
-        (validateHtmlContainer bytes.now path.now span
+        (validate_html_container bytes.now path.now span
         (under sheet.now n from level)) }
 {
     if ends(sheet, n, from, level) {

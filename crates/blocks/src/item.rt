@@ -1,15 +1,15 @@
 // What an item reports because of the blocks that it holds, before the walk of them.
 ghost use Rattle.std.specs.Prelude.{◌≡◌, ◌+◌, ◌*◌, ◌≤◌, eqb, length, take};
-ghost use Rattle.leaves.specs.Sheet.Records.{recordWords};
+ghost use Rattle.leaves.specs.Sheet.Records.{record_words};
 ghost use Rattle.leaves.specs.Sheet.Forest.{under, size, count};
-ghost use Rattle.leaves.specs.Refusal.Limits.{mostLevel};
+ghost use Rattle.leaves.specs.Refusal.Limits.{most_level};
 ghost use Rattle.leaves.specs.Report.Entries.{Lists};
 ghost use Rattle.inlines.specs.Walk.{Start, Begin};
 ghost use Rattle.blocks.specs.Item.{
-  opensWithParagraph,
-  validateBlankLine,
-  validateItemBlankLines,
-  validateTaskItem,
+  opens_with_paragraph,
+  validate_blank_line,
+  validate_item_blank_lines,
+  validate_task_item,
 };
 
 use leaves::report::entries::{Tally, list_if};
@@ -29,9 +29,9 @@ fn validate_blank_line(
     last: bool,
     tally: Tally,
 ) -> Tally
-    requires { length path.now ≤ mostLevel }
+    requires { length path.now ≤ most_level }
     ensures { Lists tally result report.old report.new
-        (validateBlankLine path.now span blank tight first last) }
+        (validate_blank_line path.now span blank tight first last) }
 {
     let rule = rules::BLANK_LINE_IN_TIGHT_LIST;
     let out = list_if(blank & tight, report, rule, span, path, tally);
@@ -57,7 +57,7 @@ pub(crate) fn validate_item_blank_lines(
 ) -> Tally
     requires { Begin sheet.now path.old n from len level × (outer ≤ level) }
     ensures { Lists tally result report.old report.new
-        (validateItemBlankLines (take len path.old) tight
+        (validate_item_blank_lines (take len path.old) tight
         (eqb (count (under sheet.now n (from + size (under sheet.now n from level)) outer)) 0) 0
         (under sheet.now n from level))
         × (take len path.new ≡ take len path.old) }
@@ -92,8 +92,8 @@ pub(crate) fn validate_item_blank_lines(
 
 // Whether the first block that is not a definition is a paragraph with a child.
 fn opens_with_paragraph(sheet: &[u32], n: usize, from: usize, level: u32) -> bool
-    requires { (n * recordWords ≤ length sheet.now) × (from ≤ n) }
-    ensures { result ≡ opensWithParagraph (under sheet.now n from level) }
+    requires { (n * record_words ≤ length sheet.now) × (from ≤ n) }
+    ensures { result ≡ opens_with_paragraph (under sheet.now n from level) }
 {
     let mut i = from;
     while i < n {
@@ -123,7 +123,7 @@ pub(crate) fn validate_task_item(
 ) -> Tally
     requires { Start sheet.now path.now n from }
     ensures { Lists tally result report.old report.new
-        (validateTaskItem path.now span checked (under sheet.now n from level)) }
+        (validate_task_item path.now span checked (under sheet.now n from level)) }
 {
     if checked == 0 {
         return tally;

@@ -1,10 +1,10 @@
 // Directives, up to the walk of their blocks.
 ghost use Rattle.std.specs.Prelude.{◌≡◌, ◌+◌, ◌*◌, ◌≤◌, length};
-ghost use Rattle.leaves.specs.Sheet.Records.{recordWords};
+ghost use Rattle.leaves.specs.Sheet.Records.{record_words};
 ghost use Rattle.leaves.specs.Sheet.Forest.{under, size};
 ghost use Rattle.leaves.specs.Report.Entries.{Lists};
 ghost use Rattle.inlines.specs.Walk.{Start, Left};
-ghost use Rattle.blocks.specs.Label.{beforeBlocks, validateDirective};
+ghost use Rattle.blocks.specs.Label.{before_blocks, validate_directive};
 
 use inlines::attribute::validate_directive_attributes;
 use inlines::depth;
@@ -17,8 +17,8 @@ use leaves::sheet::records::{Span, Text, record_at};
 
 // The record where the blocks of a directive begin, or the one behind it where it has none.
 fn label_end(sheet: &[u32], n: usize, from: usize, level: u32) -> usize
-    requires { (n * recordWords ≤ length sheet.now) × (from ≤ n) }
-    ensures { result ≡ from + size (beforeBlocks (under sheet.now n from level)) }
+    requires { (n * record_words ≤ length sheet.now) × (from ≤ n) }
+    ensures { result ≡ from + size (before_blocks (under sheet.now n from level)) }
 {
     let mut i = from;
     while i < n {
@@ -53,7 +53,7 @@ pub(crate) fn validate_directive(
 ) -> Tally
     requires { Start sheet.now path.now n from × Left left level }
     ensures { Lists tally result report.old report.new
-        (validateDirective bytes.now path.now rule span name
+        (validate_directive bytes.now path.now rule span name
         (under sheet.now n from level)) }
 {
     let out = validate_directive_name(bytes, report, path, span, name, tally);

@@ -1,13 +1,13 @@
 // A list, up to the walk of its items.
 ghost use Rattle.std.specs.Prelude.{◌≡◌, ◌+◌, ◌*◌, ◌≤◌, eqb, length};
 ghost use Rattle.leaves.specs.Text.Lists.{if◌then◌else◌};
-ghost use Rattle.leaves.specs.Sheet.Kinds.{blankLine};
-ghost use Rattle.leaves.specs.Sheet.Records.{recordWords};
+ghost use Rattle.leaves.specs.Sheet.Kinds.{blank_line};
+ghost use Rattle.leaves.specs.Sheet.Records.{record_words};
 ghost use Rattle.leaves.specs.Sheet.Forest.{under};
-ghost use Rattle.leaves.specs.Refusal.Limits.{mostRecords};
+ghost use Rattle.leaves.specs.Refusal.Limits.{most_records};
 ghost use Rattle.leaves.specs.Report.Entries.{Lists};
 ghost use Rattle.inlines.specs.Walk.{Start};
-ghost use Rattle.blocks.specs.List.{countFull, holdsOneBlock, validateList};
+ghost use Rattle.blocks.specs.List.{count_full, holds_one_block, validate_list};
 
 use leaves::report::entries::{Tally, list_if};
 use leaves::report::rules;
@@ -17,8 +17,8 @@ use leaves::sheet::records::{Span, level_at, record_at};
 
 // `full` with one block more, which counts where it is not a blank line.
 fn with_block(full: usize, kind: u32) -> usize
-    requires { full ≤ mostRecords }
-    ensures { result ≡ (if eqb kind blankLine then full else full + 1) }
+    requires { full ≤ most_records }
+    ensures { result ≡ (if eqb kind blank_line then full else full + 1) }
 {
     if kind == kinds::BLANK_LINE {
         return full;
@@ -28,8 +28,8 @@ fn with_block(full: usize, kind: u32) -> usize
 
 // How many blocks are not blank lines.
 fn count_full(sheet: &[u32], n: usize, from: usize, level: u32) -> usize
-    requires { (n * recordWords ≤ length sheet.now) × (n ≤ mostRecords) × (from ≤ n) }
-    ensures { result ≡ countFull (under sheet.now n from level) }
+    requires { (n * record_words ≤ length sheet.now) × (n ≤ most_records) × (from ≤ n) }
+    ensures { result ≡ count_full (under sheet.now n from level) }
 {
     let mut full: usize = 0;
     let mut i = from;
@@ -46,8 +46,8 @@ fn count_full(sheet: &[u32], n: usize, from: usize, level: u32) -> usize
 
 // Whether there is one item alone, and it holds at most one block beside blank lines.
 fn holds_one_block(sheet: &[u32], n: usize, from: usize, level: u32) -> bool
-    requires { (n * recordWords ≤ length sheet.now) × (n ≤ mostRecords) × (from ≤ n) }
-    ensures { result ≡ holdsOneBlock (under sheet.now n from level) }
+    requires { (n * record_words ≤ length sheet.now) × (n ≤ most_records) × (from ≤ n) }
+    ensures { result ≡ holds_one_block (under sheet.now n from level) }
 {
     if ends(sheet, n, from, level) {
         return false;
@@ -74,7 +74,7 @@ pub(crate) fn validate_list(
 ) -> Tally
     requires { Start sheet.now path.now n from }
     ensures { Lists tally result report.old report.new
-        (validateList path.now span tight (under sheet.now n from level)) }
+        (validate_list path.now span tight (under sheet.now n from level)) }
 {
     let empty = ends(sheet, n, from, level);
     let out = list_if(empty, report, rules::EMPTY_LIST, span, path, tally);

@@ -1,8 +1,8 @@
 // What an item reports because of its number.
 ghost use Rattle.std.specs.Prelude.{◌≡◌, ◌≤◌, length};
-ghost use Rattle.leaves.specs.Refusal.Limits.{mostLevel};
+ghost use Rattle.leaves.specs.Refusal.Limits.{most_level};
 ghost use Rattle.leaves.specs.Report.Entries.{Lists};
-ghost use Rattle.blocks.specs.Number.{itemNumber, validateItemNumber};
+ghost use Rattle.blocks.specs.Number.{item_number, validate_item_number};
 
 use leaves::report::entries::{Tally, list_if};
 use leaves::report::rules;
@@ -19,7 +19,7 @@ pub(crate) enum Number {
 
 // The number of an item, from its B and C.
 pub(crate) fn item_number(b: u32, c: u32) -> Number
-    ensures { result ≡ itemNumber b c }
+    ensures { result ≡ item_number b c }
 {
     if b == 1 {
         return Number::Present(c);
@@ -36,9 +36,9 @@ pub(crate) fn validate_item_number(
     number: Number,
     tally: Tally,
 ) -> Tally
-    requires { length path.now ≤ mostLevel }
+    requires { length path.now ≤ most_level }
     ensures { Lists tally result report.old report.new
-        (validateItemNumber path.now span ordered number) }
+        (validate_item_number path.now span ordered number) }
 {
     let Number::Present(value) = number else {
         return tally;

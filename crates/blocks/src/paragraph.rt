@@ -1,11 +1,11 @@
 // Paragraphs.
 ghost use Rattle.std.specs.Prelude.{◌≡◌, ◌*◌, ◌≤◌, length};
-ghost use Rattle.leaves.specs.Sheet.Records.{recordWords};
+ghost use Rattle.leaves.specs.Sheet.Records.{record_words};
 ghost use Rattle.leaves.specs.Sheet.Forest.{under};
 ghost use Rattle.leaves.specs.Report.Entries.{Lists};
 ghost use Rattle.inlines.specs.Walk.{Start, Left};
-ghost use Rattle.inlines.specs.Nodes.{allEmpty};
-ghost use Rattle.blocks.specs.Paragraph.{validateParagraph};
+ghost use Rattle.inlines.specs.Nodes.{all_empty};
+ghost use Rattle.blocks.specs.Paragraph.{validate_paragraph};
 
 use inlines::nodes::validate_inlines;
 use leaves::report::entries::{Tally, list_if};
@@ -16,8 +16,8 @@ use leaves::sheet::{empty, kinds};
 
 // Whether every inline is an empty text.
 fn all_empty(sheet: &[u32], n: usize, from: usize, level: u32) -> bool
-    requires { (n * recordWords ≤ length sheet.now) × (from ≤ n) }
-    ensures { result ≡ allEmpty (under sheet.now n from level) }
+    requires { (n * record_words ≤ length sheet.now) × (from ≤ n) }
+    ensures { result ≡ all_empty (under sheet.now n from level) }
 {
     let mut i = from;
     while i < n {
@@ -49,7 +49,7 @@ pub(crate) fn validate_paragraph(
 ) -> Tally
     requires { Start sheet.now path.now n from × Left left level }
     ensures { Lists tally result report.old report.new
-        (validateParagraph bytes.now path.now span
+        (validate_paragraph bytes.now path.now span
         (under sheet.now n from level)) }
 {
     let empty = all_empty(sheet, n, from, level);

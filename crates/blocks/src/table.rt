@@ -3,7 +3,7 @@ ghost use Rattle.std.specs.Prelude.{◌≡◌, take};
 ghost use Rattle.leaves.specs.Sheet.Forest.{under};
 ghost use Rattle.leaves.specs.Report.Entries.{Lists};
 ghost use Rattle.inlines.specs.Walk.{Start, Begin, Left, Done};
-ghost use Rattle.blocks.specs.Table.{validateCell, validateCells, validateRows, validateTable};
+ghost use Rattle.blocks.specs.Table.{validate_cell, validate_cells, validate_rows, validate_table};
 
 use inlines::depth;
 use inlines::nodes::validate_inlines;
@@ -27,7 +27,7 @@ fn validate_cell(
 ) -> Walked
     requires { Start sheet.now path.now n from × Left left level }
     ensures { Done sheet.now n from level
-        (validateCell bytes.now path.now (under sheet.now n from level))
+        (validate_cell bytes.now path.now (under sheet.now n from level))
         tally report.old result report.new }
 {
     let w = validate_inlines(sheet, bytes, report, path, n, from, level, left, tally);
@@ -51,7 +51,7 @@ fn validate_cells(
 ) -> Walked
     requires { Begin sheet.now path.old n from len level × Left left level }
     ensures { Done sheet.now n from level
-        (validateCells bytes.now (take len path.old) 0
+        (validate_cells bytes.now (take len path.old) 0
         (under sheet.now n from level))
         tally report.old result report.new
         × (take len path.new ≡ take len path.old) }
@@ -105,7 +105,7 @@ fn validate_rows(
 ) -> Walked
     requires { Begin sheet.now path.old n from len level × Left left level }
     ensures { Done sheet.now n from level
-        (validateRows bytes.now (take len path.old) width 0
+        (validate_rows bytes.now (take len path.old) width 0
         (under sheet.now n from level))
         tally report.old result report.new
         × (take len path.new ≡ take len path.old) }
@@ -164,7 +164,7 @@ pub(crate) fn validate_table(
 ) -> Tally
     requires { Begin sheet.now path.old n from len level × Left left level }
     ensures { Lists tally result report.old report.new
-        (validateTable bytes.now (take len path.old) span a
+        (validate_table bytes.now (take len path.old) span a
         (under sheet.now n from level))
         × (take len path.new ≡ take len path.old) }
 {

@@ -1,12 +1,12 @@
 // The walk of blocks. Document 01: "Blocks hold items, items hold blocks, and levels left fall at each call."
 ghost use Rattle.std.specs.Prelude.{◌≡◌, ◌+◌, ◌≤◌, eqb, take};
-ghost use Rattle.leaves.specs.Sheet.Records.{recordAt, recordsOf};
+ghost use Rattle.leaves.specs.Sheet.Records.{record_at, records_of};
 ghost use Rattle.leaves.specs.Sheet.Forest.{under, count, size};
 ghost use Rattle.leaves.specs.Report.Entries.{Lists, start};
 ghost use Rattle.leaves.specs.Refusal.Formed.{Sound};
 ghost use Rattle.inlines.specs.Walk.{Begin, Left, Done};
 ghost use Rattle.blocks.specs.Before.{first};
-ghost use Rattle.blocks.specs.Walk.{validateBlocks, validateListItems, validateItem, validateDocument};
+ghost use Rattle.blocks.specs.Walk.{validate_blocks, validate_list_items, validate_item, validate_document};
 ghost use Rattle.blocks.specs.WalkAt.{At, block_at};
 
 use crate::before::{Before, before_at, index_at, validate_taken_block};
@@ -56,7 +56,7 @@ fn validate_blocks(
 ) -> Walked
     requires { Begin sheet.now path.old n from len level × Left left level }
     ensures { Done sheet.now n from level
-        (validateBlocks bytes.now (take len path.old) 0 first
+        (validate_blocks bytes.now (take len path.old) 0 first
         (under sheet.now n from level))
         tally report.old result report.new
         × (take len path.new ≡ take len path.old) }
@@ -120,7 +120,7 @@ fn validate_block(
 ) -> Walked
     requires { At sheet.now path.old n i len level × Left left level }
     ensures { Done sheet.now n (i + 1) level
-        (block_at bytes.now (take len path.old) before (recordAt sheet.now i)
+        (block_at bytes.now (take len path.old) before (record_at sheet.now i)
         (under sheet.now n (i + 1) level))
         tally report.old result report.new
         × (take len path.new ≡ take len path.old) }
@@ -186,7 +186,7 @@ fn validate_list_items(
 ) -> Walked
     requires { Begin sheet.now path.old n from len level × Left left level }
     ensures { Done sheet.now n from level
-        (validateListItems bytes.now (take len path.old) 0 ordered tight
+        (validate_list_items bytes.now (take len path.old) 0 ordered tight
         (under sheet.now n from level))
         tally report.old result report.new
         × (take len path.new ≡ take len path.old) }
@@ -247,10 +247,10 @@ fn validate_item(
 ) -> Walked
     requires { At sheet.now path.old n i len level × (outer ≤ level) × Left left level }
     ensures { Done sheet.now n (i + 1) level
-        (validateItem (take len path.old) ordered tight
+        (validate_item (take len path.old) ordered tight
         (eqb (count (under sheet.now n (i + 1 + size (under sheet.now n (i + 1) level)) outer)) 0)
-        (recordAt sheet.now i) (under sheet.now n (i + 1) level)
-        (validateBlocks bytes.now (take len path.old) 0 first
+        (record_at sheet.now i) (under sheet.now n (i + 1) level)
+        (validate_blocks bytes.now (take len path.old) 0 first
         (under sheet.now n (i + 1) level)))
         tally report.old result report.new
         × (take len path.new ≡ take len path.old) }
@@ -279,9 +279,9 @@ fn validate_item(
 
 // The whole list of an accepted sheet of `n` records.
 pub(crate) fn validate_document(sheet: &[u32], bytes: &[u8], report: &mut [u32], n: usize) -> Tally
-    requires { Sound sheet.now bytes.now × (n ≡ recordsOf sheet.now) }
+    requires { Sound sheet.now bytes.now × (n ≡ records_of sheet.now) }
     ensures { Lists start result report.old report.new
-        (validateDocument sheet.now bytes.now) }
+        (validate_document sheet.now bytes.now) }
 {
     let mut path = [0u32; PATH_WORDS];
     let w = validate_blocks(

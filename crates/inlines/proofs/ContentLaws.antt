@@ -6,16 +6,16 @@ use Prim.Native.Nat.{ℕ}
 use borrow.Author.Rules.{rules}
 use lib.Dec.{eqb}
 use Rattle.leaves.specs.Text.Lists.{if◌then◌else◌}
-use Rattle.leaves.specs.Sheet.Kinds.{isInline, lineBreak}
+use Rattle.leaves.specs.Sheet.Kinds.{is_inline, line_break}
 use Rattle.leaves.specs.Sheet.Forest.{Forest, none, tree}
-use Rattle.leaves.specs.Report.Entries.{Lists, listIf}
+use Rattle.leaves.specs.Report.Entries.{Lists, list_if}
 use Rattle.leaves.specs.declared.report.entries.Tally.{Tally}
-use Rattle.inlines.specs.ContentGathered.{noContent, withInline, contentAfter, contentOf}
-use Rattle.inlines.specs.Content.{noInline, allEmpty, startsWithWhitespace, endsWithWhitespaceAfter, endsWithWhitespace, holdsJoined, finalBreakAfter, finalBreak}
+use Rattle.inlines.specs.ContentGathered.{no_content, with_inline, content_after, content_of}
+use Rattle.inlines.specs.Content.{no_inline, all_empty, starts_with_whitespace, ends_with_whitespace_after, ends_with_whitespace, holds_joined, final_break_after, final_break}
 use Rattle.leaves.specs.Report.Rules
-use Rattle.leaves.specs.Sheet.Empty.{isEmptyText}
-use Rattle.inlines.specs.Values.{startsWhite, endsWhite}
-use Rattle.leaves.specs.Sheet.Classes.{isJoined}
+use Rattle.leaves.specs.Sheet.Empty.{is_empty_text}
+use Rattle.inlines.specs.Values.{starts_white, ends_white}
+use Rattle.leaves.specs.Sheet.Classes.{is_joined}
 use Rattle.inlines.specs.declared.content.Content.{Content}
 
 -- ---- the first inline that is no empty text: the test of it counts, and none after it
@@ -25,88 +25,88 @@ starts-now s false w x = or-false (s || false)
 
 -- ---- what was gathered of the trees, field by field
 module _ (bytes : List ℕ) (outer a : ℕ) where
-  after-some : (c : Content) (f : Forest) → (contentAfter bytes outer a c f).some ≡ (c.some || not (noInline f))
-  unfolding contentAfter noInline withInline
+  after-some : (c : Content) (f : Forest) → (content_after bytes outer a c f).some ≡ (c.some || not (no_inline f))
+  unfolding content_after no_inline with_inline
   after-some c none = sym (or-false c.some)
-  after-some c (tree r kids rest) = after-some (withInline bytes outer a c r) rest ∙ go (isInline r.kind) refl
+  after-some c (tree r kids rest) = after-some (with_inline bytes outer a c r) rest ∙ go (is_inline r.kind) refl
     where
-      go : (t : Bool) → isInline r.kind ≡ t → ((withInline bytes outer a c r).some || not (noInline rest)) ≡ (c.some || not (noInline (tree r kids rest)))
+      go : (t : Bool) → is_inline r.kind ≡ t → ((with_inline bytes outer a c r).some || not (no_inline rest)) ≡ (c.some || not (no_inline (tree r kids rest)))
       go true e = rw e (sym (or-true c.some))
       go false e = rw e
 
-  after-empty : (c : Content) (f : Forest) → (contentAfter bytes outer a c f).empty ≡ (c.empty && allEmpty f)
-  unfolding contentAfter allEmpty withInline
+  after-empty : (c : Content) (f : Forest) → (content_after bytes outer a c f).empty ≡ (c.empty && all_empty f)
+  unfolding content_after all_empty with_inline
   after-empty c none = sym (and-true c.empty)
-  after-empty c (tree r kids rest) = after-empty (withInline bytes outer a c r) rest ∙ go (isInline r.kind) refl
+  after-empty c (tree r kids rest) = after-empty (with_inline bytes outer a c r) rest ∙ go (is_inline r.kind) refl
     where
-      go : (t : Bool) → isInline r.kind ≡ t → ((withInline bytes outer a c r).empty && allEmpty rest) ≡ (c.empty && allEmpty (tree r kids rest))
-      go true e = rw e (and_assoc c.empty (isEmptyText r) (allEmpty rest))
+      go : (t : Bool) → is_inline r.kind ≡ t → ((with_inline bytes outer a c r).empty && all_empty rest) ≡ (c.empty && all_empty (tree r kids rest))
+      go true e = rw e (and_assoc c.empty (is_empty_text r) (all_empty rest))
       go false e = rw e
 
-  after-starts : (c : Content) (f : Forest) → (contentAfter bytes outer a c f).starts ≡ (c.starts || c.empty && startsWithWhitespace bytes f)
-  unfolding contentAfter startsWithWhitespace withInline
+  after-starts : (c : Content) (f : Forest) → (content_after bytes outer a c f).starts ≡ (c.starts || c.empty && starts_with_whitespace bytes f)
+  unfolding content_after starts_with_whitespace with_inline
   after-starts c none = rw (and-false c.empty) (sym (or-false c.starts))
-  after-starts c (tree r kids rest) = after-starts (withInline bytes outer a c r) rest ∙ go (isInline r.kind) refl (isEmptyText r) refl
+  after-starts c (tree r kids rest) = after-starts (with_inline bytes outer a c r) rest ∙ go (is_inline r.kind) refl (is_empty_text r) refl
     where
-      go : (t : Bool) → isInline r.kind ≡ t → (m : Bool) → isEmptyText r ≡ m → ((withInline bytes outer a c r).starts || (withInline bytes outer a c r).empty && startsWithWhitespace bytes rest) ≡ (c.starts || c.empty && startsWithWhitespace bytes (tree r kids rest))
+      go : (t : Bool) → is_inline r.kind ≡ t → (m : Bool) → is_empty_text r ≡ m → ((with_inline bytes outer a c r).starts || (with_inline bytes outer a c r).empty && starts_with_whitespace bytes rest) ≡ (c.starts || c.empty && starts_with_whitespace bytes (tree r kids rest))
       go true e true m = rw (e, m, and-true c.empty, and-false c.empty, or-false c.starts)
-      go true e false m = rw (e, m) (starts-now c.starts c.empty (startsWhite bytes r) (startsWithWhitespace bytes rest))
+      go true e false m = rw (e, m) (starts-now c.starts c.empty (starts_white bytes r) (starts_with_whitespace bytes rest))
       go false e _ m = rw e
 
-  after-ends : (c : Content) (f : Forest) → (contentAfter bytes outer a c f).ends ≡ endsWithWhitespaceAfter bytes c.ends f
-  unfolding contentAfter endsWithWhitespaceAfter withInline
+  after-ends : (c : Content) (f : Forest) → (content_after bytes outer a c f).ends ≡ ends_with_whitespace_after bytes c.ends f
+  unfolding content_after ends_with_whitespace_after with_inline
   after-ends c none = refl
-  after-ends c (tree r kids rest) = after-ends (withInline bytes outer a c r) rest ∙ ap (λ b. endsWithWhitespaceAfter bytes b rest) (go (isInline r.kind) refl)
+  after-ends c (tree r kids rest) = after-ends (with_inline bytes outer a c r) rest ∙ ap (λ b. ends_with_whitespace_after bytes b rest) (go (is_inline r.kind) refl)
     where
-      go : (t : Bool) → isInline r.kind ≡ t → (withInline bytes outer a c r).ends ≡ (if not (isInline r.kind) || isEmptyText r then c.ends else endsWhite bytes r)
+      go : (t : Bool) → is_inline r.kind ≡ t → (with_inline bytes outer a c r).ends ≡ (if not (is_inline r.kind) || is_empty_text r then c.ends else ends_white bytes r)
       go true e = rw e
       go false e = rw e
 
-  after-joined : (c : Content) (f : Forest) → (contentAfter bytes outer a c f).joined ≡ (c.joined && noInline f || not c.some && holdsJoined outer a f)
-  unfolding contentAfter noInline holdsJoined withInline
+  after-joined : (c : Content) (f : Forest) → (content_after bytes outer a c f).joined ≡ (c.joined && no_inline f || not c.some && holds_joined outer a f)
+  unfolding content_after no_inline holds_joined with_inline
   after-joined c none = rw (and-true c.joined, and-false (not c.some)) (sym (or-false c.joined))
-  after-joined c (tree r kids rest) = after-joined (withInline bytes outer a c r) rest ∙ go (isInline r.kind) refl
+  after-joined c (tree r kids rest) = after-joined (with_inline bytes outer a c r) rest ∙ go (is_inline r.kind) refl
     where
-      go : (t : Bool) → isInline r.kind ≡ t → ((withInline bytes outer a c r).joined && noInline rest || not (withInline bytes outer a c r).some && holdsJoined outer a rest) ≡ (c.joined && noInline (tree r kids rest) || not c.some && holdsJoined outer a (tree r kids rest))
-      go true e = rw (e, and-false c.joined) (or-false _ ∙ and_assoc (not c.some) (isJoined outer a r.kind r.a) (noInline rest))
+      go : (t : Bool) → is_inline r.kind ≡ t → ((with_inline bytes outer a c r).joined && no_inline rest || not (with_inline bytes outer a c r).some && holds_joined outer a rest) ≡ (c.joined && no_inline (tree r kids rest) || not c.some && holds_joined outer a (tree r kids rest))
+      go true e = rw (e, and-false c.joined) (or-false _ ∙ and_assoc (not c.some) (is_joined outer a r.kind r.a) (no_inline rest))
       go false e = rw e
 
-  after_last : (path : List ℕ) (c : Content) (f : Forest) → listIf (contentAfter bytes outer a c f).breaks Rules.finalHardBreak (contentAfter bytes outer a c f).last path ≡ finalBreakAfter path (listIf c.breaks Rules.finalHardBreak c.last path) f
-  unfolding contentAfter finalBreakAfter withInline
+  after_last : (path : List ℕ) (c : Content) (f : Forest) → list_if (content_after bytes outer a c f).breaks Rules.final_hard_break (content_after bytes outer a c f).last path ≡ final_break_after path (list_if c.breaks Rules.final_hard_break c.last path) f
+  unfolding content_after final_break_after with_inline
   after_last path c none = refl
-  after_last path c (tree r kids rest) = after_last path (withInline bytes outer a c r) rest ∙ ap (λ es. finalBreakAfter path es rest) (go (isInline r.kind) refl)
+  after_last path c (tree r kids rest) = after_last path (with_inline bytes outer a c r) rest ∙ ap (λ es. final_break_after path es rest) (go (is_inline r.kind) refl)
     where
-      go : (t : Bool) → isInline r.kind ≡ t → listIf (withInline bytes outer a c r).breaks Rules.finalHardBreak (withInline bytes outer a c r).last path ≡ (if isInline r.kind then listIf (eqb r.kind lineBreak) Rules.finalHardBreak r.span path else listIf c.breaks Rules.finalHardBreak c.last path)
+      go : (t : Bool) → is_inline r.kind ≡ t → list_if (with_inline bytes outer a c r).breaks Rules.final_hard_break (with_inline bytes outer a c r).last path ≡ (if is_inline r.kind then list_if (eqb r.kind line_break) Rules.final_hard_break r.span path else list_if c.breaks Rules.final_hard_break c.last path)
       go true e = rw e
       go false e = rw e
 
-  module _ (f : Forest) {c : Content} (is : c ≡ contentOf bytes outer a f) where
-    pub says_none : not c.some ≡ noInline f
-    unfolding contentOf
-    says_none = rw (is, after-some noContent f) (not-not (noInline f))
+  module _ (f : Forest) {c : Content} (is : c ≡ content_of bytes outer a f) where
+    pub says_none : not c.some ≡ no_inline f
+    unfolding content_of
+    says_none = rw (is, after-some no_content f) (not-not (no_inline f))
 
-    pub says-empty : c.empty ≡ allEmpty f
-    unfolding contentOf
-    says-empty = rw is (after-empty noContent f)
+    pub says-empty : c.empty ≡ all_empty f
+    unfolding content_of
+    says-empty = rw is (after-empty no_content f)
 
-    pub says-starts : c.starts ≡ startsWithWhitespace bytes f
-    unfolding contentOf
-    says-starts = rw is (after-starts noContent f)
+    pub says-starts : c.starts ≡ starts_with_whitespace bytes f
+    unfolding content_of
+    says-starts = rw is (after-starts no_content f)
 
-    pub says-ends : c.ends ≡ endsWithWhitespace bytes f
-    unfolding contentOf endsWithWhitespace
-    says-ends = rw is (after-ends noContent f)
+    pub says-ends : c.ends ≡ ends_with_whitespace bytes f
+    unfolding content_of ends_with_whitespace
+    says-ends = rw is (after-ends no_content f)
 
-    pub says-joined : c.joined ≡ holdsJoined outer a f
-    unfolding contentOf
-    says-joined = rw is (after-joined noContent f)
+    pub says-joined : c.joined ≡ holds_joined outer a f
+    unfolding content_of
+    says-joined = rw is (after-joined no_content f)
 
-    pub says_last : (path : List ℕ) → listIf c.breaks Rules.finalHardBreak c.last path ≡ finalBreak path f
-    unfolding contentOf finalBreak listIf
-    says_last path = rw is (after_last path noContent f)
+    pub says_last : (path : List ℕ) → list_if c.breaks Rules.final_hard_break c.last path ≡ final_break path f
+    unfolding content_of final_break list_if
+    says_last path = rw is (after_last path no_content f)
 
 -- ---- rule 30, by what was gathered
-pub break-law : (bytes path : List ℕ) (outer a : ℕ) (f : Forest) {s t : Tally} {x y : List ℕ} {c : Content} → c ≡ contentOf bytes outer a f → Lists s t x y (listIf c.breaks Rules.finalHardBreak c.last path) → Lists s t x y (finalBreak path f)
+pub break-law : (bytes path : List ℕ) (outer a : ℕ) (f : Forest) {s t : Tally} {x y : List ℕ} {c : Content} → c ≡ content_of bytes outer a f → Lists s t x y (list_if c.breaks Rules.final_hard_break c.last path) → Lists s t x y (final_break path f)
 break-law bytes path outer a f is l = rw (says_last bytes outer a f is path) at l
 
 pub ruleset breaking = (break-law, rules)

@@ -6,7 +6,7 @@ use native.Mathlib.Omega.{arith}
 use native.Mathlib.Numerals.{add-one}
 use lib.ListN.{length, take, set, length-set, length-take}
 use lib.Seq.{take-suc-set, take-take, take-set-le}
-use Rattle.leaves.specs.Sheet.Records.{recordAt}
+use Rattle.leaves.specs.Sheet.Records.{record_at}
 use Rattle.leaves.specs.Sheet.Forest.{Forest, none, under}
 use Rattle.leaves.specs.Report.Entries.{Entry, Lists, ◌⊕◌}
 use Rattle.leaves.specs.declared.report.entries.Tally.{Tally}
@@ -53,8 +53,8 @@ module _ {w p : List ℕ} {n from len level : ℕ} where
 
   module _ {es : List Entry} {h : Forest → List Entry} {s : Tally} {x : List ℕ} {i k : ℕ} {t : Tally} {y q : List ℕ} (v : Paced es h w p n from len level s x i k t y q) where
     -- there is room for one word more, since no level is above 64
-    pub paced-room : {m : ℕ} → i < n → m ≡ (recordAt w i).level → level < m → len + 1 ≤ 64
-    paced-room {m} b e d = let most : (recordAt w i).level ≤ 64 = v.begin.start.shallow i b in let short : len ≤ level = v.begin.short in omega arith
+    pub paced-room : {m : ℕ} → i < n → m ≡ (record_at w i).level → level < m → len + 1 ≤ 64
+    paced-room {m} b e d = let most : (record_at w i).level ≤ 64 = v.begin.start.shallow i b in let short : len ≤ level = v.begin.short in omega arith
 
     -- the scratch takes the path of the tree at record i
     module _ (r : len + 1 ≤ 64) where
@@ -86,7 +86,7 @@ module _ {w p : List ℕ} {n from len level : ℕ} where
     paced-own r = rw (add-one len) (take-suc-set q len k (omega (arith, v.words)) ∙ ap (λ (l : List ℕ). l ++ k ∷ []) v.path)
 
     -- what a call for what stands under it is given, with the path alone
-    pub paced-under : {m : ℕ} → i < n → m ≡ (recordAt w i).level → level < m → Start w (take (len + 1) (set q len k)) n (i + 1)
+    pub paced-under : {m : ℕ} → i < n → m ≡ (record_at w i).level → level < m → Start w (take (len + 1) (set q len k)) n (i + 1)
     paced-under b e d =
         let g = v.begin.start in
         record {
@@ -98,7 +98,7 @@ module _ {w p : List ℕ} {n from len level : ℕ} where
         }
 
     -- .. and with the scratch
-    pub paced-call : {m : ℕ} → i < n → m ≡ (recordAt w i).level → level < m → Begin w (set q len k) n (i + 1) (len + 1) m
+    pub paced-call : {m : ℕ} → i < n → m ≡ (record_at w i).level → level < m → Begin w (set q len k) n (i + 1) (len + 1) m
     paced-call b e d = let short : len ≤ level = v.begin.short in record { start = paced-under b e d; words = length-set q len k ∙ v.words; short = omega arith; fits = paced-room b e d }
 
     -- a turn: some entries are listed, and the rest, g, from record j on, where it would be the m-th
@@ -113,7 +113,7 @@ module _ {w p : List ℕ} {n from len level : ℕ} where
         }
 
     -- the end of the loop: the scratch holds the path that it was given
-    pub paced-out : {m : ℕ} → h none ≡ [] → i < n → m ≡ (recordAt w i).level → m ≤ level → Done w n from level es s x (record { next = i; tally = t }) y × (take len q ≡ take len p)
+    pub paced-out : {m : ℕ} → h none ≡ [] → i < n → m ≡ (record_at w i).level → m ≤ level → Done w n from level es s x (record { next = i; tally = t }) y × (take len q ≡ take len p)
     paced-out z b e d = (loop-out v.loop z b refl (rw e at d), v.path)
 
     pub paced-end : h none ≡ [] → n ≤ i → Done w n from level es s x (record { next = i; tally = t }) y × (take len q ≡ take len p)

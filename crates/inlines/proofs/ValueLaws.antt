@@ -9,18 +9,18 @@ use borrow.Author.Tests.{le-leb}
 use lib.Dec.{eqb}
 use lib.ListN.{length}
 use Rattle.leaves.specs.Text.Lists.{first_or, last_or}
-use Rattle.leaves.specs.Text.Name.{isAttributeName}
+use Rattle.leaves.specs.Text.Name.{is_attribute_name}
 use Rattle.leaves.specs.Text.Part.{part_of}
-use Rattle.leaves.specs.Text.Pipe.{hasOddEscapedPipe, oddPipeAfter}
+use Rattle.leaves.specs.Text.Pipe.{has_odd_escaped_pipe, odd_pipe_after}
 use Rattle.leaves.specs.Text.Scalars.{scalars, decode}
-use Rattle.leaves.specs.Text.White.{isWhite, startsWithWhite, endsWithWhite}
+use Rattle.leaves.specs.Text.White.{is_white, starts_with_white, ends_with_white}
 use Rattle.leaves.specs.Sheet.Texts.{text_of}
-use Rattle.leaves.specs.Sheet.Kinds.{attribute, text, wikiLink}
+use Rattle.leaves.specs.Sheet.Kinds.{attribute, text, wiki_link}
 use Rattle.leaves.specs.declared.sheet.records.Rec.{Rec}
 use Rattle.leaves.specs.declared.sheet.records.Text.{Text}
 use Rattle.leaves.specs.Sheet.Empty.{only_if}
-use Rattle.inlines.specs.Values.{startsWhite, endsWhite, isUnwritable, isBadAttribute}
-use Rattle.leaves.specs.Sheet.Classes.{isPlainBreak, isBreak, namesOwnValue, namesLabel}
+use Rattle.inlines.specs.Values.{starts_white, ends_white, is_unwritable, is_bad_attribute}
+use Rattle.leaves.specs.Sheet.Classes.{is_plain_break, is_break, names_own_value, names_label}
 
 -- the text 0, 0 has no bytes
 nothing : (bytes : List ℕ) → text_of bytes (record { start = 0; len = 0 }) ≡ []
@@ -32,33 +32,33 @@ only : (test : List ℕ → Bool) → test [] ≡ false → (bytes : List ℕ) (
 only test n bytes true t = refl
 only test n bytes false t = rw (nothing bytes) n
 
-odd-none : hasOddEscapedPipe [] ≡ false
-unfolding hasOddEscapedPipe oddPipeAfter
+odd-none : has_odd_escaped_pipe [] ≡ false
+unfolding has_odd_escaped_pipe odd_pipe_after
 odd-none = refl
 
-starts_none : startsWithWhite [] ≡ false
-unfolding startsWithWhite isWhite first_or scalars decode
+starts_none : starts_with_white [] ≡ false
+unfolding starts_with_white is_white first_or scalars decode
 starts_none = refl
 
-ends-none : endsWithWhite [] ≡ false
-unfolding endsWithWhite isWhite last_or scalars decode
+ends-none : ends_with_white [] ≡ false
+unfolding ends_with_white is_white last_or scalars decode
 ends-none = refl
 
 module _ (bytes : List ℕ) (r : Rec) {s : List ℕ} {t : Text} {p q : Bool} (es : s ≡ text_of bytes t) (et : t ≡ only_if (eqb r.kind text) r.first) where
-  pub starts-law : p ≡ startsWithWhite s → q ≡ isPlainBreak r.kind r.a → (p || q) ≡ startsWhite bytes r
-  unfolding startsWhite
-  starts-law e f = rw (e, f, es, et, only startsWithWhite starts_none bytes (eqb r.kind text) r.first)
+  pub starts-law : p ≡ starts_with_white s → q ≡ is_plain_break r.kind r.a → (p || q) ≡ starts_white bytes r
+  unfolding starts_white
+  starts-law e f = rw (e, f, es, et, only starts_with_white starts_none bytes (eqb r.kind text) r.first)
 
-  pub ends-law : p ≡ endsWithWhite s → q ≡ isBreak r.kind → (p || q) ≡ endsWhite bytes r
-  unfolding endsWhite
-  ends-law e f = rw (e, f, es, et, only endsWithWhite ends-none bytes (eqb r.kind text) r.first)
+  pub ends-law : p ≡ ends_with_white s → q ≡ is_break r.kind → (p || q) ≡ ends_white bytes r
+  unfolding ends_white
+  ends-law e f = rw (e, f, es, et, only ends_with_white ends-none bytes (eqb r.kind text) r.first)
 
-pub unwritable-law : (bytes : List ℕ) (r : Rec) {s u : List ℕ} {t v : Text} {p q c d : Bool} → p ≡ hasOddEscapedPipe s → s ≡ text_of bytes t → t ≡ only_if (c || eqb r.kind wikiLink) r.first → c ≡ namesOwnValue r.kind → q ≡ hasOddEscapedPipe u → u ≡ text_of bytes v → v ≡ only_if (d || eqb r.kind wikiLink) r.second → d ≡ namesLabel r.kind → (p || q) ≡ isUnwritable bytes r
-unfolding isUnwritable
-unwritable-law bytes r ep es et ec eq eu ev ed = rw (ep, eq, es, eu, et, ev, ec, ed, only hasOddEscapedPipe odd-none bytes (namesOwnValue r.kind || eqb r.kind wikiLink) r.first, only hasOddEscapedPipe odd-none bytes (namesLabel r.kind || eqb r.kind wikiLink) r.second)
+pub unwritable-law : (bytes : List ℕ) (r : Rec) {s u : List ℕ} {t v : Text} {p q c d : Bool} → p ≡ has_odd_escaped_pipe s → s ≡ text_of bytes t → t ≡ only_if (c || eqb r.kind wiki_link) r.first → c ≡ names_own_value r.kind → q ≡ has_odd_escaped_pipe u → u ≡ text_of bytes v → v ≡ only_if (d || eqb r.kind wiki_link) r.second → d ≡ names_label r.kind → (p || q) ≡ is_unwritable bytes r
+unfolding is_unwritable
+unwritable-law bytes r ep es et ec eq eu ev ed = rw (ep, eq, es, eu, et, ev, ec, ed, only has_odd_escaped_pipe odd-none bytes (names_own_value r.kind || eqb r.kind wiki_link) r.first, only has_odd_escaped_pipe odd-none bytes (names_label r.kind || eqb r.kind wiki_link) r.second)
 
-pub attribute-law : (bytes : List ℕ) (r : Rec) {s : List ℕ} {p : Bool} → s ≡ text_of bytes r.first → p ≡ isAttributeName s → (eqb r.kind attribute && not p) ≡ isBadAttribute bytes r
-unfolding isBadAttribute
+pub attribute-law : (bytes : List ℕ) (r : Rec) {s : List ℕ} {p : Bool} → s ≡ text_of bytes r.first → p ≡ is_attribute_name s → (eqb r.kind attribute && not p) ≡ is_bad_attribute bytes r
+unfolding is_bad_attribute
 attribute-law bytes r e f = rw (f, e)
 
 pub ruleset values = (starts-law, ends-law, unwritable-law, attribute-law, rules)

@@ -8,9 +8,9 @@ use native.Mathlib.Omega.{arith}
 use borrow.Author.Tests.{ltb-true, ltb-false}
 use lib.Dec.{ltb}
 use lib.ListN.{length}
-use Rattle.leaves.specs.Sheet.Records.{recordAt, recordsOf}
+use Rattle.leaves.specs.Sheet.Records.{record_at, records_of}
 use Rattle.leaves.specs.Refusal.Formed.{Sound}
-use Rattle.leaves.specs.Sheet.Forest.{Forest, none, tree, deeper, past, forestAt, under, size}
+use Rattle.leaves.specs.Sheet.Forest.{Forest, none, tree, deeper, past, forest_at, under, size}
 use Rattle.leaves.specs.Report.Entries.{Entry, Lists, ◌⊕◌}
 use Rattle.leaves.specs.declared.sheet.records.Rec.{Rec}
 use Rattle.leaves.specs.declared.report.entries.Tally.{Tally}
@@ -34,14 +34,14 @@ module _ (h : Forest → List Entry) (g : Rec → Forest → List Entry) (at_non
           rw (past-in m r kids rest d, deeper-in l r kids rest (omega arith), deeper-in m r kids rest d, at-tree r kids (deeper l rest), at-tree r kids (deeper m rest), ih) (sym (join-assoc (g r kids) (h (deeper m rest)) (h (deeper l (past m rest)))))
       go false e ih = rw (past-out m r kids rest (ltb-false _ _ e), deeper-out m r kids rest (ltb-false _ _ e), at_none) (sym (none-join (h (deeper l (tree r kids rest)))))
 
-  module _ (w : List ℕ) (n i l : ℕ) (b : i < n) (d : l < (recordAt w i).level) where
+  module _ (w : List ℕ) (n i l : ℕ) (b : i < n) (d : l < (record_at w i).level) where
     -- record i with its kids, and then what comes after them
-    pub spine-tree : h (under w n i l) ≡ g (recordAt w i) (under w n (i + 1) (recordAt w i).level) ⊕ h (under w n (i + 1 + size (under w n (i + 1) (recordAt w i).level)) l)
-    spine-tree = rw (under-in w n i l b d) (at-tree (recordAt w i) _ _)
+    pub spine-tree : h (under w n i l) ≡ g (record_at w i) (under w n (i + 1) (record_at w i).level) ⊕ h (under w n (i + 1 + size (under w n (i + 1) (record_at w i).level)) l)
+    spine-tree = rw (under-in w n i l b d) (at-tree (record_at w i) _ _)
 
     -- its kids, and then what comes after them, are the records after it
-    pub spine-kids : h (under w n (i + 1) l) ≡ h (under w n (i + 1) (recordAt w i).level) ⊕ h (under w n (i + 1 + size (under w n (i + 1) (recordAt w i).level)) l)
-    spine-kids = rw (past-at, ← sub-add-eq n (i + 1)) at (spine-split l (recordAt w i).level (omega arith) (forestAt w (n - (i + 1)) (i + 1)))
+    pub spine-kids : h (under w n (i + 1) l) ≡ h (under w n (i + 1) (record_at w i).level) ⊕ h (under w n (i + 1 + size (under w n (i + 1) (record_at w i).level)) l)
+    spine-kids = rw (past-at, ← sub-add-eq n (i + 1)) at (spine-split l (record_at w i).level (omega arith) (forest_at w (n - (i + 1)) (i + 1)))
 
 pub done-down : {w : List ℕ} {n i level : ℕ} {es : List Entry} {s : Tally} {x y : List ℕ} {q : Walked} → i < n → Done w n (i + 1) level es s x q y → n - q.next < n - i
 done-down {i = i} {q = q} b d = let f : i < q.next = rw d.next (omega arith) in omega arith
@@ -68,8 +68,8 @@ module _ {w path : List ℕ} {n from level : ℕ} where
           lists = λ a c f. v.lists a c (rw q (lists-then k f));
         }
 
-    pub loop-out : {r : Rec} → h none ≡ [] → i < n → r ≡ recordAt w i → r.level ≤ level → Done w n from level es s x (record { next = i; tally = t }) y
-    loop-out z b e d = let f : (recordAt w i).level ≤ level = rw e at d in record { next = skip-out w n from level v.at b refl f; lists = v.lists t y (rw (under-out w n i level b f, z) lists-none) }
+    pub loop-out : {r : Rec} → h none ≡ [] → i < n → r ≡ record_at w i → r.level ≤ level → Done w n from level es s x (record { next = i; tally = t }) y
+    loop-out z b e d = let f : (record_at w i).level ≤ level = rw e at d in record { next = skip-out w n from level v.at b refl f; lists = v.lists t y (rw (under-out w n i level b f, z) lists-none) }
 
     pub loop-end : h none ≡ [] → n ≤ i → Done w n from level es s x (record { next = i; tally = t }) y
     loop-end z b = record { next = skip-end w n from level v.at b; lists = v.lists t y (rw (under-end w n i level b, z) lists-none) }
@@ -81,9 +81,9 @@ pub record Falls (left m : ℕ) : Type 0 where
   pub less : 2 * (left - 1) + 1 < 2 * left
 
 -- a loop over the trees deeper than `level` stands at such a record, i, and no record is deeper than 64
-pub levels-fall : {w path : List ℕ} {n from left level : ℕ} → Start w path n from → Left left level → {i m : ℕ} → i < n → m ≡ (recordAt w i).level → level < m → Falls left m
+pub levels-fall : {w path : List ℕ} {n from left level : ℕ} → Start w path n from → Left left level → {i m : ℕ} → i < n → m ≡ (record_at w i).level → level < m → Falls left m
 levels-fall start enough {i} b e d = let most = start.shallow i b in record { some = omega arith; rest = record { enough = omega arith }; less = omega arith }
 
 -- ---- what acceptance gives a walk
-pub start_of : {w bytes path : List ℕ} {n from : ℕ} → Sound w bytes → n ≡ recordsOf w → from ≤ n → length path ≤ 64 → Start w path n from
+pub start_of : {w bytes path : List ℕ} {n from : ℕ} → Sound w bytes → n ≡ records_of w → from ≤ n → length path ≤ 64 → Start w path n from
 start_of sound e b s = rw e (record { whole = omega (arith, sound.whole); few = sound.few; shallow = sound.shallow; inside = rw e at b; short = s })

@@ -3,59 +3,59 @@
 -- `path` is the path of the enclosing block or cell.
 use Rattle.std.specs.Prelude.{ℕ, Bool, true, false, not, ◌&&◌, ◌||◌, List, [], eqb}
 use Rattle.leaves.specs.Text.Lists.{if◌then◌else◌}
-use Rattle.leaves.specs.Sheet.Kinds.{isInline, lineBreak}
+use Rattle.leaves.specs.Sheet.Kinds.{is_inline, line_break}
 use Rattle.leaves.specs.Sheet.Forest.{Forest, none, tree}
-use Rattle.leaves.specs.Report.Entries.{Entry, listIf}
+use Rattle.leaves.specs.Report.Entries.{Entry, list_if}
 use Rattle.leaves.specs.Report.Rules
-use Rattle.leaves.specs.Sheet.Empty.{isEmptyText}
-use Rattle.inlines.specs.Values.{startsWhite, endsWhite}
-use Rattle.leaves.specs.Sheet.Classes.{isJoined}
+use Rattle.leaves.specs.Sheet.Empty.{is_empty_text}
+use Rattle.inlines.specs.Values.{starts_white, ends_white}
+use Rattle.leaves.specs.Sheet.Classes.{is_joined}
 
 -- none of the trees is an inline
-unfoldable pub noInline : Forest → Bool
-noInline none = true
-noInline (tree r kids rest) = not (isInline r.kind) && noInline rest
+unfoldable pub no_inline : Forest → Bool
+no_inline none = true
+no_inline (tree r kids rest) = not (is_inline r.kind) && no_inline rest
 
 -- `inlines.iter().all(is_empty_text)`
-unfoldable pub allEmpty : Forest → Bool
-allEmpty none = true
-allEmpty (tree r kids rest) = (not (isInline r.kind) || isEmptyText r) && allEmpty rest
+unfoldable pub all_empty : Forest → Bool
+all_empty none = true
+all_empty (tree r kids rest) = (not (is_inline r.kind) || is_empty_text r) && all_empty rest
 
 -- `starts_with_whitespace`: the first inline that is not an empty text starts with white space
-unfoldable pub startsWithWhitespace : List ℕ → Forest → Bool
-startsWithWhitespace bytes none = false
-startsWithWhitespace bytes (tree r kids rest) =
-    let later = startsWithWhitespace bytes rest in
-    if not (isInline r.kind) || isEmptyText r then later else startsWhite bytes r
+unfoldable pub starts_with_whitespace : List ℕ → Forest → Bool
+starts_with_whitespace bytes none = false
+starts_with_whitespace bytes (tree r kids rest) =
+    let later = starts_with_whitespace bytes rest in
+    if not (is_inline r.kind) || is_empty_text r then later else starts_white bytes r
 
 -- `ends_with_whitespace`: the last inline that is not an empty text ends with white space.
 -- `last` is the answer for the inlines before these trees.
-unfoldable pub endsWithWhitespaceAfter : List ℕ → Bool → Forest → Bool
-endsWithWhitespaceAfter bytes last none = last
-endsWithWhitespaceAfter bytes last (tree r kids rest) =
-    endsWithWhitespaceAfter bytes
-    (if not (isInline r.kind) || isEmptyText r then last else endsWhite bytes r)
+unfoldable pub ends_with_whitespace_after : List ℕ → Bool → Forest → Bool
+ends_with_whitespace_after bytes last none = last
+ends_with_whitespace_after bytes last (tree r kids rest) =
+    ends_with_whitespace_after bytes
+    (if not (is_inline r.kind) || is_empty_text r then last else ends_white bytes r)
     rest
 
-unfoldable pub endsWithWhitespace : List ℕ → Forest → Bool
-endsWithWhitespace bytes f = endsWithWhitespaceAfter bytes false f
+unfoldable pub ends_with_whitespace : List ℕ → Forest → Bool
+ends_with_whitespace bytes f = ends_with_whitespace_after bytes false f
 
 -- There is one inline alone, and it is written with the delimiter of its container.
 -- `outer` is the container's kind, and `a` its A.
-unfoldable pub holdsJoined : ℕ → ℕ → Forest → Bool
-holdsJoined outer a none = false
-holdsJoined outer a (tree r kids rest) =
-    let later = holdsJoined outer a rest in
-    if isInline r.kind then isJoined outer a r.kind r.a && noInline rest else later
+unfoldable pub holds_joined : ℕ → ℕ → Forest → Bool
+holds_joined outer a none = false
+holds_joined outer a (tree r kids rest) =
+    let later = holds_joined outer a rest in
+    if is_inline r.kind then is_joined outer a r.kind r.a && no_inline rest else later
 
 -- The first part of `validate_inlines`: 30, where the last inline is a line break.
 -- `last` is the list for the inlines before these trees.
-unfoldable pub finalBreakAfter : List ℕ → List Entry → Forest → List Entry
-finalBreakAfter path last none = last
-finalBreakAfter path last (tree r kids rest) =
-    finalBreakAfter path
-    (if isInline r.kind then listIf (eqb r.kind lineBreak) Rules.finalHardBreak r.span path else last)
+unfoldable pub final_break_after : List ℕ → List Entry → Forest → List Entry
+final_break_after path last none = last
+final_break_after path last (tree r kids rest) =
+    final_break_after path
+    (if is_inline r.kind then list_if (eqb r.kind line_break) Rules.final_hard_break r.span path else last)
     rest
 
-unfoldable pub finalBreak : List ℕ → Forest → List Entry
-finalBreak path f = finalBreakAfter path [] f
+unfoldable pub final_break : List ℕ → Forest → List Entry
+final_break path f = final_break_after path [] f

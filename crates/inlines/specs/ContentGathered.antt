@@ -2,17 +2,17 @@
 -- definitions: `ContentLaws` proves that they agree with those of `Content`.
 use Rattle.std.specs.Prelude.{ℕ, true, false, not, ◌&&◌, ◌||◌, List, eqb}
 use Rattle.leaves.specs.Text.Lists.{if◌then◌else◌}
-use Rattle.leaves.specs.Sheet.Kinds.{isInline, lineBreak}
+use Rattle.leaves.specs.Sheet.Kinds.{is_inline, line_break}
 use Rattle.leaves.specs.Sheet.Forest.{Forest, none, tree}
 use Rattle.leaves.specs.declared.sheet.records.Rec.{Rec}
-use Rattle.leaves.specs.Sheet.Empty.{isEmptyText}
-use Rattle.inlines.specs.Values.{startsWhite, endsWhite}
-use Rattle.leaves.specs.Sheet.Classes.{isJoined}
+use Rattle.leaves.specs.Sheet.Empty.{is_empty_text}
+use Rattle.inlines.specs.Values.{starts_white, ends_white}
+use Rattle.leaves.specs.Sheet.Classes.{is_joined}
 use Rattle.inlines.specs.declared.content.Content.{Content}
 
 -- what is gathered before the first inline
-abbrev pub noContent : Content
-noContent = record {
+abbrev pub no_content : Content
+no_content = record {
   some = false;
   empty = true;
   starts = false;
@@ -24,24 +24,24 @@ noContent = record {
 
 -- `c` with the record r added, in a container of the kind `outer` whose A is `a`. A record that is not an inline
 -- changes nothing.
-unfoldable pub withInline : List ℕ → ℕ → ℕ → Content → Rec → Content
-withInline bytes outer a c r =
-    if isInline r.kind
+unfoldable pub with_inline : List ℕ → ℕ → ℕ → Content → Rec → Content
+with_inline bytes outer a c r =
+    if is_inline r.kind
     then record {
       some = true;
-      empty = c.empty && isEmptyText r;
-      starts = c.starts || c.empty && not (isEmptyText r) && startsWhite bytes r;
-      ends = if isEmptyText r then c.ends else endsWhite bytes r;
-      joined = not c.some && isJoined outer a r.kind r.a;
-      breaks = eqb r.kind lineBreak;
+      empty = c.empty && is_empty_text r;
+      starts = c.starts || c.empty && not (is_empty_text r) && starts_white bytes r;
+      ends = if is_empty_text r then c.ends else ends_white bytes r;
+      joined = not c.some && is_joined outer a r.kind r.a;
+      breaks = eqb r.kind line_break;
       last = r.span;
     }
     else c
 
 -- `c` with all of the trees added
-unfoldable pub contentAfter : List ℕ → ℕ → ℕ → Content → Forest → Content
-contentAfter bytes outer a c none = c
-contentAfter bytes outer a c (tree r kids rest) = contentAfter bytes outer a (withInline bytes outer a c r) rest
+unfoldable pub content_after : List ℕ → ℕ → ℕ → Content → Forest → Content
+content_after bytes outer a c none = c
+content_after bytes outer a c (tree r kids rest) = content_after bytes outer a (with_inline bytes outer a c r) rest
 
-unfoldable pub contentOf : List ℕ → ℕ → ℕ → Forest → Content
-contentOf bytes outer a f = contentAfter bytes outer a noContent f
+unfoldable pub content_of : List ℕ → ℕ → ℕ → Forest → Content
+content_of bytes outer a f = content_after bytes outer a no_content f

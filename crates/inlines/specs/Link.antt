@@ -3,13 +3,13 @@
 use Rattle.std.specs.Prelude.{ℕ, true, List, []}
 use Rattle.leaves.specs.Text.Lists.{if◌then◌else◌}
 use Rattle.leaves.specs.Sheet.Forest.{Forest, none, tree}
-use Rattle.leaves.specs.Report.Entries.{Entry, listIf, ◌⊕◌}
+use Rattle.leaves.specs.Report.Entries.{Entry, list_if, ◌⊕◌}
 use Rattle.leaves.specs.Report.Rules
-use Rattle.leaves.specs.Sheet.Classes.{isLink}
+use Rattle.leaves.specs.Sheet.Classes.{is_link}
 
 -- `validate_link_text`: 42 for each link that is not inside one already reported
-unfoldable pub validateLinkText : List ℕ → Forest → List Entry
-validateLinkText path none = []
-validateLinkText path (tree r kids rest) =
-    let inside = validateLinkText path kids in
-    (if isLink r.kind then listIf true Rules.linkInLink r.span path else inside) ⊕ validateLinkText path rest
+unfoldable pub validate_link_text : List ℕ → Forest → List Entry
+validate_link_text path none = []
+validate_link_text path (tree r kids rest) =
+    let inside = validate_link_text path kids in
+    (if is_link r.kind then list_if true Rules.link_in_link r.span path else inside) ⊕ validate_link_text path rest

@@ -4,36 +4,36 @@
 -- here too.
 use Rattle.std.specs.Prelude.{ℕ, List, []}
 use Rattle.leaves.specs.Text.Lists.{if◌then◌else◌}
-use Rattle.leaves.specs.Sheet.Kinds.{isInline}
+use Rattle.leaves.specs.Sheet.Kinds.{is_inline}
 use Rattle.leaves.specs.Sheet.Forest.{Forest, none, tree}
 use Rattle.leaves.specs.Report.Entries.{Entry, ◌⊕◌}
 use Rattle.leaves.specs.declared.sheet.records.Rec.{Rec}
-use Rattle.inlines.specs.Single.{validateSiblings}
-unfoldable pub use Rattle.inlines.specs.Content.{noInline, allEmpty, startsWithWhitespace}
-unfoldable pub use Rattle.inlines.specs.Content.{endsWithWhitespaceAfter, endsWithWhitespace}
-unfoldable pub use Rattle.inlines.specs.Content.{holdsJoined, finalBreakAfter, finalBreak}
-unfoldable pub use Rattle.inlines.specs.Own.{validateInlineValues}
-unfoldable pub use Rattle.inlines.specs.Node.{validateTextDirective, validateEmphasisContainer, validateInline}
+use Rattle.inlines.specs.Single.{validate_siblings}
+unfoldable pub use Rattle.inlines.specs.Content.{no_inline, all_empty, starts_with_whitespace}
+unfoldable pub use Rattle.inlines.specs.Content.{ends_with_whitespace_after, ends_with_whitespace}
+unfoldable pub use Rattle.inlines.specs.Content.{holds_joined, final_break_after, final_break}
+unfoldable pub use Rattle.inlines.specs.Own.{validate_inline_values}
+unfoldable pub use Rattle.inlines.specs.Node.{validate_text_directive, validate_emphasis_container, validate_inline}
 
 -- One inline: the entries of it and the inline before it, whose kind is `before`; then its own; then `under`, those
 -- of its children. Every kind that has children walks them last.
-unfoldable pub validateNode : List ℕ → List ℕ → ℕ → Rec → Forest → List Entry → List Entry
-validateNode bytes path before r kids under =
-    if isInline r.kind
-    then validateSiblings path r.span before r.kind r.a ⊕ validateInline bytes path r kids ⊕ under
+unfoldable pub validate_node : List ℕ → List ℕ → ℕ → Rec → Forest → List Entry → List Entry
+validate_node bytes path before r kids under =
+    if is_inline r.kind
+    then validate_siblings path r.span before r.kind r.a ⊕ validate_inline bytes path r kids ⊕ under
     else []
 
 -- `validate_inline_nodes`. `before` is the kind of the inline before these trees, 0 where there is none.
-unfoldable pub validateInlineNodesAfter : List ℕ → List ℕ → ℕ → Forest → List Entry
-validateInlineNodesAfter bytes path before none = []
-validateInlineNodesAfter bytes path before (tree r kids rest) =
-    let under = validateInlineNodesAfter bytes path 0 kids in
-    validateNode bytes path before r kids under
-    ⊕ validateInlineNodesAfter bytes path (if isInline r.kind then r.kind else before) rest
+unfoldable pub validate_inline_nodes_after : List ℕ → List ℕ → ℕ → Forest → List Entry
+validate_inline_nodes_after bytes path before none = []
+validate_inline_nodes_after bytes path before (tree r kids rest) =
+    let under = validate_inline_nodes_after bytes path 0 kids in
+    validate_node bytes path before r kids under
+    ⊕ validate_inline_nodes_after bytes path (if is_inline r.kind then r.kind else before) rest
 
-unfoldable pub validateInlineNodes : List ℕ → List ℕ → Forest → List Entry
-validateInlineNodes bytes path f = validateInlineNodesAfter bytes path 0 f
+unfoldable pub validate_inline_nodes : List ℕ → List ℕ → Forest → List Entry
+validate_inline_nodes bytes path f = validate_inline_nodes_after bytes path 0 f
 
 -- `validate_inlines`: 30, then the nodes
-unfoldable pub validateInlines : List ℕ → List ℕ → Forest → List Entry
-validateInlines bytes path f = finalBreak path f ⊕ validateInlineNodes bytes path f
+unfoldable pub validate_inlines : List ℕ → List ℕ → Forest → List Entry
+validate_inlines bytes path f = final_break path f ⊕ validate_inline_nodes bytes path f

@@ -2,37 +2,37 @@
 -- before it. Each definition has its function's name and gives its entries in its order.
 -- `path` is the path of the enclosing block or cell.
 use Rattle.std.specs.Prelude.{ℕ, not, ◌&&◌, List, eqb}
-use Rattle.leaves.specs.Text.Name.{isDirectiveName}
-use Rattle.leaves.specs.Text.Punctuation.{isAsciiPunctuation}
+use Rattle.leaves.specs.Text.Name.{is_directive_name}
+use Rattle.leaves.specs.Text.Punctuation.{is_ascii_punctuation}
 use Rattle.leaves.specs.Sheet.Kinds.{delete}
 use Rattle.leaves.specs.Sheet.Texts.{text_of}
-use Rattle.leaves.specs.Report.Entries.{Entry, listIf, ◌⊕◌}
+use Rattle.leaves.specs.Report.Entries.{Entry, list_if, ◌⊕◌}
 use Rattle.leaves.specs.declared.sheet.records.Span.{Span}
 use Rattle.leaves.specs.declared.sheet.records.Text.{Text}
 use Rattle.leaves.specs.Report.Rules
 use Rattle.leaves.specs.Sheet.Empty.{is_empty}
-use Rattle.leaves.specs.Sheet.Classes.{isBreak, isPlainBreak}
+use Rattle.leaves.specs.Sheet.Classes.{is_break, is_plain_break}
 
 -- `validate_destination`: 25. A is 0 for a bare destination.
-unfoldable pub validateDestination : List ℕ → Span → ℕ → Text → List Entry
-validateDestination path span a destination =
-    listIf (eqb a 0 && is_empty destination) Rules.emptyBareDestination span path
+unfoldable pub validate_destination : List ℕ → Span → ℕ → Text → List Entry
+validate_destination path span a destination =
+    list_if (eqb a 0 && is_empty destination) Rules.empty_bare_destination span path
 
 -- the tests `identifier.is_empty()` and `target.is_empty()` of the match: `rule` is 32, 33, 34 or 36
-unfoldable pub validateIdentifier : List ℕ → ℕ → Span → Text → List Entry
-validateIdentifier path rule span identifier = listIf (is_empty identifier) rule span path
+unfoldable pub validate_identifier : List ℕ → ℕ → Span → Text → List Entry
+validate_identifier path rule span identifier = list_if (is_empty identifier) rule span path
 
 -- `validate_escape`: 43
-unfoldable pub validateEscape : List ℕ → Span → ℕ → List Entry
-validateEscape path span a = listIf (not (isAsciiPunctuation a)) Rules.escapedValue span path
+unfoldable pub validate_escape : List ℕ → Span → ℕ → List Entry
+validate_escape path span a = list_if (not (is_ascii_punctuation a)) Rules.escaped_value span path
 
 -- `validate_directive_name`: 54
-unfoldable pub validateDirectiveName : List ℕ → List ℕ → Span → Text → List Entry
-validateDirectiveName bytes path span name =
-    listIf (not (isDirectiveName (text_of bytes name))) Rules.directiveName span path
+unfoldable pub validate_directive_name : List ℕ → List ℕ → Span → Text → List Entry
+validate_directive_name bytes path span name =
+    list_if (not (is_directive_name (text_of bytes name))) Rules.directive_name span path
 
 -- `validate_siblings`: 37, 38. `before` is the kind of the inline before, 0 where there is none.
-unfoldable pub validateSiblings : List ℕ → Span → ℕ → ℕ → ℕ → List Entry
-validateSiblings path span before kind a =
-    listIf (isBreak before && isPlainBreak kind a) Rules.breakAfterBreak span path
-    ⊕ listIf (eqb before delete && eqb kind delete) Rules.adjacentStrikethroughs span path
+unfoldable pub validate_siblings : List ℕ → Span → ℕ → ℕ → ℕ → List Entry
+validate_siblings path span before kind a =
+    list_if (is_break before && is_plain_break kind a) Rules.break_after_break span path
+    ⊕ list_if (eqb before delete && eqb kind delete) Rules.adjacent_strikethroughs span path

@@ -1,6 +1,6 @@
 // The names of a directive's attributes.
 ghost use Rattle.leaves.specs.Sheet.Forest.{under};
-ghost use Rattle.inlines.specs.Attribute.{validateDirectiveAttributes};
+ghost use Rattle.inlines.specs.Attribute.{validate_directive_attributes};
 ghost use Rattle.inlines.specs.Walk.{Start, Done};
 
 use crate::values;
@@ -24,7 +24,7 @@ pub fn validate_directive_attributes(
 ) -> Walked
     requires { Start sheet.now path.now n from }
     ensures { Done sheet.now n from level
-        (validateDirectiveAttributes bytes.now path.now
+        (validate_directive_attributes bytes.now path.now
         (under sheet.now n from level))
         tally report.old result report.new }
 {

@@ -1,11 +1,11 @@
 // What the rules ask of the inlines of one container, gathered in one pass.
 ghost use Rattle.std.specs.Prelude.{◌≡◌, ◌*◌, ◌≤◌, length};
-ghost use Rattle.leaves.specs.Sheet.Records.{recordWords};
+ghost use Rattle.leaves.specs.Sheet.Records.{record_words};
 ghost use Rattle.leaves.specs.Sheet.Forest.{under};
 ghost use Rattle.leaves.specs.Report.Entries.{Lists};
 ghost use Rattle.inlines.specs.Walk.{Start};
-ghost use Rattle.inlines.specs.Content.{finalBreak};
-ghost use Rattle.inlines.specs.ContentGathered.{noContent, withInline, contentOf};
+ghost use Rattle.inlines.specs.Content.{final_break};
+ghost use Rattle.inlines.specs.ContentGathered.{no_content, with_inline, content_of};
 
 use crate::values;
 use leaves::report::entries::{Tally, list_if};
@@ -34,7 +34,7 @@ pub(crate) struct Content {
 }
 
 fn no_content() -> Content
-    ensures { result ≡ noContent }
+    ensures { result ≡ no_content }
 {
     Content {
         some: false,
@@ -53,7 +53,7 @@ fn no_content() -> Content
 
 // `c` with record `r` added. A record that is not an inline changes nothing.
 fn with_inline(bytes: &[u8], outer: u32, a: u32, c: Content, r: Rec) -> Content
-    ensures { result ≡ withInline bytes.now outer a c r }
+    ensures { result ≡ with_inline bytes.now outer a c r }
 {
     if !kinds::is_inline(r.kind) {
         return c;
@@ -82,8 +82,8 @@ pub(crate) fn gather(
     outer: u32,
     a: u32,
 ) -> Content
-    requires { (n * recordWords ≤ length sheet.now) × (from ≤ n) }
-    ensures { result ≡ contentOf bytes.now outer a (under sheet.now n from level) }
+    requires { (n * record_words ≤ length sheet.now) × (from ≤ n) }
+    ensures { result ≡ content_of bytes.now outer a (under sheet.now n from level) }
 {
     let mut c = no_content();
     let mut i = from;
@@ -112,7 +112,7 @@ pub(crate) fn final_break(
 ) -> Tally
     requires { Start sheet.now path.now n from }
     ensures { Lists tally result report.old report.new
-        (finalBreak path.now (under sheet.now n from level)) }
+        (final_break path.now (under sheet.now n from level)) }
 {
     let c = gather(sheet, bytes, n, from, level, 0, 0);
     list_if(

@@ -1,6 +1,6 @@
 // The walks over every record of some trees, at any depth.
 ghost use Rattle.leaves.specs.Sheet.Forest.{under};
-ghost use Rattle.inlines.specs.Depth.{validateCellValues, validateOneLine};
+ghost use Rattle.inlines.specs.Depth.{validate_cell_values, validate_one_line};
 ghost use Rattle.inlines.specs.Walk.{Start, Done};
 
 use crate::values;
@@ -22,7 +22,7 @@ pub fn validate_one_line(
 ) -> Walked
     requires { Start sheet.now path.now n from }
     ensures { Done sheet.now n from level
-        (validateOneLine rule path.now (under sheet.now n from level))
+        (validate_one_line rule path.now (under sheet.now n from level))
         tally report.old result report.new }
 {
     let mut out = tally;
@@ -58,7 +58,7 @@ pub fn validate_cell_values(
 ) -> Walked
     requires { Start sheet.now path.now n from }
     ensures { Done sheet.now n from level
-        (validateCellValues bytes.now path.now (under sheet.now n from level))
+        (validate_cell_values bytes.now path.now (under sheet.now n from level))
         tally report.old result report.new }
 {
     let mut out = tally;

@@ -1,9 +1,9 @@
 // Links in the text of a link.
 ghost use Rattle.std.specs.Prelude.{◌≡◌, ◌+◌, ◌*◌, ◌<◌, ◌≤◌, length};
 ghost use Rattle.leaves.specs.Text.Lists.{if◌then◌else◌};
-ghost use Rattle.leaves.specs.Sheet.Records.{recordWords};
+ghost use Rattle.leaves.specs.Sheet.Records.{record_words};
 ghost use Rattle.leaves.specs.Sheet.Forest.{under, size};
-ghost use Rattle.inlines.specs.Link.{validateLinkText};
+ghost use Rattle.inlines.specs.Link.{validate_link_text};
 ghost use Rattle.inlines.specs.Walk.{Start, Done};
 
 use crate::walk::Walked;
@@ -15,7 +15,7 @@ use leaves::sheet::{classes, records};
 // The record to go on with after record `i`: where it is a link (`found`), the one behind all that it holds; else the
 // next.
 fn past_link(sheet: &[u32], n: usize, i: usize, found: bool, level: u32) -> usize
-    requires { (n * recordWords ≤ length sheet.now) × (i < n) }
+    requires { (n * record_words ≤ length sheet.now) × (i < n) }
     ensures { result ≡ (if found then i + 1 + size (under sheet.now n (i + 1) level) else i + 1) }
 {
     if found {
@@ -36,7 +36,7 @@ pub(crate) fn validate_link_text(
 ) -> Walked
     requires { Start sheet.now path.now n from }
     ensures { Done sheet.now n from level
-        (validateLinkText path.now (under sheet.now n from level))
+        (validate_link_text path.now (under sheet.now n from level))
         tally report.old result report.new }
 {
     let mut out = tally;

@@ -1,8 +1,8 @@
 // The rules of text, code and math, whose values are written as they are.
 ghost use Rattle.std.specs.Prelude.{◌≤◌, length};
-ghost use Rattle.leaves.specs.Refusal.Limits.{mostLevel};
+ghost use Rattle.leaves.specs.Refusal.Limits.{most_level};
 ghost use Rattle.leaves.specs.Report.Entries.{Lists};
-ghost use Rattle.inlines.specs.Literal.{validateText, validateCodeInline, validateMathInline};
+ghost use Rattle.inlines.specs.Literal.{validate_text, validate_code_inline, validate_math_inline};
 
 use leaves::report::entries::{Tally, list_if};
 use leaves::report::rules;
@@ -21,9 +21,9 @@ pub(crate) fn validate_text(
     value: Text,
     tally: Tally,
 ) -> Tally
-    requires { length path.now ≤ mostLevel }
+    requires { length path.now ≤ most_level }
     ensures { Lists tally result report.old report.new
-        (validateText bytes.now path.now span value) }
+        (validate_text bytes.now path.now span value) }
 {
     let fault = holds_line_ending(text_of(bytes, value));
     list_if(fault, report, rules::LINE_ENDING_IN_TEXT, span, path, tally)
@@ -38,9 +38,9 @@ pub(crate) fn validate_code_inline(
     value: Text,
     tally: Tally,
 ) -> Tally
-    requires { length path.now ≤ mostLevel }
+    requires { length path.now ≤ most_level }
     ensures { Lists tally result report.old report.new
-        (validateCodeInline bytes.now path.now span value) }
+        (validate_code_inline bytes.now path.now span value) }
 {
     let empty = empty::is_empty(value);
     let out = list_if(empty, report, rules::EMPTY_CODE, span, path, tally);
@@ -60,9 +60,9 @@ pub(crate) fn validate_math_inline(
     value: Text,
     tally: Tally,
 ) -> Tally
-    requires { length path.now ≤ mostLevel }
+    requires { length path.now ≤ most_level }
     ensures { Lists tally result report.old report.new
-        (validateMathInline bytes.now path.now span a b value) }
+        (validate_math_inline bytes.now path.now span a b value) }
 {
     let empty = empty::is_empty(value);
     let out = list_if(empty, report, rules::EMPTY_MATH, span, path, tally);

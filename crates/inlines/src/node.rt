@@ -1,10 +1,10 @@
 // What one inline reports of itself, by its kind.
 ghost use Rattle.leaves.specs.Sheet.Forest.{under};
-ghost use Rattle.leaves.specs.Report.Entries.{Lists, listIf, ◌⊕◌};
-ghost use Rattle.inlines.specs.Single.{validateDestination, validateIdentifier};
-ghost use Rattle.inlines.specs.Link.{validateLinkText};
-ghost use Rattle.inlines.specs.Content.{noInline};
-ghost use Rattle.inlines.specs.Node.{validateTextDirective, validateEmphasisContainer, validateInline};
+ghost use Rattle.leaves.specs.Report.Entries.{Lists, list_if, ◌⊕◌};
+ghost use Rattle.inlines.specs.Single.{validate_destination, validate_identifier};
+ghost use Rattle.inlines.specs.Link.{validate_link_text};
+ghost use Rattle.inlines.specs.Content.{no_inline};
+ghost use Rattle.inlines.specs.Node.{validate_text_directive, validate_emphasis_container, validate_inline};
 ghost use Rattle.leaves.specs.Report.Rules;
 ghost use Rattle.inlines.specs.Walk.{Start};
 
@@ -31,7 +31,7 @@ fn validate_emphasis_container(
 ) -> Tally
     requires { Start sheet.now path.now n from }
     ensures { Lists tally result report.old report.new
-        (validateEmphasisContainer bytes.now path.now r.span r.kind r.a
+        (validate_emphasis_container bytes.now path.now r.span r.kind r.a
         (under sheet.now n from r.level)) }
 {
     let c = gather(sheet, bytes, n, from, r.level, r.kind, r.a);
@@ -54,8 +54,8 @@ fn validate_link(
 ) -> Tally
     requires { Start sheet.now path.now n from }
     ensures { Lists tally result report.old report.new
-        (validateDestination path.now r.span r.a r.first
-        ⊕ validateLinkText path.now (under sheet.now n from r.level)) }
+        (validate_destination path.now r.span r.a r.first
+        ⊕ validate_link_text path.now (under sheet.now n from r.level)) }
 {
     let out = single::validate_destination(report, path, r.span, r.a, r.first, tally);
     let walked = validate_link_text(sheet, report, path, n, from, r.level, out);
@@ -74,8 +74,8 @@ fn validate_link_reference(
 ) -> Tally
     requires { Start sheet.now path.now n from }
     ensures { Lists tally result report.old report.new
-        (validateIdentifier path.now Rules.emptyLinkReference r.span r.first
-        ⊕ validateLinkText path.now (under sheet.now n from r.level)) }
+        (validate_identifier path.now Rules.empty_link_reference r.span r.first
+        ⊕ validate_link_text path.now (under sheet.now n from r.level)) }
 {
     let rule = rules::EMPTY_LINK_REFERENCE;
     let out = single::validate_identifier(report, path, rule, r.span, r.first, tally);
@@ -96,7 +96,7 @@ fn validate_text_directive(
 ) -> Tally
     requires { Start sheet.now path.now n from }
     ensures { Lists tally result report.old report.new
-        (validateTextDirective bytes.now path.now r.span r.first
+        (validate_text_directive bytes.now path.now r.span r.first
         (under sheet.now n from r.level)) }
 {
     let out = single::validate_directive_name(bytes, report, path, r.span, r.first, tally);
@@ -117,7 +117,7 @@ fn validate_inline_footnote(
 ) -> Tally
     requires { Start sheet.now path.now n from }
     ensures { Lists tally result report.old report.new
-        (listIf (noInline (under sheet.now n from r.level)) Rules.emptyInlineFootnote r.span
+        (list_if (no_inline (under sheet.now n from r.level)) Rules.empty_inline_footnote r.span
         path.now) }
 {
     let c = gather(sheet, bytes, n, from, r.level, r.kind, r.a);
@@ -146,7 +146,7 @@ pub(crate) fn validate_inline(
 ) -> Tally
     requires { Start sheet.now path.now n from }
     ensures { Lists tally result report.old report.new
-        (validateInline bytes.now path.now r (under sheet.now n from r.level)) }
+        (validate_inline bytes.now path.now r (under sheet.now n from r.level)) }
 {
     let kind = r.kind;
     if classes::is_emphasis_container(kind) {

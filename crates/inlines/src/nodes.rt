@@ -1,8 +1,8 @@
 // The walk of inlines: for each the rules of it and the one before it, its own rules, and its children.
 ghost use Rattle.std.specs.Prelude.{◌+◌};
-ghost use Rattle.leaves.specs.Sheet.Records.{recordAt};
+ghost use Rattle.leaves.specs.Sheet.Records.{record_at};
 ghost use Rattle.leaves.specs.Sheet.Forest.{under};
-ghost use Rattle.inlines.specs.Nodes.{validateInlineNodesAfter, validateInlines, validateNode};
+ghost use Rattle.inlines.specs.Nodes.{validate_inline_nodes_after, validate_inlines, validate_node};
 ghost use Rattle.inlines.specs.Walk.{Start, Left, Done};
 ghost use Rattle.inlines.specs.NodesHere.{Here};
 
@@ -37,9 +37,9 @@ fn validate_node(
 ) -> Walked
     requires { Here sheet.now path.now n i level × Left left level }
     ensures { Done sheet.now n (i + 1) level
-        (validateNode bytes.now path.now before (recordAt sheet.now i)
+        (validate_node bytes.now path.now before (record_at sheet.now i)
         (under sheet.now n (i + 1) level)
-        (validateInlineNodesAfter bytes.now path.now 0
+        (validate_inline_nodes_after bytes.now path.now 0
         (under sheet.now n (i + 1) level)))
         tally report.old result report.new }
 {
@@ -72,7 +72,7 @@ fn validate_inline_nodes(
 ) -> Walked
     requires { Start sheet.now path.now n from × Left left level }
     ensures { Done sheet.now n from level
-        (validateInlineNodesAfter bytes.now path.now before
+        (validate_inline_nodes_after bytes.now path.now before
         (under sheet.now n from level))
         tally report.old result report.new }
 {
@@ -123,7 +123,7 @@ pub fn validate_inlines(
 ) -> Walked
     requires { Start sheet.now path.now n from × Left left level }
     ensures { Done sheet.now n from level
-        (validateInlines bytes.now path.now (under sheet.now n from level))
+        (validate_inlines bytes.now path.now (under sheet.now n from level))
         tally report.old result report.new }
 {
     let out = final_break(sheet, bytes, report, path, n, from, level, tally);

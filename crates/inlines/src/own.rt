@@ -1,8 +1,8 @@
 // What one inline reports by its own values, by its kind.
 ghost use Rattle.std.specs.Prelude.{◌≤◌, length};
-ghost use Rattle.leaves.specs.Refusal.Limits.{mostLevel};
+ghost use Rattle.leaves.specs.Refusal.Limits.{most_level};
 ghost use Rattle.leaves.specs.Report.Entries.{Lists};
-ghost use Rattle.inlines.specs.Own.{validateInlineValues};
+ghost use Rattle.inlines.specs.Own.{validate_inline_values};
 
 use crate::{literal, single};
 use leaves::report::entries::Tally;
@@ -19,9 +19,9 @@ pub(crate) fn validate_inline_values(
     r: Rec,
     tally: Tally,
 ) -> Tally
-    requires { length path.now ≤ mostLevel }
+    requires { length path.now ≤ most_level }
     ensures { Lists tally result report.old report.new
-        (validateInlineValues bytes.now path.now r) }
+        (validate_inline_values bytes.now path.now r) }
 {
     let kind = r.kind;
     match kind {

@@ -1,9 +1,9 @@
 // The rules of one inline and its own values, and of two side by side.
 ghost use Rattle.std.specs.Prelude.{◌≤◌, length};
-ghost use Rattle.leaves.specs.Refusal.Limits.{mostLevel};
+ghost use Rattle.leaves.specs.Refusal.Limits.{most_level};
 ghost use Rattle.leaves.specs.Report.Entries.{Lists};
-ghost use Rattle.inlines.specs.Single.{validateDestination, validateIdentifier, validateEscape};
-ghost use Rattle.inlines.specs.Single.{validateDirectiveName, validateSiblings};
+ghost use Rattle.inlines.specs.Single.{validate_destination, validate_identifier, validate_escape};
+ghost use Rattle.inlines.specs.Single.{validate_directive_name, validate_siblings};
 
 use leaves::report::entries::{Tally, list_if};
 use leaves::report::rules;
@@ -22,9 +22,9 @@ pub fn validate_destination(
     destination: Text,
     tally: Tally,
 ) -> Tally
-    requires { length path.now ≤ mostLevel }
+    requires { length path.now ≤ most_level }
     ensures { Lists tally result report.old report.new
-        (validateDestination path.now span a destination) }
+        (validate_destination path.now span a destination) }
 {
     let fault = (a == 0) & empty::is_empty(destination);
     list_if(
@@ -46,9 +46,9 @@ pub(crate) fn validate_identifier(
     identifier: Text,
     tally: Tally,
 ) -> Tally
-    requires { length path.now ≤ mostLevel }
+    requires { length path.now ≤ most_level }
     ensures { Lists tally result report.old report.new
-        (validateIdentifier path.now rule span identifier) }
+        (validate_identifier path.now rule span identifier) }
 {
     let fault = empty::is_empty(identifier);
     list_if(fault, report, rule, span, path, tally)
@@ -62,9 +62,9 @@ pub(crate) fn validate_escape(
     a: u32,
     tally: Tally,
 ) -> Tally
-    requires { length path.now ≤ mostLevel }
+    requires { length path.now ≤ most_level }
     ensures { Lists tally result report.old report.new
-        (validateEscape path.now span a) }
+        (validate_escape path.now span a) }
 {
     let fault = !is_ascii_punctuation(a);
     list_if(fault, report, rules::ESCAPED_VALUE, span, path, tally)
@@ -79,9 +79,9 @@ pub fn validate_directive_name(
     name: Text,
     tally: Tally,
 ) -> Tally
-    requires { length path.now ≤ mostLevel }
+    requires { length path.now ≤ most_level }
     ensures { Lists tally result report.old report.new
-        (validateDirectiveName bytes.now path.now span name) }
+        (validate_directive_name bytes.now path.now span name) }
 {
     let fault = !is_directive_name(text_of(bytes, name));
     list_if(fault, report, rules::DIRECTIVE_NAME, span, path, tally)
@@ -98,9 +98,9 @@ pub(crate) fn validate_siblings(
     a: u32,
     tally: Tally,
 ) -> Tally
-    requires { length path.now ≤ mostLevel }
+    requires { length path.now ≤ most_level }
     ensures { Lists tally result report.old report.new
-        (validateSiblings path.now span before kind a) }
+        (validate_siblings path.now span before kind a) }
 {
     let blank_line = classes::is_break(before) & classes::is_plain_break(kind, a);
     let out = list_if(

@@ -1,6 +1,6 @@
 // What the walks ask of the own values of one record.
 ghost use Rattle.std.specs.Prelude.{◌≡◌};
-ghost use Rattle.inlines.specs.Values.{startsWhite, endsWhite, isUnwritable, isBadAttribute};
+ghost use Rattle.inlines.specs.Values.{starts_white, ends_white, is_unwritable, is_bad_attribute};
 
 use leaves::sheet::classes::{is_break, is_plain_break, names_label, names_own_value};
 use leaves::sheet::empty::only_if;
@@ -13,7 +13,7 @@ use leaves::text::white;
 
 // Whether an inline starts with white space.
 pub(crate) fn starts_white(bytes: &[u8], r: Rec) -> bool
-    ensures { result ≡ startsWhite bytes.now r }
+    ensures { result ≡ starts_white bytes.now r }
 {
     let t = only_if(r.kind == kinds::TEXT, r.first);
     white::starts_with_white(text_of(bytes, t)) | is_plain_break(r.kind, r.a)
@@ -21,7 +21,7 @@ pub(crate) fn starts_white(bytes: &[u8], r: Rec) -> bool
 
 // Whether an inline ends with white space.
 pub(crate) fn ends_white(bytes: &[u8], r: Rec) -> bool
-    ensures { result ≡ endsWhite bytes.now r }
+    ensures { result ≡ ends_white bytes.now r }
 {
     let t = only_if(r.kind == kinds::TEXT, r.first);
     white::ends_with_white(text_of(bytes, t)) | is_break(r.kind)
@@ -29,7 +29,7 @@ pub(crate) fn ends_white(bytes: &[u8], r: Rec) -> bool
 
 // Whether the inline has a value that no cell can hold: one with a `|` after an odd run of backslashes.
 pub(crate) fn is_unwritable(bytes: &[u8], r: Rec) -> bool
-    ensures { result ≡ isUnwritable bytes.now r }
+    ensures { result ≡ is_unwritable bytes.now r }
 {
     let wiki = r.kind == kinds::WIKI_LINK;
     let first = only_if(names_own_value(r.kind) | wiki, r.first);
@@ -39,7 +39,7 @@ pub(crate) fn is_unwritable(bytes: &[u8], r: Rec) -> bool
 
 // Whether a record is an attribute whose name is not an attribute name.
 pub(crate) fn is_bad_attribute(bytes: &[u8], r: Rec) -> bool
-    ensures { result ≡ isBadAttribute bytes.now r }
+    ensures { result ≡ is_bad_attribute bytes.now r }
 {
     (r.kind == kinds::ATTRIBUTE) & !is_attribute_name(text_of(bytes, r.first))
 }

@@ -12,7 +12,7 @@ use Rattle.replay.specs.declared.piece.Step.{Step}
 use Rattle.replay.specs.declared.tally.Tally.{Tally}
 use Rattle.replay.specs.Tally.{nothing, differing, together}
 use Rattle.replay.specs.Format.{replayed}
-use Rattle.replay.specs.Long.{longWords, unfilled, zeros, breaksOf}
+use Rattle.replay.specs.Long.{long_words, unfilled, zeros, breaks_of}
 use Rattle.replay.specs.File.{Stepped, went, ended, broke, Reached, begins, follows, Found, whole, broken, Adds, adds}
 
 module _ (f : Format) (sheet text : List ℕ) (t : Tally) (s : Step) where
@@ -54,12 +54,12 @@ add-found f sheet text total t found e h = adds found h e
 as_long : (n : ℕ) (old : List ℕ) → old ≡ replicate n 0 → length old ≡ n
 as_long n old e = ap length e ∙ length-replicate n 0
 
-unfilled-long : (old : List ℕ) → old ≡ unfilled → length old ≡ longWords
+unfilled-long : (old : List ℕ) → old ≡ unfilled → length old ≡ long_words
 unfolding unfilled
-unfilled-long old e = as_long longWords old e
+unfilled-long old e = as_long long_words old e
 
 -- the long sheet is filled in its whole length
-pub add-calls : (old sheet text : List ℕ) (total t found : Tally) → t ≡ together total found → Found Calls sheet text found → sheet ≡ breaksOf (length old) → old ≡ unfilled → text ≡ zeros → Adds Calls (breaksOf longWords) zeros total t
+pub add-calls : (old sheet text : List ℕ) (total t found : Tally) → t ≡ together total found → Found Calls sheet text found → sheet ≡ breaks_of (length old) → old ≡ unfilled → text ≡ zeros → Adds Calls (breaks_of long_words) zeros total t
 add-calls old sheet text total t found e h b o z =
     adds found (rw (← unfilled-long old o, ← b, ← z) h) e
 

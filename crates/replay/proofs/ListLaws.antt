@@ -8,14 +8,14 @@ use borrow.Author.Tests.{lt-ltb, le-ltb, not-true, not-false}
 use lib.Dec.{eqb, leb}
 use lib.ListN.{length, replicate}
 use Rattle.leaves.specs.Text.Part.{part_of}
-use Rattle.leaves.specs.Sheet.Records.{recordsOf}
+use Rattle.leaves.specs.Sheet.Records.{records_of}
 use Rattle.leaves.specs.Sheet.Forest.{under}
 use Rattle.leaves.specs.Refusal.Judge.{Judges}
-use Rattle.leaves.specs.Refusal.Verdict.{isAccepted}
+use Rattle.leaves.specs.Refusal.Verdict.{is_accepted}
 use Rattle.leaves.specs.Report.Entries.{start}
 use Rattle.leaves.specs.declared.refusal.verdict.Judged.{Judged}
 use Rattle.leaves.specs.declared.report.entries.Tally.{Tally as Words}
-use Rattle.inlines.specs.Nodes.{validateInlines}
+use Rattle.inlines.specs.Nodes.{validate_inlines}
 use Rattle.inlines.specs.Walk.{Start, Done}
 use Rattle.inlines.specs.declared.walk.Walked.{Walked}
 use Rattle.inlines.proofs.WalkLaws.{start_of}
@@ -25,28 +25,28 @@ use Rattle.replay.specs.declared.tally.Tally.{Tally}
 use Rattle.replay.specs.Bytes.{pair_at}
 use Rattle.replay.specs.Tally.{recorded, comparing}
 use Rattle.replay.specs.Words.{words_of, first_of, same_words, Gives}
-use Rattle.replay.specs.Sheets.{sheetIn}
-use Rattle.replay.specs.Lists.{inlinesOf, listed_of, list_of, listReplayed}
+use Rattle.replay.specs.Sheets.{sheet_in}
+use Rattle.replay.specs.Lists.{inlines_of, listed_of, list_of, list_replayed}
 
 module _ (w bytes report : List ℕ) where
-  pub listed-none : recordsOf w < 1 → Gives (listed_of w bytes report) 0 report
+  pub listed-none : records_of w < 1 → Gives (listed_of w bytes report) 0 report
   unfolding listed_of
-  listed-none h = rw (lt-ltb (recordsOf w) 1 h) (record { first = refl; second = refl })
+  listed-none h = rw (lt-ltb (records_of w) 1 h) (record { first = refl; second = refl })
 
-  module _ (j : Judged) (t : Bool) (some : 1 ≤ recordsOf w) (judged : Judges w bytes j) (told : t ≡ isAccepted j) where
+  module _ (j : Judged) (t : Bool) (some : 1 ≤ records_of w) (judged : Judges w bytes j) (told : t ≡ is_accepted j) where
     pub listed-refused : t ≡ false → Gives (listed_of w bytes report) 0 report
     unfolding listed_of
-    listed-refused e = rw (le-ltb (recordsOf w) 1 some, sym (ap isAccepted judged.enum) ∙ sym told ∙ e) (record { first = refl; second = refl })
+    listed-refused e = rw (le-ltb (records_of w) 1 some, sym (ap is_accepted judged.enum) ∙ sym told ∙ e) (record { first = refl; second = refl })
 
-    pub listed-some : t ≡ true → (s : Words) (q : Walked) (left : List ℕ) → s ≡ start → Done w (recordsOf w) 1 1 (validateInlines bytes (0 ∷ []) (under w (recordsOf w) 1 1)) s report q left → Gives (listed_of w bytes report) q.tally.words left
+    pub listed-some : t ≡ true → (s : Words) (q : Walked) (left : List ℕ) → s ≡ start → Done w (records_of w) 1 1 (validate_inlines bytes (0 ∷ []) (under w (records_of w) 1 1)) s report q left → Gives (listed_of w bytes report) q.tally.words left
     unfolding listed_of
-    listed-some e s q left n d = rw (le-ltb (recordsOf w) 1 some, sym (ap isAccepted judged.enum) ∙ sym told ∙ e) (record { first = rw (← n) (ap (λ (u : Words). u.words) d.lists.tally); second = rw (← n) d.lists.written })
+    listed-some e s q left n d = rw (le-ltb (records_of w) 1 some, sym (ap is_accepted judged.enum) ∙ sym told ∙ e) (record { first = rw (← n) (ap (λ (u : Words). u.words) d.lists.tally); second = rw (← n) d.lists.written })
 
-    pub list-starts : t ≡ true → Start w (0 ∷ []) (recordsOf w) 1
+    pub list-starts : t ≡ true → Start w (0 ∷ []) (records_of w) 1
     list-starts e = start_of (accepted w bytes (sym judged.enum ∙ is-accepted j (sym told ∙ e))) refl (search rules) (search rules)
 
-pub list-record : (r w text filled part wanted left : List ℕ) (n k m found : ℕ) (same : Bool) (t t₁ t₂ t₃ : Tally) → t₃ ≡ comparing same t₂ → t₂ ≡ comparing (leb n 800 && leb m 800 && eqb found m) t₁ → t₁ ≡ recorded t → same ≡ same_words left wanted 0 → wanted ≡ part_of r (6 + n * 4 + k) (m * 4) → Gives (listed_of w text (replicate 800 0)) found left → w ≡ first_of filled n → filled ≡ words_of 800 part → part ≡ part_of r 6 (n * 4) → text ≡ part_of r (6 + n * 4) k → n ≡ pair_at r 0 → k ≡ pair_at r 2 → m ≡ pair_at r 4 → t₃ ≡ listReplayed r t
-unfolding listReplayed list_of sheetIn
+pub list-record : (r w text filled part wanted left : List ℕ) (n k m found : ℕ) (same : Bool) (t t₁ t₂ t₃ : Tally) → t₃ ≡ comparing same t₂ → t₂ ≡ comparing (leb n 800 && leb m 800 && eqb found m) t₁ → t₁ ≡ recorded t → same ≡ same_words left wanted 0 → wanted ≡ part_of r (6 + n * 4 + k) (m * 4) → Gives (listed_of w text (replicate 800 0)) found left → w ≡ first_of filled n → filled ≡ words_of 800 part → part ≡ part_of r 6 (n * 4) → text ≡ part_of r (6 + n * 4) k → n ≡ pair_at r 0 → k ≡ pair_at r 2 → m ≡ pair_at r 4 → t₃ ≡ list_replayed r t
+unfolding list_replayed list_of sheet_in
 list-record r w text filled part wanted left n k m found same t t₁ t₂ t₃ p q e s v g a b c d x y z =
     let f : found ≡ (listed_of w text (replicate 800 0)).0 = g.first in
     let l : left ≡ (listed_of w text (replicate 800 0)).1 = g.second in

@@ -9,30 +9,30 @@ use lib.Dec.{eqb, leb}
 use lib.ListN.{length}
 use Rattle.leaves.specs.Text.Part.{part_of}
 use Rattle.replay.specs.declared.tally.Tally.{Tally}
-use Rattle.replay.specs.Bytes.{number_at, longAt}
+use Rattle.replay.specs.Bytes.{number_at, long_at}
 use Rattle.replay.specs.Tally.{recorded, comparing}
 use Rattle.replay.specs.Words.{first_of, same_words, Gives}
-use Rattle.replay.specs.Front.{answeredOf}
+use Rattle.replay.specs.Front.{answered_of}
 use Rattle.replay.specs.Checks.{before}
-use Rattle.replay.specs.Long.{breakWord, untouched, call_of, callReplayed}
+use Rattle.replay.specs.Long.{break_word, untouched, call_of, call_replayed}
 
-pub break-kind : (field : ℕ) → field ≡ 0 → 3 ≡ breakWord field
-unfolding breakWord
+pub break-kind : (field : ℕ) → field ≡ 0 → 3 ≡ break_word field
+unfolding break_word
 break-kind field e = rw (eq-eqb field 0 e)
 
-pub break-level : (field : ℕ) → (field ≡ 0 → ⊥) → field ≡ 1 → 1 ≡ breakWord field
-unfolding breakWord
+pub break-level : (field : ℕ) → (field ≡ 0 → ⊥) → field ≡ 1 → 1 ≡ break_word field
+unfolding break_word
 break-level field d e = rw (ne_eqb field 0 d, eq-eqb field 1 e)
 
-pub break-rest : (field : ℕ) → (field ≡ 0 → ⊥) → (field ≡ 1 → ⊥) → 0 ≡ breakWord field
-unfolding breakWord
+pub break-rest : (field : ℕ) → (field ≡ 0 → ⊥) → (field ≡ 1 → ⊥) → 0 ≡ break_word field
+unfolding break_word
 break-rest field d e = rw (ne_eqb field 0 d, ne_eqb field 1 e)
 
-pub call-record : (r sheet text front seen lent left zeros : List ℕ) (function n k m z found answer : ℕ) (same : Bool) (t t₁ t₂ t₃ : Tally) → t₃ ≡ comparing same t₂ → t₂ ≡ comparing (leb n (length sheet) && eqb found answer) t₁ → t₁ ≡ recorded t → same ≡ same_words left zeros before → zeros ≡ part_of text 0 z → Gives (answeredOf function front seen lent m) found left → lent ≡ untouched → front ≡ first_of sheet n → seen ≡ part_of text 0 k → function ≡ number_at r 0 → n ≡ number_at r 4 → k ≡ number_at r 8 → m ≡ number_at r 12 → z ≡ number_at r 16 → answer ≡ longAt r 20 → t₃ ≡ callReplayed r sheet text t
-unfolding callReplayed call_of
+pub call-record : (r sheet text front seen lent left zeros : List ℕ) (function n k m z found answer : ℕ) (same : Bool) (t t₁ t₂ t₃ : Tally) → t₃ ≡ comparing same t₂ → t₂ ≡ comparing (leb n (length sheet) && eqb found answer) t₁ → t₁ ≡ recorded t → same ≡ same_words left zeros before → zeros ≡ part_of text 0 z → Gives (answered_of function front seen lent m) found left → lent ≡ untouched → front ≡ first_of sheet n → seen ≡ part_of text 0 k → function ≡ number_at r 0 → n ≡ number_at r 4 → k ≡ number_at r 8 → m ≡ number_at r 12 → z ≡ number_at r 16 → answer ≡ long_at r 20 → t₃ ≡ call_replayed r sheet text t
+unfolding call_replayed call_of
 call-record r sheet text front seen lent left zeros function n k m z found answer same t t₁ t₂ t₃ p q e s a g b c d x₀ x₄ x₈ x₁₂ x₁₆ x₂₀ =
-    let f : found ≡ (answeredOf function front seen lent m).0 = g.first in
-    let l : left ≡ (answeredOf function front seen lent m).1 = g.second in
+    let f : found ≡ (answered_of function front seen lent m).0 = g.first in
+    let l : left ≡ (answered_of function front seen lent m).1 = g.second in
     cc
 
 pub ruleset longs = (break-kind, break-level, break-rest, rules)

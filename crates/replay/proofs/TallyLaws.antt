@@ -4,7 +4,7 @@ use mathlib.Core.Bool.{Bool, true, false}
 use Prim.Native.Nat.{ℕ, ◌+◌, ◌≤◌, ◌<◌}
 use borrow.Author.Rules.{rules}
 use borrow.Author.Tests.{le-leb, lt-leb}
-use Rattle.replay.specs.Tally.{most, sum_of, differencesOf}
+use Rattle.replay.specs.Tally.{most, sum_of, differences_of}
 
 pub sum_first : (a b : ℕ) → most ≤ a → most ≡ sum_of a b
 unfolding sum_of
@@ -18,12 +18,12 @@ pub sum-plain : (a b : ℕ) → a < most → b < most → a + b ≡ sum_of a b
 unfolding sum_of
 sum-plain a b g h = rw (lt-leb most a g, lt-leb most b h)
 
-pub differs_none : (same : Bool) → same ≡ true → 0 ≡ differencesOf same
-unfolding differencesOf
+pub differs_none : (same : Bool) → same ≡ true → 0 ≡ differences_of same
+unfolding differences_of
 differs_none same e = rw e
 
-pub differs-one : (same : Bool) → same ≡ false → 1 ≡ differencesOf same
-unfolding differencesOf
+pub differs-one : (same : Bool) → same ≡ false → 1 ≡ differences_of same
+unfolding differences_of
 differs-one same e = rw e
 
 pub ruleset tallies = (sum_first, sum-second, sum-plain, differs_none, differs-one, rules)

@@ -12,7 +12,7 @@ use lib.ListN.{length, take, drop, get_or, set, length-set, drop_of_length-le}
 use lib.Seq.{take-suc-set, take_all}
 use Rattle.leaves.proofs.text.ScanLaws.{next}
 use Rattle.replay.specs.Bytes.{number_at}
-use Rattle.replay.specs.Words.{up_to, agrees, first_of, wordOr}
+use Rattle.replay.specs.Words.{up_to, agrees, first_of, word_or}
 
 -- the first k words are what `f` gives at their places
 pub record Filling (f : ℕ → ℕ) (old new : List ℕ) (k : ℕ) : Type 0 where
@@ -72,12 +72,12 @@ pub first_some : (w : List ℕ) (n : ℕ) → n ≤ length w → take n w ≡ fi
 unfolding first_of
 first_some w n h = rw (le-leb n (length w) h)
 
-pub word-inside : (s : List ℕ) (rest at v : ℕ) → at < length s → v ≡ number_at s at → v ≡ wordOr s rest at
-unfolding wordOr
+pub word-inside : (s : List ℕ) (rest at v : ℕ) → at < length s → v ≡ number_at s at → v ≡ word_or s rest at
+unfolding word_or
 word-inside s rest at v h e = rw (lt-ltb at (length s) h) e
 
-pub word-behind : (s : List ℕ) (rest at : ℕ) → length s ≤ at → rest ≡ wordOr s rest at
-unfolding wordOr
+pub word-behind : (s : List ℕ) (rest at : ℕ) → length s ≤ at → rest ≡ word_or s rest at
+unfolding word_or
 word-behind s rest at h = rw (le-ltb at (length s) h)
 
 pub ruleset words = (fill_start, fill-turn, fill_end, agree-start, agree-turn, agree-stop, agree-end, first-none, first_some, word-inside, word-behind, rules)

@@ -14,5 +14,5 @@ unfoldable pub number_at : List ℕ → ℕ → ℕ
 number_at s at = byte_at s at + byte_at s (at + 1) * 0x100 + byte_at s (at + 2) * 0x10000 + byte_at s (at + 3) * 0x1000000
 
 -- the number of eight bytes
-unfoldable pub longAt : List ℕ → ℕ → ℕ
-longAt s at = number_at s at + number_at s (at + 4) * 0x100000000
+unfoldable pub long_at : List ℕ → ℕ → ℕ
+long_at s at = number_at s at + number_at s (at + 4) * 0x100000000

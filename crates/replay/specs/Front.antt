@@ -6,34 +6,34 @@ use Rattle.leaves.specs.Refusal.Verdict.{Answer}
 use Rattle.setter.specs.Setting.{setting_of}
 
 -- what neither function ever answers
-abbrev pub noAnswer : ℕ
-noAnswer = 0xFFFFFFFFFFFFFFFF
+abbrev pub no_answer : ℕ
+no_answer = 0xFFFFFFFFFFFFFFFF
 
 -- an answer as the one number that C is handed back: its number times 2^32, and its value
 abbrev pub packed : Answer → ℕ
 packed a = a.number * 2 ^ 32 + a.value
 
 -- the number of the check, and of the setting machine
-abbrev pub theCheck : ℕ
-theCheck = 0
+abbrev pub the_check : ℕ
+the_check = 0
 
-abbrev pub theMachine : ℕ
-theMachine = 1
+abbrev pub the_machine : ℕ
+the_machine = 1
 
 -- the answer of a function for a sheet, its text and the words that it is lent, and those words after it. Where neither
 -- function has the number: no answer, and the words as they were.
-unfoldable pub calledOf : ℕ → List ℕ → List ℕ → List ℕ → ℕ × List ℕ
-calledOf function w bytes lent =
-    if eqb function theCheck
+unfoldable pub called_of : ℕ → List ℕ → List ℕ → List ℕ → ℕ × List ℕ
+called_of function w bytes lent =
+    if eqb function the_check
     then (packed (outcome w bytes lent).0, (outcome w bytes lent).1)
-    else if eqb function theMachine
+    else if eqb function the_machine
     then (packed (setting_of w bytes lent).0, (setting_of w bytes lent).1)
-    else (noAnswer, lent)
+    else (no_answer, lent)
 
 -- the same where the first m words are lent, and those behind them stay. Where there are fewer: no answer, and the
 -- words as they were.
-unfoldable pub answeredOf : ℕ → List ℕ → List ℕ → List ℕ → ℕ → ℕ × List ℕ
-answeredOf function w bytes lent m =
+unfoldable pub answered_of : ℕ → List ℕ → List ℕ → List ℕ → ℕ → ℕ × List ℕ
+answered_of function w bytes lent m =
     if ltb (length lent) m
-    then (noAnswer, lent)
-    else ((calledOf function w bytes (take m lent)).0, (calledOf function w bytes (take m lent)).1 ++ drop m lent)
+    then (no_answer, lent)
+    else ((called_of function w bytes (take m lent)).0, (called_of function w bytes (take m lent)).1 ++ drop m lent)

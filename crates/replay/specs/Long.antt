@@ -2,30 +2,30 @@
 use Rattle.std.specs.Prelude.{ℕ, zero, suc, ◌%◌, ◌&&◌, List, eqb, leb, length, replicate}
 use Rattle.leaves.specs.Text.Lists.{if◌then◌else◌}
 use Rattle.leaves.specs.Text.Part.{part_of}
-use Rattle.leaves.specs.Sheet.Kinds.{thematicBreak}
-use Rattle.leaves.specs.Sheet.Records.{recordWords}
+use Rattle.leaves.specs.Sheet.Kinds.{thematic_break}
+use Rattle.leaves.specs.Sheet.Records.{record_words}
 use Rattle.replay.specs.declared.tally.Tally.{Tally}
-use Rattle.replay.specs.Bytes.{number_at, longAt}
+use Rattle.replay.specs.Bytes.{number_at, long_at}
 use Rattle.replay.specs.Tally.{recorded, comparing}
 use Rattle.replay.specs.Words.{up_to, first_of, same_words}
-use Rattle.replay.specs.Front.{answeredOf}
+use Rattle.replay.specs.Front.{answered_of}
 use Rattle.replay.specs.Checks.{before}
 
 -- a word of a thematic break at level 1, by its field: the kind, the level, and 0 for each field behind them
-unfoldable pub breakWord : ℕ → ℕ
-breakWord field = if eqb field 0 then thematicBreak else if eqb field 1 then 1 else 0
+unfoldable pub break_word : ℕ → ℕ
+break_word field = if eqb field 0 then thematic_break else if eqb field 1 then 1 else 0
 
 -- n words of thematic breaks at level 1, one after another
-unfoldable pub breaksOf : ℕ → List ℕ
-breaksOf n = up_to n (λ k. breakWord (k % recordWords))
+unfoldable pub breaks_of : ℕ → List ℕ
+breaks_of n = up_to n (λ k. break_word (k % record_words))
 
 -- the words of 65,537 records: two records more than a sheet may have
-abbrev pub longWords : ℕ
-longWords = 786444
+abbrev pub long_words : ℕ
+long_words = 786444
 
 -- the long sheet before it is filled
 unfoldable pub unfilled : List ℕ
-unfilled = replicate longWords 0
+unfilled = replicate long_words 0
 
 -- the long text: one byte more than a text may have
 unfoldable pub zeros : List ℕ
@@ -39,7 +39,7 @@ untouched = replicate 65544 before
 -- has their lengths.
 unfoldable pub call_of : List ℕ → List ℕ → List ℕ → ℕ × List ℕ
 call_of r sheet text =
-    answeredOf (number_at r 0)
+    answered_of (number_at r 0)
     (first_of sheet (number_at r 4))
     (part_of text 0 (number_at r 8))
     untouched
@@ -47,7 +47,7 @@ call_of r sheet text =
 
 -- the answer is compared, and every lent word: as many bytes as the record says are the text's (zeros), and every word
 -- behind them is as before
-unfoldable pub callReplayed : List ℕ → List ℕ → List ℕ → Tally → Tally
-callReplayed r sheet text t =
+unfoldable pub call_replayed : List ℕ → List ℕ → List ℕ → Tally → Tally
+call_replayed r sheet text t =
     comparing (same_words (call_of r sheet text).1 (part_of text 0 (number_at r 16)) before)
-    (comparing (leb (number_at r 4) (length sheet) && eqb (call_of r sheet text).0 (longAt r 20)) (recorded t))
+    (comparing (leb (number_at r 4) (length sheet) && eqb (call_of r sheet text).0 (long_at r 20)) (recorded t))

@@ -12,9 +12,9 @@ unfoldable pub sum_of : ℕ → ℕ → ℕ
 sum_of a b = if leb most a then most else if leb most b then most else a + b
 
 -- how many differences a comparison adds: none where the two are the same, and one where they are not
-unfoldable pub differencesOf : Bool → ℕ
-differencesOf true = 0
-differencesOf false = 1
+unfoldable pub differences_of : Bool → ℕ
+differences_of true = 0
+differences_of false = 1
 
 -- nothing is counted yet
 abbrev pub nothing : Tally
@@ -34,7 +34,7 @@ comparing same t =
     record {
       records = t.records;
       compared = sum_of t.compared 1;
-      differ = sum_of t.differ (differencesOf same);
+      differ = sum_of t.differ (differences_of same);
     }
 
 -- the two tallies added

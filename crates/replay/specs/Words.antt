@@ -26,12 +26,12 @@ unfoldable pub first_of : List ℕ → ℕ → List ℕ
 first_of w n = if leb n (length w) then take n w else []
 
 -- the word whose bytes begin at a place; `rest` behind the bytes
-unfoldable pub wordOr : List ℕ → ℕ → ℕ → ℕ
-wordOr s rest at = if ltb at (length s) then number_at s at else rest
+unfoldable pub word_or : List ℕ → ℕ → ℕ → ℕ
+word_or s rest at = if ltb at (length s) then number_at s at else rest
 
 -- every word is the one whose bytes stand at its place, and `rest` behind the bytes
 unfoldable pub same_words : List ℕ → List ℕ → ℕ → Bool
-same_words w s rest = agrees (λ k. wordOr s rest (k * 4)) 0 w
+same_words w s rest = agrees (λ k. word_or s rest (k * 4)) 0 w
 
 -- a call answers the first of the pair, and the second is the words that it was lent, after it
 pub record Gives (both : ℕ × List ℕ) (answer : ℕ) (left : List ℕ) : Type 0 where

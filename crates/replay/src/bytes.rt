@@ -1,6 +1,6 @@
 // Numbers of a stored record, least byte first. Every byte past the record's end is read as 0.
 ghost use Rattle.std.specs.Prelude.{◌≡◌, ◌<◌, ◌≤◌, ◌^◌};
-ghost use Rattle.replay.specs.Bytes.{byte_at, pair_at, number_at, longAt};
+ghost use Rattle.replay.specs.Bytes.{byte_at, pair_at, number_at, long_at};
 
 pub fn byte(s: &[u8], at: usize) -> u8
     ensures { result ≡ byte_at s.now at }
@@ -54,7 +54,7 @@ pub fn large(s: &[u8], at: usize) -> usize
 
 pub fn long_number(s: &[u8], at: usize) -> usize
     requires { at < 128 }
-    ensures { result ≡ longAt s.now at }
+    ensures { result ≡ long_at s.now at }
 {
     large(s, at) + large(s, at + 4) * 0x1_0000_0000
 }

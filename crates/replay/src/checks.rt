@@ -2,7 +2,7 @@
 // of the report, marks that are written, marks) and two answers (the check's, the setting machine's). Behind the head
 // stand the sheet, the text, the list and the marks that are written.
 ghost use Rattle.std.specs.Prelude.{◌≡◌, ◌≤◌};
-ghost use Rattle.replay.specs.Checks.{fits_of, checkReplayed, setReplayed, checksReplayed};
+ghost use Rattle.replay.specs.Checks.{fits_of, check_replayed, set_replayed, checks_replayed};
 
 use crate::tally::Tally;
 use crate::{bytes, front, words};
@@ -47,7 +47,7 @@ fn fits(r: &[u8]) -> bool
 // Compares the check's answer, and each word of the report. Every word behind the list must be as it was, and so must
 // every word past the report's end.
 fn replay_check(r: &[u8], sheet: &[u32], text: &[u8], list: &[u8], tally: Tally) -> Tally
-    ensures { result ≡ checkReplayed r.now sheet.now text.now
+    ensures { result ≡ check_replayed r.now sheet.now text.now
         list.now tally }
 {
     let mut report = [BEFORE; REPORT];
@@ -60,7 +60,7 @@ fn replay_check(r: &[u8], sheet: &[u32], text: &[u8], list: &[u8], tally: Tally)
 // Compares the machine's answer, and each mark. The marks of records that it does not open must be as they were, and so
 // must every word past the marks.
 fn replay_set(r: &[u8], sheet: &[u32], text: &[u8], written: &[u8], tally: Tally) -> Tally
-    ensures { result ≡ setReplayed r.now sheet.now text.now
+    ensures { result ≡ set_replayed r.now sheet.now text.now
         written.now tally }
 {
     let mut marks = [BEFORE; MARKS];
@@ -72,7 +72,7 @@ fn replay_set(r: &[u8], sheet: &[u32], text: &[u8], written: &[u8], tally: Tally
 
 // Replays both calls with the same sheet and text.
 pub fn replay_record(r: &[u8], tally: Tally) -> Tally
-    ensures { result ≡ checksReplayed r.now tally }
+    ensures { result ≡ checks_replayed r.now tally }
 {
     let mut sheet = [0u32; SHEET];
     let n = bytes::pair(r, 0);

@@ -1,6 +1,6 @@
 // A stored film: how many bytes it has and how many are printed for it (4 bytes each), the film, and what is printed.
 ghost use Rattle.std.specs.Prelude.{◌≡◌, ◌<◌, ◌^◌, get_or};
-ghost use Rattle.replay.specs.Films.{before, untouched, samePrinted, filmReplayed};
+ghost use Rattle.replay.specs.Films.{before, untouched, same_printed, film_replayed};
 
 use crate::bytes;
 use crate::tally::Tally;
@@ -46,7 +46,7 @@ fn wanted_byte(wanted: &[u8], at: usize) -> u8
 
 // Whether each byte is the one wanted at its place, and BEFORE behind the wanted bytes.
 fn same(bytes: &[u8], wanted: &[u8]) -> bool
-    ensures { result ≡ samePrinted bytes.now wanted.now }
+    ensures { result ≡ same_printed bytes.now wanted.now }
 {
     let mut k: usize = 0;
     while k < bytes.len() {
@@ -60,14 +60,14 @@ fn same(bytes: &[u8], wanted: &[u8]) -> bool
 
 // `same` of the whole output.
 fn same_output(bytes: &[u8; OUTPUT_BYTES], wanted: &[u8]) -> bool
-    ensures { result ≡ samePrinted bytes.now wanted.now }
+    ensures { result ≡ same_printed bytes.now wanted.now }
 {
     same(bytes, wanted)
 }
 
 // Compares how many bytes are printed, and each byte of the output. Behind what is printed it must be as it was.
 pub fn replay_film(r: &[u8], tally: Tally) -> Tally
-    ensures { result ≡ filmReplayed r.now tally }
+    ensures { result ≡ film_replayed r.now tally }
 {
     let n = bytes::large(r, 0);
     let m = bytes::large(r, 4);

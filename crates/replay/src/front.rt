@@ -1,5 +1,5 @@
 // Calls an exported function by number, and lends it the front of some words as its report or its marks.
-ghost use Rattle.replay.specs.Front.{calledOf, answeredOf};
+ghost use Rattle.replay.specs.Front.{called_of, answered_of};
 ghost use Rattle.replay.specs.Words.{Gives};
 
 use setter::exports::{reedsander_check, reedsander_set};
@@ -12,7 +12,7 @@ pub const SET: usize = 1;
 const NONE: u64 = 0xFFFF_FFFF_FFFF_FFFF;
 
 fn call(function: usize, sheet: &[u32], text: &[u8], lent: &mut [u32]) -> u64
-    ensures { Gives (calledOf function sheet.now text.now lent.old)
+    ensures { Gives (called_of function sheet.now text.now lent.old)
         result lent.new }
 {
     if function == CHECK {
@@ -27,7 +27,7 @@ fn call(function: usize, sheet: &[u32], text: &[u8], lent: &mut [u32]) -> u64
 // The answer of the function that is lent the first `m` words. NONE where there are fewer words, or where neither
 // function has that number.
 pub fn answer(function: usize, sheet: &[u32], text: &[u8], lent: &mut [u32], m: usize) -> u64
-    ensures { Gives (answeredOf function sheet.now text.now lent.old m)
+    ensures { Gives (answered_of function sheet.now text.now lent.old m)
         result lent.new }
 {
     if lent.len() < m {

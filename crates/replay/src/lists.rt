@@ -1,6 +1,6 @@
 // Stored sheets of one paragraph, each with the list that the Rust gives for its inlines.
 ghost use Rattle.std.specs.Prelude.{◌≡◌, ◌≤◌};
-ghost use Rattle.replay.specs.Lists.{listed_of, listReplayed};
+ghost use Rattle.replay.specs.Lists.{listed_of, list_replayed};
 ghost use Rattle.replay.specs.Words.{Gives};
 
 use crate::tally::Tally;
@@ -48,7 +48,7 @@ fn listed(sheet: &[u32], text: &[u8], report: &mut [u32]) -> usize
 
 // Compares the length of the list, and each word of the report. Behind the list each must be 0.
 pub fn replay_record(r: &[u8], tally: Tally) -> Tally
-    ensures { result ≡ listReplayed r.now tally }
+    ensures { result ≡ list_replayed r.now tally }
 {
     let mut sheet = [0u32; MOST];
     let mut report = [0u32; MOST];

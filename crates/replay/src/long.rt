@@ -2,7 +2,7 @@
 // bytes the text, how many words are lent to be written into, and how many bytes of those are 0 after the call (4 bytes
 // each); then the answer (8 bytes). The sheet is of thematic breaks, the text of zeros.
 ghost use Rattle.std.specs.Prelude.{◌≡◌, length};
-ghost use Rattle.replay.specs.Long.{breakWord, breaksOf, unfilled, zeros, untouched, callReplayed};
+ghost use Rattle.replay.specs.Long.{break_word, breaks_of, unfilled, zeros, untouched, call_replayed};
 
 use crate::tally::Tally;
 use crate::{bytes, front, words};
@@ -47,7 +47,7 @@ fn lent() -> [u32; LENT]
 
 // A word of a thematic break at level 1, by its field: the kind, the level, and 0 for each field behind them.
 fn word(field: usize) -> u32
-    ensures { result ≡ breakWord field }
+    ensures { result ≡ break_word field }
 {
     if field == 0 {
         return kinds::THEMATIC_BREAK;
@@ -60,7 +60,7 @@ fn word(field: usize) -> u32
 
 // Fills the words with thematic breaks at level 1, one after another.
 pub fn breaks(words: &mut [u32])
-    ensures { words.new ≡ breaksOf (length words.old) }
+    ensures { words.new ≡ breaks_of (length words.old) }
 {
     let mut k: usize = 0;
     while k < words.len() {
@@ -71,7 +71,7 @@ pub fn breaks(words: &mut [u32])
 
 // Compares the answer, and each word of `lent`: also those behind the first `m`, which the function does not see.
 pub fn replay_call(r: &[u8], sheet: &[u32], text: &[u8], tally: Tally) -> Tally
-    ensures { result ≡ callReplayed r.now sheet.now text.now tally }
+    ensures { result ≡ call_replayed r.now sheet.now text.now tally }
 {
     let mut lent = lent();
     let n = bytes::large(r, 4);

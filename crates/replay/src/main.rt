@@ -19,7 +19,7 @@ mod words;
 
 ghost use Rattle.std.specs.Prelude.{[], ◌∷◌};
 ghost use Rattle.replay.specs.File.{Adds};
-ghost use Rattle.replay.specs.Long.{longWords, breaksOf, zeros};
+ghost use Rattle.replay.specs.Long.{long_words, breaks_of, zeros};
 
 use crate::format::Format;
 use crate::line::write_line;
@@ -39,7 +39,7 @@ fn replay(name: &[u8], format: Format, total: Tally) -> Tally
 
 // Replays a file of calls. The long sheet and the long text are on the stack.
 fn replay_long(name: &[u8], total: Tally) -> Tally
-    ensures { Adds Format.Calls (breaksOf longWords) zeros total result }
+    ensures { Adds Format.Calls (breaks_of long_words) zeros total result }
 {
     let mut sheet = long::sheet();
     let text = long::text();

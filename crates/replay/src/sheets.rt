@@ -1,6 +1,6 @@
 // Stored sheets, each with the refusal that a plain reading of document 01 gives.
 ghost use Rattle.std.specs.Prelude.{◌≡◌, ◌≤◌};
-ghost use Rattle.replay.specs.Sheets.{judgedOf, sheetReplayed};
+ghost use Rattle.replay.specs.Sheets.{judged_of, sheet_replayed};
 
 use crate::tally::Tally;
 use crate::{bytes, words};
@@ -24,7 +24,7 @@ pub fn behind(r: &[u8]) -> usize
 
 // The answer for a stored sheet. A sheet of over MOST words is judged as a sheet of no words.
 fn judged(r: &[u8]) -> Judged
-    ensures { result ≡ judgedOf r.now }
+    ensures { result ≡ judged_of r.now }
 {
     let mut sheet = [0u32; MOST];
     let n = bytes::pair(r, 0);
@@ -35,7 +35,7 @@ fn judged(r: &[u8]) -> Judged
 
 // Compares the number and the record of the answer.
 pub fn replay_record(r: &[u8], tally: Tally) -> Tally
-    ensures { result ≡ sheetReplayed r.now tally }
+    ensures { result ≡ sheet_replayed r.now tally }
 {
     let fits = bytes::pair(r, 0) <= MOST;
     let answer = judged(r);

@@ -1,6 +1,6 @@
 // How many records were read, how many answers were compared and how many differ.
 ghost use Rattle.std.specs.Prelude.{◌≡◌};
-ghost use Rattle.replay.specs.Tally.{sum_of, differencesOf};
+ghost use Rattle.replay.specs.Tally.{sum_of, differences_of};
 ghost use Rattle.replay.specs.Tally.{nothing, recorded, differing, comparing, together};
 
 const MOST: u64 = 0x1000_0000_0000_0000;
@@ -27,7 +27,7 @@ fn sum(a: u64, b: u64) -> u64
 
 // How many differences a comparison adds.
 fn differences(same: bool) -> u64
-    ensures { result ≡ differencesOf same }
+    ensures { result ≡ differences_of same }
 {
     if same { 0 } else { 1 }
 }

@@ -1,7 +1,7 @@
 // Stored texts, each with the fourteen answers of the functions that take a text.
 ghost use Rattle.std.specs.Prelude.{◌≡◌, ◌<◌, ◌≤◌};
 ghost use Rattle.replay.specs.Bytes.{byte_at};
-ghost use Rattle.replay.specs.Texts.{is_set, comparedBit, firstSeven, lastSeven, textReplayed};
+ghost use Rattle.replay.specs.Texts.{is_set, compared_bit, first_seven, last_seven, text_replayed};
 
 use crate::bytes;
 use crate::tally::Tally;
@@ -27,7 +27,7 @@ fn bit(bits: u32, weight: u32) -> bool
 // Compares an answer with its bit of `bits` where that bit is set in `mask`.
 fn compare_bit(mask: u32, bits: u32, weight: u32, answer: bool, tally: Tally) -> Tally
     requires { 0 < weight }
-    ensures { result ≡ comparedBit mask bits weight answer tally }
+    ensures { result ≡ compared_bit mask bits weight answer tally }
 {
     if bit(mask, weight) {
         return tally.compare(answer == bit(bits, weight));
@@ -37,7 +37,7 @@ fn compare_bit(mask: u32, bits: u32, weight: u32, answer: bool, tally: Tally) ->
 
 // Compares the first seven answers, whose bits are the lowest.
 fn first_seven(s: &[u8], mask: u32, bits: u32, tally: Tally) -> Tally
-    ensures { result ≡ firstSeven s.now mask bits tally }
+    ensures { result ≡ first_seven s.now mask bits tally }
 {
     let t = compare_bit(mask, bits, 0x1, is_utf8(s), tally);
     let t = compare_bit(mask, bits, 0x2, starts_with_white(s), t);
@@ -51,7 +51,7 @@ fn first_seven(s: &[u8], mask: u32, bits: u32, tally: Tally) -> Tally
 
 // Compares the last seven answers.
 fn last_seven(s: &[u8], mask: u32, bits: u32, tally: Tally) -> Tally
-    ensures { result ≡ lastSeven s.now mask bits tally }
+    ensures { result ≡ last_seven s.now mask bits tally }
 {
     let toml = holds_fence_line(s, FrontmatterKind::Toml);
     let t = compare_bit(mask, bits, 0x80, toml, tally);
@@ -74,7 +74,7 @@ pub fn behind(r: &[u8]) -> usize
 
 // Compares the answers whose bits are set in the mask.
 pub fn replay_record(r: &[u8], tally: Tally) -> Tally
-    ensures { result ≡ textReplayed r.now tally }
+    ensures { result ≡ text_replayed r.now tally }
 {
     let both = bytes::number(r, 1);
     let mask = both % 0x1_0000;

@@ -1,7 +1,7 @@
 // Stored pairs of texts, scalar values, and parts of a text, each with its answer.
 ghost use Rattle.std.specs.Prelude.{◌≡◌, ◌≤◌};
 ghost use Rattle.replay.specs.Bytes.{byte_at};
-ghost use Rattle.replay.specs.Values.{pairReplayed, punctuationReplayed, partReplayed};
+ghost use Rattle.replay.specs.Values.{pair_replayed, punctuation_replayed, part_replayed};
 
 use crate::bytes;
 use crate::tally::Tally;
@@ -20,7 +20,7 @@ pub fn behind_pair(r: &[u8]) -> usize
 
 // Compares whether the two texts are the same.
 pub fn replay_pair(r: &[u8], tally: Tally) -> Tally
-    ensures { result ≡ pairReplayed r.now tally }
+    ensures { result ≡ pair_replayed r.now tally }
 {
     let n = bytes::small(r, 0);
     let m = bytes::small(r, 1);
@@ -33,7 +33,7 @@ pub const PUNCTUATION: usize = 5;
 
 // Compares whether the scalar value is ASCII punctuation.
 pub fn replay_punctuation(r: &[u8], tally: Tally) -> Tally
-    ensures { result ≡ punctuationReplayed r.now tally }
+    ensures { result ≡ punctuation_replayed r.now tally }
 {
     let found = is_ascii_punctuation(bytes::number(r, 0));
     tally.record().compare(found == (bytes::byte(r, 4) == 1))
@@ -50,7 +50,7 @@ pub fn behind_part(r: &[u8]) -> usize
 
 // Compares a part of the text of the bytes 0 to 15 with the bytes that are stored for it.
 pub fn replay_part(r: &[u8], tally: Tally) -> Tally
-    ensures { result ≡ partReplayed r.now tally }
+    ensures { result ≡ part_replayed r.now tally }
 {
     let text = [0u8, 1, 2, 3, 4, 5, 6, 7, 8, 9, 10, 11, 12, 13, 14, 15];
     let found = part(&text, bytes::long_number(r, 0), bytes::long_number(r, 8));

@@ -1,6 +1,6 @@
 // Words of a stored record.
 ghost use Rattle.std.specs.Prelude.{◌≡◌, ◌<◌, ◌^◌, length};
-ghost use Rattle.replay.specs.Words.{words_of, first_of, wordOr, same_words};
+ghost use Rattle.replay.specs.Words.{words_of, first_of, word_or, same_words};
 
 use crate::bytes;
 
@@ -28,7 +28,7 @@ pub fn first(words: &[u32], n: usize) -> &[u32]
 // The word whose bytes begin at `at`; `rest` behind the bytes.
 fn word(s: &[u8], at: usize, rest: u32) -> u32
     requires { at < 2 ^ 63 }
-    ensures { result ≡ wordOr s.now rest at }
+    ensures { result ≡ word_or s.now rest at }
 {
     if at < s.len() {
         bytes::number(s, at)

@@ -6,17 +6,17 @@ use Prim.Native.Nat.{ℕ, ◌^◌, ◌/◌, ◌%◌, ◌<◌}
 use native.Mathlib.Omega.{arith}
 use lib.ListN.{length}
 use lib.Dec.{ltb}
-use Rattle.leaves.specs.Sheet.Records.{recordsOf}
-use Rattle.leaves.specs.Report.Entries.{entriesIn}
-use Rattle.leaves.specs.Refusal.Verdict.{Answer, answer, isAccepted}
-use Rattle.leaves.specs.Refusal.Judge.{judgeSheet}
+use Rattle.leaves.specs.Sheet.Records.{records_of}
+use Rattle.leaves.specs.Report.Entries.{entries_in}
+use Rattle.leaves.specs.Refusal.Verdict.{Answer, answer, is_accepted}
+use Rattle.leaves.specs.Refusal.Judge.{judge_sheet}
 use Rattle.leaves.specs.declared.refusal.verdict.Judged.TheVariants.{Accepted}
 use Rattle.leaves.proofs.refusal.VerdictLaws.{is-accepted}
 use Rattle.blocks.specs.Check.{outcome}
 use Rattle.blocks.proofs.AnswerLaws.{judged-record, value-word}
-use Rattle.setter.specs.Machine.{runAnswer}
-use Rattle.setter.specs.Answer.{settingAnswer, Answers}
-use Rattle.setter.specs.Setting.{afterRun, setting_of}
+use Rattle.setter.specs.Machine.{run_answer}
+use Rattle.setter.specs.Answer.{setting_answer, Answers}
+use Rattle.setter.specs.Setting.{after_run, setting_of}
 use Rattle.setter.specs.declared.answer.Setting.{Setting}
 use Rattle.setter.specs.Agrees.{Agrees}
 use Rattle.setter.specs.Exports.{Halves, CheckPromise, SetPromise, Shipped}
@@ -36,15 +36,15 @@ module _ (w bytes x : List ℕ) {c : Answer} {y : List ℕ} (e : (c, y) ≡ outc
 
 -- ---- the machine: its value is one of the sheet's records, or their number
 set_word : (w bytes x : List ℕ) → (setting_of w bytes x).0.value < 2 ^ 32
-unfolding setting_of afterRun
-set_word w bytes x = go (isAccepted (judgeSheet w bytes)) refl (ltb (length x) (recordsOf w)) refl
+unfolding setting_of after_run
+set_word w bytes x = go (is_accepted (judge_sheet w bytes)) refl (ltb (length x) (records_of w)) refl
   where
-    go : (b : Bool) → isAccepted (judgeSheet w bytes) ≡ b → (c : Bool) → ltb (length x) (recordsOf w) ≡ c → (setting_of w bytes x).0.value < 2 ^ 32
+    go : (b : Bool) → is_accepted (judge_sheet w bytes) ≡ b → (c : Bool) → ltb (length x) (records_of w) ≡ c → (setting_of w bytes x).0.value < 2 ^ 32
     go false a c f = rw a (omega (arith, judged-record w bytes))
     go true a true f = rw (a, f) (omega arith)
-    go true a false f = rw (a, f) (omega (arith, run_inside w bytes (is-accepted (judgeSheet w bytes) a)))
+    go true a false f = rw (a, f) (omega (arith, run_inside w bytes (is-accepted (judge_sheet w bytes) a)))
 
-module _ (w bytes x : List ℕ) {s : Setting} {y : List ℕ} (e : Answers (setting_of w bytes x) s y) {n v : ℕ} (a : n ≡ (settingAnswer s).number) (b : v ≡ (settingAnswer s).value) where
+module _ (w bytes x : List ℕ) {s : Setting} {y : List ℕ} (e : Answers (setting_of w bytes x) s y) {n v : ℕ} (a : n ≡ (setting_answer s).number) (b : v ≡ (setting_answer s).value) where
   of-set : answer n v ≡ (setting_of w bytes x).0
   of-set = rw (a, b) (ap (λ (p : Answer × List ℕ). p.0) e.answer)
 
@@ -57,11 +57,11 @@ module _ (w bytes x : List ℕ) {s : Setting} {y : List ℕ} (e : Answers (setti
 -- ---- demand 3 of what a C caller holds
 
 -- where the sheet is accepted and the marks are not refused, the machine's answer is that of the run
-set-ran : (w bytes x : List ℕ) → judgeSheet w bytes ≡ Accepted → (setting_of w bytes x).0.number < 256 → (setting_of w bytes x).0 ≡ runAnswer w bytes
-unfolding setting_of afterRun
-set-ran w bytes x a h = go (ltb (length x) (recordsOf w)) refl
+set-ran : (w bytes x : List ℕ) → judge_sheet w bytes ≡ Accepted → (setting_of w bytes x).0.number < 256 → (setting_of w bytes x).0 ≡ run_answer w bytes
+unfolding setting_of after_run
+set-ran w bytes x a h = go (ltb (length x) (records_of w)) refl
   where
-    go : (c : Bool) → ltb (length x) (recordsOf w) ≡ c → (setting_of w bytes x).0 ≡ runAnswer w bytes
+    go : (c : Bool) → ltb (length x) (records_of w) ≡ c → (setting_of w bytes x).0 ≡ run_answer w bytes
     go true f = absurd (let z : 268 < 256 = rw (a, f) at h in omega arith)
     go false f = rw (a, f)
 
@@ -70,13 +70,13 @@ whole-number : (r n : ℕ) → Halves r (answer 0 n) → r ≡ n
 whole-number r n h = omega (arith, h.number, h.value)
 
 pub shipped : (w bytes report marks : List ℕ) {checked : ℕ} {y : List ℕ} {set : ℕ} {marked : List ℕ} → CheckPromise w bytes report checked y → SetPromise w bytes marks set marked → checked / 2 ^ 32 ≡ 0 → Shipped w bytes checked y set
-unfolding runAnswer entriesIn
+unfolding run_answer entries_in
 shipped w bytes report marks {checked} {y} {set} c m z =
     let b : Written w bytes report y (checked % 2 ^ 32) = rw (c.words, c.answer.value) (written w bytes report (sym c.answer.number ∙ z)) in
-    let agrees : Agrees w bytes (entriesIn (checked % 2 ^ 32) y) = written-agrees w bytes report b in
-    let ran : set / 2 ^ 32 < 256 → Halves set (runAnswer w bytes) = λ h. rw (set-ran w bytes marks b.accepted (rw m.answer.number at h)) at m.answer in
+    let agrees : Agrees w bytes (entries_in (checked % 2 ^ 32) y) = written-agrees w bytes report b in
+    let ran : set / 2 ^ 32 < 256 → Halves set (run_answer w bytes) = λ h. rw (set-ran w bytes marks b.accepted (rw m.answer.number at h)) at m.answer in
     record {
       agrees = agrees;
       ran = ran;
-      clean = λ e h. whole-number set (recordsOf w) (rw (agrees.empty (rw e)).end at (ran h));
+      clean = λ e h. whole-number set (records_of w) (rw (agrees.empty (rw e)).end at (ran h));
     }

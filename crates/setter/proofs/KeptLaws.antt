@@ -10,20 +10,20 @@ use lib.ListN.{length}
 use borrow.Author.Tests.{eq-eqb, ltb-true, ltb-false, le-leb}
 use Rattle.leaves.specs.Text.Lists.{if◌then◌else◌}
 use Rattle.leaves.specs.Text.Bytes.{between}
-use Rattle.leaves.specs.Sheet.Kinds.{list, blankLine, item}
+use Rattle.leaves.specs.Sheet.Kinds.{list, blank_line, item}
 use Rattle.leaves.specs.declared.sheet.records.Rec.{Rec}
-use Rattle.leaves.specs.Refusal.Fields.{mostA, mostB, mostC, isSurrogate, badNumber, badField}
+use Rattle.leaves.specs.Refusal.Fields.{most_a, most_b, most_c, is_surrogate, bad_number, bad_field}
 use Rattle.leaves.proofs.text.TestLaws.{and_left, and_right, or_left, or_right}
-use Rattle.leaves.specs.Text.Marker.{writtenMarker}
-use Rattle.setter.specs.Steps.{Frame, fresh, withKid}
-use Rattle.setter.specs.Seen.{columns, nearest, inLink, behindList, onlyEmpty, lastMark, Seen, seen}
-use Rattle.setter.specs.Stops.{Moment, opening, sameMoment, Row, mostOwnNumber, stops, lowest, stop_at}
-use Rattle.setter.specs.Answer.{lastStop}
-use Rattle.setter.specs.Kept.{markerBehind, keptOf, seenBy, openedIn, joinedBy}
+use Rattle.leaves.specs.Text.Marker.{written_marker}
+use Rattle.setter.specs.Steps.{Frame, fresh, with_kid}
+use Rattle.setter.specs.Seen.{columns, nearest, in_link, behind_list, only_empty, last_mark, Seen, seen}
+use Rattle.setter.specs.Stops.{Moment, opening, same_moment, Row, most_own_number, stops, lowest, stop_at}
+use Rattle.setter.specs.Answer.{last_stop}
+use Rattle.setter.specs.Kept.{marker_behind, kept_of, seen_by, opened_in, joined_by}
 
 -- a list's written marker is never 0
-some-marker : (a b : ℕ) → eqb 0 (writtenMarker a b) ≡ false
-unfolding writtenMarker
+some-marker : (a b : ℕ) → eqb 0 (written_marker a b) ≡ false
+unfolding written_marker
 some-marker a b = go (eqb a 1) (eqb b 4) (eqb b 1) (eqb b 2)
   where
     go : (t u v w : Bool) → eqb 0 (if t then (if u then 0x29 else 0x2E) else if v then 0x2A else if w then 0x2B else 0x2D) ≡ false
@@ -34,58 +34,58 @@ some-marker a b = go (eqb a 1) (eqb b 4) (eqb b 1) (eqb b 2)
     go false u false false = refl
 
 -- the marker behind the siblings tells whether a list joins the one before it
-joins-kept : (ss : List Rec) (r : Rec) → eqb (markerBehind ss) (writtenMarker r.a r.b) ≡ behindList ss r
-unfolding markerBehind behindList
+joins-kept : (ss : List Rec) (r : Rec) → eqb (marker_behind ss) (written_marker r.a r.b) ≡ behind_list ss r
+unfolding marker_behind behind_list
 joins-kept [] r = some-marker r.a r.b
-joins-kept (s ∷ ss) r = go (eqb s.kind blankLine) (eqb s.kind list) (joins-kept ss r)
+joins-kept (s ∷ ss) r = go (eqb s.kind blank_line) (eqb s.kind list) (joins-kept ss r)
   where
-    go : (t u : Bool) → eqb (markerBehind ss) (writtenMarker r.a r.b) ≡ behindList ss r → eqb (if t then markerBehind ss else if u then writtenMarker s.a s.b else 0) (writtenMarker r.a r.b) ≡ (if t then behindList ss r else u && eqb (writtenMarker s.a s.b) (writtenMarker r.a r.b))
+    go : (t u : Bool) → eqb (marker_behind ss) (written_marker r.a r.b) ≡ behind_list ss r → eqb (if t then marker_behind ss else if u then written_marker s.a s.b else 0) (written_marker r.a r.b) ≡ (if t then behind_list ss r else u && eqb (written_marker s.a s.b) (written_marker r.a r.b))
     go true u e = e
     go false true e = refl
     go false false e = some-marker r.a r.b
 
-pub seen-kept : (f g : Frame) (st : List Frame) → seenBy f.of (keptOf g st) (length f.kids) (onlyEmpty f.kids) ≡ seen f (g ∷ st)
-unfolding keptOf
+pub seen-kept : (f g : Frame) (st : List Frame) → seen_by f.of (kept_of g st) (length f.kids) (only_empty f.kids) ≡ seen f (g ∷ st)
+unfolding kept_of
 seen-kept f g st = rw (joins-kept g.kids f.of)
 
-pub opened-kept : (i : ℕ) (r : Rec) (f : Frame) (st : List Frame) → openedIn i r (keptOf f st) ≡ keptOf (fresh i r) (f ∷ st)
-unfolding keptOf openedIn columns nearest inLink onlyEmpty lastMark markerBehind
+pub opened-kept : (i : ℕ) (r : Rec) (f : Frame) (st : List Frame) → opened_in i r (kept_of f st) ≡ kept_of (fresh i r) (f ∷ st)
+unfolding kept_of opened_in columns nearest in_link only_empty last_mark marker_behind
 opened-kept i r f st = refl
 
-pub joined-kept : (r : Rec) (f : Frame) (st : List Frame) → joinedBy (keptOf f st) r ≡ keptOf (withKid r f) st
-unfolding keptOf joinedBy columns nearest inLink onlyEmpty lastMark markerBehind
+pub joined-kept : (r : Rec) (f : Frame) (st : List Frame) → joined_by (kept_of f st) r ≡ kept_of (with_kid r f) st
+unfolding kept_of joined_by columns nearest in_link only_empty last_mark marker_behind
 joined-kept r f st = rw (add-one (length f.kids))
 
 -- ---- a stop is one of the table
 Small : List Row → Type 0
 Small [] = Unit {0}
-Small (t ∷ ts) = (t.stop ≤ lastStop) × Small ts
+Small (t ∷ ts) = (t.stop ≤ last_stop) × Small ts
 
 small-stops : Small stops
 unfolding Small
 small-stops = omega arith
 
-lowest-small : (m : Moment) (bytes : List ℕ) (r : Rec) (s : Seen) (ts : List Row) → Small ts → lowest m bytes r s ts ≤ lastStop
+lowest-small : (m : Moment) (bytes : List ℕ) (r : Rec) (s : Seen) (ts : List Row) → Small ts → lowest m bytes r s ts ≤ last_stop
 unfolding Small
 lowest-small m bytes r s [] h = omega arith
-lowest-small m bytes r s (t ∷ ts) h = go (sameMoment m t.moment && t.holds bytes r s) (lowest-small m bytes r s ts h.1)
+lowest-small m bytes r s (t ∷ ts) h = go (same_moment m t.moment && t.holds bytes r s) (lowest-small m bytes r s ts h.1)
   where
-    go : (b : Bool) → lowest m bytes r s ts ≤ lastStop → (if b then t.stop else lowest m bytes r s ts) ≤ lastStop
+    go : (b : Bool) → lowest m bytes r s ts ≤ last_stop → (if b then t.stop else lowest m bytes r s ts) ≤ last_stop
     go true later = h.0
     go false later = later
 
-pub proper-stop : (m : Moment) (bytes : List ℕ) (r : Rec) (s : Seen) {n : ℕ} → n ≡ stop_at m bytes r s → (n ≡ 0 → ⊥) → between 1 lastStop n ≡ true
+pub proper-stop : (m : Moment) (bytes : List ℕ) (r : Rec) (s : Seen) {n : ℕ} → n ≡ stop_at m bytes r s → (n ≡ 0 → ⊥) → between 1 last_stop n ≡ true
 unfolding stop_at
 proper-stop m bytes r s {n} e h =
-    let most : n ≤ lastStop = rw e (lowest-small m bytes r s stops small-stops) in
-    rw (le-leb 1 n (omega arith), le-leb n lastStop most)
+    let most : n ≤ last_stop = rw e (lowest-small m bytes r s stops small-stops) in
+    rw (le-leb 1 n (omega arith), le-leb n last_stop most)
 
 -- ---- an item that opens has a small number, or none
 -- where the lowest of the stops is none, no row of that moment holds
 module _ (m : Moment) (bytes : List ℕ) (r : Rec) (s : Seen) where
   Silent : List Row → Type 0
   Silent [] = Unit {0}
-  Silent (t ∷ ts) = ((sameMoment m t.moment && t.holds bytes r s) ≡ false) × Silent ts
+  Silent (t ∷ ts) = ((same_moment m t.moment && t.holds bytes r s) ≡ false) × Silent ts
 
   numbered : List Row → Bool
   numbered [] = true
@@ -94,18 +94,18 @@ module _ (m : Moment) (bytes : List ℕ) (r : Rec) (s : Seen) where
   silent : (ts : List Row) → numbered ts ≡ true → lowest m bytes r s ts ≡ 0 → Silent ts
   unfolding Silent numbered
   silent [] n h = tt
-  silent (t ∷ ts) n h = go (sameMoment m t.moment && t.holds bytes r s) refl (silent ts (and_right (ltb 0 t.stop) (numbered ts) n))
+  silent (t ∷ ts) n h = go (same_moment m t.moment && t.holds bytes r s) refl (silent ts (and_right (ltb 0 t.stop) (numbered ts) n))
     where
-      go : (b : Bool) → (sameMoment m t.moment && t.holds bytes r s) ≡ b → (lowest m bytes r s ts ≡ 0 → Silent ts) → Silent (t ∷ ts)
+      go : (b : Bool) → (same_moment m t.moment && t.holds bytes r s) ≡ b → (lowest m bytes r s ts ≡ 0 → Silent ts) → Silent (t ∷ ts)
       go true e later = let p = ltb-true 0 t.stop (and_left (ltb 0 t.stop) (numbered ts) n) in absurd (omega (arith, rw e at h))
       go false e later = (e, later (rw e at h))
 
 -- a record that is no item has a C of at most 1
-plain-small : (r : Rec) → badField r ≡ false → eqb r.kind item ≡ false → r.c ≤ 1
-unfolding badField badNumber mostC
+plain-small : (r : Rec) → bad_field r ≡ false → eqb r.kind item ≡ false → r.c ≤ 1
+unfolding bad_field bad_number most_c
 plain-small r bad e =
-    let numbers : badNumber r ≡ false = or_left (badNumber r) _ (or_left _ _ (or_left _ _ bad)) in
-    let most : r.c ≤ mostC r.kind r.b = ltb-false _ _ (or_right (ltb (mostA r.kind) r.a || ltb (mostB r.kind r.a) r.b) (ltb (mostC r.kind r.b) r.c) (or_left _ (isSurrogate r.kind r.a) numbers)) in
+    let numbers : bad_number r ≡ false = or_left (bad_number r) _ (or_left _ _ (or_left _ _ bad)) in
+    let most : r.c ≤ most_c r.kind r.b = ltb-false _ _ (or_right (ltb (most_a r.kind) r.a || ltb (most_b r.kind r.a) r.b) (ltb (most_c r.kind r.b) r.c) (or_left _ (is_surrogate r.kind r.a) numbers)) in
     go (eqb r.kind list) (rw e at most)
   where
     go : (t : Bool) → r.c ≤ (if t then 1 else 0) → r.c ≤ 1
@@ -113,16 +113,16 @@ plain-small r bad e =
     go false h = omega arith
 
 -- where it opens without a stop
-pub small-number : (bytes : List ℕ) (r : Rec) (s : Seen) → stop_at opening bytes r s ≡ 0 → badField r ≡ false → r.b ≡ 1 → r.c ≤ mostOwnNumber
+pub small-number : (bytes : List ℕ) (r : Rec) (s : Seen) → stop_at opening bytes r s ≡ 0 → bad_field r ≡ false → r.b ≡ 1 → r.c ≤ most_own_number
 unfolding stop_at Silent numbered
 small-number bytes r s h bad e =
     let q = silent opening bytes r s stops refl h in
-    let large : (eqb r.kind item && s.ordered && eqb r.b 1 && ltb mostOwnNumber r.c) ≡ false = q.1.1.1.1.1.1.0 in
+    let large : (eqb r.kind item && s.ordered && eqb r.b 1 && ltb most_own_number r.c) ≡ false = q.1.1.1.1.1.1.0 in
     let bullet : (eqb r.kind item && not s.ordered && eqb r.b 1) ≡ false = q.1.1.1.1.1.1.1.0 in
     let n : eqb r.b 1 ≡ true = eq-eqb r.b 1 e in
     go (eqb r.kind item) refl s.ordered refl (rw n at large) (rw n at bullet)
   where
-    go : (t : Bool) → eqb r.kind item ≡ t → (o : Bool) → s.ordered ≡ o → (t && o && true && ltb mostOwnNumber r.c) ≡ false → (t && not o && true) ≡ false → r.c ≤ mostOwnNumber
+    go : (t : Bool) → eqb r.kind item ≡ t → (o : Bool) → s.ordered ≡ o → (t && o && true && ltb most_own_number r.c) ≡ false → (t && not o && true) ≡ false → r.c ≤ most_own_number
     go false f o g x y = omega (arith, plain-small r bad f)
     go true f true g x y = ltb-false _ _ x
     go true f false g x y = absurd (true≢false y)

@@ -11,40 +11,40 @@ use lib.Dec.{eqb, ltb, leb}
 use lib.ListN.{length, get_or, set, replicate, length-set}
 use lib.Seq.{get_or-set_same, get_or-set_other}
 use Rattle.leaves.specs.Text.Lists.{if◌then◌else◌}
-use Rattle.leaves.specs.Sheet.Records.{recordWords, recordsOf, recordAt}
-use Rattle.leaves.specs.Sheet.Forest.{recordsFrom}
+use Rattle.leaves.specs.Sheet.Records.{record_words, records_of, record_at}
+use Rattle.leaves.specs.Sheet.Forest.{records_from}
 use Rattle.leaves.specs.declared.sheet.records.Rec.{Rec}
-use Rattle.leaves.specs.Refusal.Judge.{judgeSheet}
-use Rattle.leaves.specs.Refusal.Record.{levelBefore}
+use Rattle.leaves.specs.Refusal.Judge.{judge_sheet}
+use Rattle.leaves.specs.Refusal.Record.{level_before}
 use Rattle.leaves.specs.declared.refusal.verdict.Judged.TheVariants.{Accepted}
 use Rattle.leaves.proofs.text.TestLaws.{or_left, or_right}
 use Rattle.leaves.proofs.refusal.PassLaws.{Deep, deep}
 use Rattle.leaves.proofs.refusal.FormedLaws.{each-passed, accepted}
-use Rattle.setter.specs.Steps.{Frame, fresh, withKid, theSheet, Step, closings, stepsFrom, steps_of, opens, closes}
-use Rattle.setter.specs.Machine.{run_of, run, runAnswer}
-use Rattle.setter.specs.Marks.{mark_of, marksOf}
-use Rattle.setter.specs.Stops.{opening, closing, mostOwnNumber, stop_at, stopOf}
-use Rattle.setter.specs.Seen.{onlyEmpty, lastMark, itemMark, seen}
+use Rattle.setter.specs.Steps.{Frame, fresh, with_kid, the_sheet, Step, closings, steps_from, steps_of, opens, closes}
+use Rattle.setter.specs.Machine.{run_of, run, run_answer}
+use Rattle.setter.specs.Marks.{mark_of, marks_of}
+use Rattle.setter.specs.Stops.{opening, closing, most_own_number, stop_at, stop_of}
+use Rattle.setter.specs.Seen.{only_empty, last_mark, item_mark, seen}
 use Rattle.setter.proofs.StepLaws.{Low, open-one, close-one, goes_on, stops-here}
-use Rattle.setter.specs.Kept.{mostKids, mostItemMark, keptOf, seenBy, openedIn, joinedBy}
+use Rattle.setter.specs.Kept.{most_kids, most_item_mark, kept_of, seen_by, opened_in, joined_by}
 use Rattle.setter.specs.declared.kept.Kept.{Kept}
 use Rattle.setter.proofs.KeptLaws.{seen-kept, opened-kept, joined-kept, proper-stop, small-number}
 use Rattle.setter.specs.Answer.{Answers}
-use Rattle.setter.specs.Setting.{afterRun}
-use Rattle.setter.specs.MachineRunning.{nextLevel}
+use Rattle.setter.specs.Setting.{after_run}
+use Rattle.setter.specs.MachineRunning.{next_level}
 use Rattle.setter.specs.declared.answer.Setting.TheVariants.{Ended, Stopped}
 
 -- ---- the levels of an accepted sheet
-module _ (w bytes : List ℕ) (ok : judgeSheet w bytes ≡ Accepted) where
-  deep-at : (i : ℕ) → i < recordsOf w → Deep (levelBefore w i) (recordAt w i).level
-  deep-at i h = deep (levelBefore w i) (recordAt w i).level (each-passed w bytes ok i h).level
+module _ (w bytes : List ℕ) (ok : judge_sheet w bytes ≡ Accepted) where
+  deep-at : (i : ℕ) → i < records_of w → Deep (level_before w i) (record_at w i).level
+  deep-at i h = deep (level_before w i) (record_at w i).level (each-passed w bytes ok i h).level
 
-  first-near : 0 < recordsOf w → (recordAt w 0).level ≤ 0 + 1
-  unfolding levelBefore
+  first-near : 0 < records_of w → (record_at w 0).level ≤ 0 + 1
+  unfolding level_before
   first-near h = (deep-at 0 h).near
 
-  next-near : (i : ℕ) → i + 1 < recordsOf w → (recordAt w (i + 1)).level ≤ (recordAt w i).level + 1
-  unfolding levelBefore
+  next-near : (i : ℕ) → i + 1 < records_of w → (record_at w (i + 1)).level ≤ (record_at w i).level + 1
+  unfolding level_before
   next-near i h = rw (add-one i) (deep-at (suc i) (omega arith)).near
 
 -- ---- the open records, and what is kept of them by level
@@ -56,11 +56,11 @@ unkept = record { at = 0; columns = 0; nearest = 0; linked = false; ordered = fa
 -- an open record f, where i records have opened, m of them under it and still open
 pub record One (w : List ℕ) (n i m : ℕ) (os : List Kept) (f : Frame) (st : List Frame) : Type 0 where
   pub level : f.of.level ≡ length st
-  pub kept : get_or os (length st) unkept ≡ keptOf f st
-  pub from : 0 < length st → (f.at < n) × (f.of ≡ recordAt w f.at)
+  pub kept : get_or os (length st) unkept ≡ kept_of f st
+  pub from : 0 < length st → (f.at < n) × (f.of ≡ record_at w f.at)
   pub few : m + length f.kids ≤ i
-  pub small : lastMark f.kids ≤ mostOwnNumber + length f.kids
-  pub own : f.of.b ≡ 1 → f.of.c ≤ mostOwnNumber
+  pub small : last_mark f.kids ≤ most_own_number + length f.kids
+  pub own : f.of.b ≡ 1 → f.of.c ≤ most_own_number
 
 unfoldable pub Held : List ℕ → ℕ → ℕ → ℕ → List Kept → List Frame → Type 0
 Held w n i m os [] = Unit {0}
@@ -88,24 +88,24 @@ module _ (w : List ℕ) (n : ℕ) (os : List Kept) (j : ℕ) (q : Kept) where
 
 -- n records, of which i have opened, and the records from the sheet down to a level are open: `old` are the marks before, and `new` those so far
 pub record Running (w bytes old : List ℕ) (n : ℕ) (new : List ℕ) (os : List Kept) (depth i : ℕ) : Type 0 where
-  pub ok : judgeSheet w bytes ≡ Accepted
-  pub all : n ≡ recordsOf w
+  pub ok : judge_sheet w bytes ≡ Accepted
+  pub all : n ≡ records_of w
   pub few : n ≤ 65535
   pub room : n ≤ length new
   pub same : length new ≡ length old
   pub within : i ≤ n
-  pub near : i < n → (recordAt w i).level ≤ depth + 1
+  pub near : i < n → (record_at w i).level ≤ depth + 1
   pub long : length os ≡ 65
   pub shallow : depth ≤ 64
   pub top : Frame
   pub around : List Frame
   pub deep : length around ≡ depth
   pub held : Held w n i 0 os (top ∷ around)
-  pub ends : (run w bytes).end ≡ (run_of bytes (stepsFrom (record { top = top; around = around }) i (recordsFrom w (n - i) i))).end
-  pub marked : marksOf (run w bytes).steps old ≡ marksOf (run_of bytes (stepsFrom (record { top = top; around = around }) i (recordsFrom w (n - i) i))).steps new
+  pub ends : (run w bytes).end ≡ (run_of bytes (steps_from (record { top = top; around = around }) i (records_from w (n - i) i))).end
+  pub marked : marks_of (run w bytes).steps old ≡ marks_of (run_of bytes (steps_from (record { top = top; around = around }) i (records_from w (n - i) i))).steps new
 
-pub run-start : (w bytes marks : List ℕ) (n : ℕ) {k : Kept} → k ≡ keptOf theSheet [] → judgeSheet w bytes ≡ Accepted → n ≡ recordsOf w → n ≤ length marks → Running w bytes marks n marks (replicate 65 k) 0 0
-unfolding Held lastMark run steps_of
+pub run-start : (w bytes marks : List ℕ) (n : ℕ) {k : Kept} → k ≡ kept_of the_sheet [] → judge_sheet w bytes ≡ Accepted → n ≡ records_of w → n ≤ length marks → Running w bytes marks n marks (replicate 65 k) 0 0
+unfolding Held last_mark run steps_of
 run-start w bytes marks n e ok all room =
     record {
       ok = ok;
@@ -117,7 +117,7 @@ run-start w bytes marks n e ok all room =
       near = λ h. first-near w bytes ok (omega arith);
       long = refl;
       shallow = omega arith;
-      top = theSheet;
+      top = the_sheet;
       around = [];
       deep = refl;
       held = (record { level = refl; kept = e; from = λ h. absurd (omega arith); few = omega arith; small = omega arith; own = λ h. absurd (omega arith) }, tt);
@@ -125,21 +125,21 @@ run-start w bytes marks n e ok all room =
       marked = rw (sub-zero, all);
     }
 
-pub run-whole : (w bytes old : List ℕ) (n : ℕ) (new : List ℕ) (os : List Kept) (depth i : ℕ) → Running w bytes old n new os depth i → n * recordWords ≤ length w
+pub run-whole : (w bytes old : List ℕ) (n : ℕ) (new : List ℕ) (os : List Kept) (depth i : ℕ) → Running w bytes old n new os depth i → n * record_words ≤ length w
 run-whole w bytes old n new os depth i v = omega (arith, (accepted w bytes v.ok).whole, v.all)
 
 -- the records that are left
-left-more : (w : List ℕ) (n i : ℕ) → i < n → recordsFrom w (n - i) i ≡ recordAt w i ∷ recordsFrom w (n - (i + 1)) (i + 1)
-unfolding recordsFrom
+left-more : (w : List ℕ) (n i : ℕ) → i < n → records_from w (n - i) i ≡ record_at w i ∷ records_from w (n - (i + 1)) (i + 1)
+unfolding records_from
 left-more w n i h = let e : n - i ≡ suc (n - (i + 1)) = omega arith in rw (e, add-one i)
 
-left-none : (w : List ℕ) (n i : ℕ) → n ≤ i → recordsFrom w (n - i) i ≡ []
-unfolding recordsFrom
+left-none : (w : List ℕ) (n i : ℕ) → n ≤ i → records_from w (n - i) i ≡ []
+unfolding records_from
 left-none w n i h = let e : n - i ≡ 0 = omega arith in rw e
 
 -- after the last record nothing is open
-pub run_end : (w bytes old : List ℕ) (n : ℕ) (new : List ℕ) (os : List Kept) (depth i : ℕ) → Running w bytes old n new os depth i → (ltb i n || ltb 0 depth) ≡ false → Answers (afterRun w bytes old) (Ended n) new
-unfolding afterRun runAnswer stepsFrom closings run_of marksOf
+pub run_end : (w bytes old : List ℕ) (n : ℕ) (new : List ℕ) (os : List Kept) (depth i : ℕ) → Running w bytes old n new os depth i → (ltb i n || ltb 0 depth) ≡ false → Answers (after_run w bytes old) (Ended n) new
+unfolding after_run run_answer steps_from closings run_of marks_of
 run_end w bytes old n new os depth i v h = go v.around refl
   where
     out : n ≤ i
@@ -148,7 +148,7 @@ run_end w bytes old n new os depth i v h = go v.around refl
     none_open : depth ≤ 0
     none_open = ltb-false 0 depth (or_right (ltb i n) (ltb 0 depth) h)
 
-    go : (st : List Frame) → v.around ≡ st → Answers (afterRun w bytes old) (Ended n) new
+    go : (st : List Frame) → v.around ≡ st → Answers (after_run w bytes old) (Ended n) new
     go (g ∷ st) e = absurd (omega (arith, v.deep, ap length e, none_open))
     go [] e = record { answer = rw (v.ends, v.marked, e, left-none w n i out, v.all); proper = refl }
 
@@ -161,36 +161,36 @@ pub record Closing (w bytes old : List ℕ) (n : ℕ) (new : List ℕ) (os : Lis
   pub under : Frame
   pub around : List Frame
   pub deep : length around + 1 ≡ depth
-  pub low : i < n → (recordAt w i).level ≤ depth
+  pub low : i < n → (record_at w i).level ≤ depth
   pub held : Held w n i 0 os (top ∷ under ∷ around)
-  pub ends : (run w bytes).end ≡ (run_of bytes (closes top (under ∷ around) ∷ stepsFrom (record { top = withKid top.of under; around = around }) i (recordsFrom w (n - i) i))).end
-  pub marked : marksOf (run w bytes).steps old ≡ marksOf (run_of bytes (closes top (under ∷ around) ∷ stepsFrom (record { top = withKid top.of under; around = around }) i (recordsFrom w (n - i) i))).steps new
+  pub ends : (run w bytes).end ≡ (run_of bytes (closes top (under ∷ around) ∷ steps_from (record { top = with_kid top.of under; around = around }) i (records_from w (n - i) i))).end
+  pub marked : marks_of (run w bytes).steps old ≡ marks_of (run_of bytes (closes top (under ∷ around) ∷ steps_from (record { top = with_kid top.of under; around = around }) i (records_from w (n - i) i))).steps new
 
 module _ (w bytes old : List ℕ) (n : ℕ) (new : List ℕ) (os : List Kept) (depth i : ℕ) (v : Running w bytes old n new os depth i) where
   -- no record has the level 0, and after the last every level closes
-  next-some : 1 ≤ nextLevel w n i
+  next-some : 1 ≤ next_level w n i
   next-some = go (leb n i) refl
     where
-      go : (b : Bool) → leb n i ≡ b → 1 ≤ (if b then 1 else (recordAt w i).level)
+      go : (b : Bool) → leb n i ≡ b → 1 ≤ (if b then 1 else (record_at w i).level)
       go true e = omega arith
       go false e = let h : i < n = leb-false n i e in (deep-at w bytes v.ok i (omega (arith, v.all))).some
 
-  next-is : i < n → nextLevel w n i ≡ (recordAt w i).level
+  next-is : i < n → next_level w n i ≡ (record_at w i).level
   next-is h = rw (lt-leb n i h)
 
-  next_low : (m : ℕ) → nextLevel w n i ≤ m → Low m (recordsFrom w (n - i) i)
+  next_low : (m : ℕ) → next_level w n i ≤ m → Low m (records_from w (n - i) i)
   unfolding Low
   next_low m h = go (leb n i) refl
     where
-      go : (b : Bool) → leb n i ≡ b → Low m (recordsFrom w (n - i) i)
+      go : (b : Bool) → leb n i ≡ b → Low m (records_from w (n - i) i)
       go true e = let g : n ≤ i = leb-true n i e in rw (left-none w n i g) (rw e at h)
       go false e = let g : i < n = leb-false n i e in rw (left-more w n i g) (rw e at h)
 
-  pub closes-next : {l : ℕ} → l ≡ nextLevel w n i → l ≤ depth → Closing w bytes old n new os depth i
+  pub closes-next : {l : ℕ} → l ≡ next_level w n i → l ≤ depth → Closing w bytes old n new os depth i
   unfolding Held
   closes-next {l} e h = go v.around refl
     where
-      low : nextLevel w n i ≤ depth
+      low : next_level w n i ≤ depth
       low = rw e at h
 
       go : (st : List Frame) → v.around ≡ st → Closing w bytes old n new os depth i
@@ -199,7 +199,7 @@ module _ (w bytes old : List ℕ) (n : ℕ) (new : List ℕ) (os : List Kept) (d
           let at_top : Held w n i 0 os (v.top ∷ g ∷ st) = rw a at v.held in
           let d : length (g ∷ st) ≡ depth = rw a at v.deep in
           let lev : v.top.of.level ≡ depth = at_top.0.level ∙ d in
-          let step = close-one v.top g st i depth (recordsFrom w (n - i) i) lev (omega (arith, low, next-some)) (next_low depth low) in
+          let step = close-one v.top g st i depth (records_from w (n - i) i) lev (omega (arith, low, next-some)) (next_low depth low) in
           record {
             running = v;
             top = v.top;
@@ -212,63 +212,63 @@ module _ (w bytes old : List ℕ) (n : ℕ) (new : List ℕ) (os : List Kept) (d
             marked = rw (a, step) at v.marked;
           }
 
-mark-small : (r : Rec) (before m : ℕ) → (r.b ≡ 1 → r.c ≤ mostOwnNumber) → before ≤ mostOwnNumber + m → itemMark r before ≤ mostOwnNumber + suc m
+mark-small : (r : Rec) (before m : ℕ) → (r.b ≡ 1 → r.c ≤ most_own_number) → before ≤ most_own_number + m → item_mark r before ≤ most_own_number + suc m
 mark-small r before m own h = go (eqb r.b 1) refl
   where
-    go : (t : Bool) → eqb r.b 1 ≡ t → (if t then r.c else before + 1) ≤ mostOwnNumber + suc m
+    go : (t : Bool) → eqb r.b 1 ≡ t → (if t then r.c else before + 1) ≤ most_own_number + suc m
     go true e = omega (arith, own (eqb-true _ _ e))
     go false e = omega arith
 
 module _ (w bytes old : List ℕ) (n : ℕ) (new : List ℕ) (os : List Kept) (depth i : ℕ) (z : Closing w bytes old n new os depth i) where
   abbrev after-close : List Step
-  after-close = stepsFrom (record { top = withKid z.top.of z.under; around = z.around }) i (recordsFrom w (n - i) i)
+  after-close = steps_from (record { top = with_kid z.top.of z.under; around = z.around }) i (records_from w (n - i) i)
 
-  top_kept : get_or os depth unkept ≡ keptOf z.top (z.under ∷ z.around)
+  top_kept : get_or os depth unkept ≡ kept_of z.top (z.under ∷ z.around)
   unfolding Held
   top_kept = let e : length (z.under ∷ z.around) ≡ depth = omega (arith, z.deep) in rw e at z.held.0.kept
 
-  under-kept : get_or os (depth - 1) unkept ≡ keptOf z.under z.around
+  under-kept : get_or os (depth - 1) unkept ≡ kept_of z.under z.around
   unfolding Held
   under-kept = let e : length z.around ≡ depth - 1 = omega (arith, z.deep) in rw e at z.held.1.0.kept
 
   top-at : (get_or os depth unkept).at ≡ z.top.at
-  unfolding keptOf
+  unfolding kept_of
   top-at = ap (λ (k : Kept). k.at) top_kept
 
-  pub close-inside : (get_or os depth unkept).at * recordWords + recordWords ≤ length w
+  pub close-inside : (get_or os depth unkept).at * record_words + record_words ≤ length w
   unfolding Held
   close-inside =
       let h : z.top.at < n = (z.held.0.from (omega arith)).0 in
       rw top-at (omega (arith, (accepted w bytes z.running.ok).whole, z.running.all))
 
   -- what is kept can be counted on
-  pub close-fits : ((get_or os (depth - 1) unkept).kids ≤ mostKids) × ((get_or os (depth - 1) unkept).number ≤ mostItemMark)
-  unfolding Held keptOf
+  pub close-fits : ((get_or os (depth - 1) unkept).kids ≤ most_kids) × ((get_or os (depth - 1) unkept).number ≤ most_item_mark)
+  unfolding Held kept_of
   close-fits =
       let few = z.running.few in
       rw under-kept (omega (arith, z.held.1.0.few, z.running.within, z.running.all), omega (arith, z.held.1.0.small, z.held.1.0.few, z.running.within, z.running.all))
 
-  module _ {r : Rec} {s : ℕ} (er : r ≡ recordAt w (get_or os depth unkept).at) (es : (t : List ℕ) → s ≡ stop_at closing t r (seenBy r (get_or os (depth - 1) unkept) (get_or os depth unkept).kids (get_or os depth unkept).empty)) where
+  module _ {r : Rec} {s : ℕ} (er : r ≡ record_at w (get_or os depth unkept).at) (es : (t : List ℕ) → s ≡ stop_at closing t r (seen_by r (get_or os (depth - 1) unkept) (get_or os depth unkept).kids (get_or os depth unkept).empty)) where
     closes-of : r ≡ z.top.of
     unfolding Held
     closes-of = er ∙ rw top-at (sym (z.held.0.from (omega arith)).1)
 
-    closes-stop : s ≡ stopOf bytes (closes z.top (z.under ∷ z.around))
-    unfolding stopOf keptOf
+    closes-stop : s ≡ stop_of bytes (closes z.top (z.under ∷ z.around))
+    unfolding stop_of kept_of
     closes-stop = es bytes ∙ rw (top_kept, under-kept, closes-of) (ap (stop_at closing bytes z.top.of) (seen-kept z.top z.under z.around))
 
-    pub close-stop : (s ≡ 0 → ⊥) → Answers (afterRun w bytes old) (Stopped s (get_or os depth unkept).at) new
-    unfolding afterRun runAnswer marksOf
+    pub close-stop : (s ≡ 0 → ⊥) → Answers (after_run w bytes old) (Stopped s (get_or os depth unkept).at) new
+    unfolding after_run run_answer marks_of
     close-stop h =
         let here = stops-here bytes (closes z.top (z.under ∷ z.around)) after-close (rw closes-stop at h) in
         record { answer = rw (z.ends, z.marked, here, top-at, closes-stop); proper = proper-stop closing [] r _ (es []) h }
 
-    pub close-turn : {q : Kept} → s ≡ 0 → q ≡ joinedBy (get_or os (depth - 1) unkept) r → Running w bytes old n new (set os (depth - 1) q) (depth - 1) i
-    unfolding Held marksOf lastMark
+    pub close-turn : {q : Kept} → s ≡ 0 → q ≡ joined_by (get_or os (depth - 1) unkept) r → Running w bytes old n new (set os (depth - 1) q) (depth - 1) i
+    unfolding Held marks_of last_mark
     close-turn {q} h eq =
         let on = goes_on bytes (closes z.top (z.under ∷ z.around)) after-close (sym closes-stop ∙ h) in
         let d : length z.around ≡ depth - 1 = omega (arith, z.deep) in
-        let e : q ≡ keptOf (withKid z.top.of z.under) z.around = eq ∙ rw (under-kept, closes-of) (joined-kept z.top.of z.under z.around) in
+        let e : q ≡ kept_of (with_kid z.top.of z.under) z.around = eq ∙ rw (under-kept, closes-of) (joined-kept z.top.of z.under z.around) in
         let o = z.held.1.0 in
         record {
           ok = z.running.ok;
@@ -280,10 +280,10 @@ module _ (w bytes old : List ℕ) (n : ℕ) (new : List ℕ) (os : List Kept) (d
           near = λ g. omega (arith, z.low g, z.deep);
           long = simp length-set z.running.long;
           shallow = omega (arith, z.running.shallow);
-          top = withKid z.top.of z.under;
+          top = with_kid z.top.of z.under;
           around = z.around;
           deep = d;
-          held = (record { level = o.level; kept = rw d (get_or-set_same os (depth - 1) q unkept (omega (arith, z.running.long, z.running.shallow)) ∙ e); from = o.from; few = omega (arith, o.few); small = mark-small z.top.of (lastMark z.under.kids) (length z.under.kids) z.held.0.own o.small; own = o.own }, held-set w n os (depth - 1) q i i z.around (omega arith) (omega arith) z.held.1.1);
+          held = (record { level = o.level; kept = rw d (get_or-set_same os (depth - 1) q unkept (omega (arith, z.running.long, z.running.shallow)) ∙ e); from = o.from; few = omega (arith, o.few); small = mark-small z.top.of (last_mark z.under.kids) (length z.under.kids) z.held.0.own o.small; own = o.own }, held-set w n os (depth - 1) q i i z.around (omega arith) (omega arith) z.held.1.1);
           ends = z.ends ∙ rw on;
           marked = z.marked ∙ rw on refl;
         }
@@ -293,17 +293,17 @@ module _ (w bytes old : List ℕ) (n : ℕ) (new : List ℕ) (os : List Kept) (d
 pub record Opening (w bytes old : List ℕ) (n : ℕ) (new : List ℕ) (os : List Kept) (depth i : ℕ) : Type 0 where
   pub running : Running w bytes old n new os depth i
   pub inside : i < n
-  pub level : (recordAt w i).level ≡ depth + 1
+  pub level : (record_at w i).level ≡ depth + 1
   pub most : depth + 1 ≤ 64
 
 module _ (w bytes old : List ℕ) (n : ℕ) (new : List ℕ) (os : List Kept) (depth i : ℕ) (v : Running w bytes old n new os depth i) where
-  pub opens-next : {l : ℕ} → l ≡ nextLevel w n i → depth < l → (ltb i n || ltb 0 depth) ≡ true → Opening w bytes old n new os depth i
+  pub opens-next : {l : ℕ} → l ≡ next_level w n i → depth < l → (ltb i n || ltb 0 depth) ≡ true → Opening w bytes old n new os depth i
   opens-next {l} e h t = go (ltb i n) refl
     where
       go : (b : Bool) → ltb i n ≡ b → Opening w bytes old n new os depth i
       go true a =
           let g : i < n = ltb-true i n a in
-          let m : depth < (recordAt w i).level = rw (e, next-is w bytes old n new os depth i v g) at h in
+          let m : depth < (record_at w i).level = rw (e, next-is w bytes old n new os depth i v g) at h in
           let most = (deep-at w bytes v.ok i (omega (arith, v.all))).most in
           record { running = v; inside = g; level = omega (arith, v.near g); most = omega (arith, v.near g) }
       go false a =
@@ -320,56 +320,56 @@ module _ (w bytes old : List ℕ) (n : ℕ) (new : List ℕ) (os : List Kept) (d
   around = z.running.around
 
   abbrev open_step : Step
-  open_step = opens (fresh i (recordAt w i)) (top ∷ around)
+  open_step = opens (fresh i (record_at w i)) (top ∷ around)
 
   abbrev after_open : List Step
-  after_open = stepsFrom (record { top = fresh i (recordAt w i); around = top ∷ around }) (i + 1) (recordsFrom w (n - (i + 1)) (i + 1))
+  after_open = steps_from (record { top = fresh i (record_at w i); around = top ∷ around }) (i + 1) (records_from w (n - (i + 1)) (i + 1))
 
-  is-kept : get_or os depth unkept ≡ keptOf top around
+  is-kept : get_or os depth unkept ≡ kept_of top around
   unfolding Held
   is-kept = rw z.running.deep at z.running.held.0.kept
 
-  steps-are : stepsFrom (record { top = top; around = around }) i (recordsFrom w (n - i) i) ≡ open_step ∷ after_open
+  steps-are : steps_from (record { top = top; around = around }) i (records_from w (n - i) i) ≡ open_step ∷ after_open
   unfolding Held
   steps-are =
-      let l : (recordAt w i).level ≡ suc top.of.level = omega (arith, z.level, z.running.held.0.level, z.running.deep) in
-      rw (left-more w n i z.inside, open-one top around i (recordAt w i) (recordsFrom w (n - (i + 1)) (i + 1)) l, add-one i)
+      let l : (record_at w i).level ≡ suc top.of.level = omega (arith, z.level, z.running.held.0.level, z.running.deep) in
+      rw (left-more w n i z.inside, open-one top around i (record_at w i) (records_from w (n - (i + 1)) (i + 1)) l, add-one i)
 
-  pub open-inside : i * recordWords + recordWords ≤ length w
+  pub open-inside : i * record_words + record_words ≤ length w
   open-inside = omega (arith, z.inside, (accepted w bytes z.running.ok).whole, z.running.all)
 
-  pub open-fits : ((get_or os depth unkept).kids ≤ mostKids) × ((get_or os depth unkept).number ≤ mostItemMark)
-  unfolding Held keptOf
+  pub open-fits : ((get_or os depth unkept).kids ≤ most_kids) × ((get_or os depth unkept).number ≤ most_item_mark)
+  unfolding Held kept_of
   open-fits =
       let few = z.running.few in
       let o = z.running.held.0 in
       rw is-kept (omega (arith, o.few, z.running.within, z.running.all), omega (arith, o.small, o.few, z.running.within, z.running.all))
 
-  module _ {r : Rec} {s : ℕ} (er : r ≡ recordAt w i) (es : s ≡ stop_at opening bytes r (seenBy r (get_or os depth unkept) 0 true)) where
-    seen-is : seenBy r (get_or os depth unkept) 0 true ≡ seen (fresh i (recordAt w i)) (top ∷ around)
-    unfolding onlyEmpty
-    seen-is = rw (is-kept, er) (seen-kept (fresh i (recordAt w i)) top around)
+  module _ {r : Rec} {s : ℕ} (er : r ≡ record_at w i) (es : s ≡ stop_at opening bytes r (seen_by r (get_or os depth unkept) 0 true)) where
+    seen-is : seen_by r (get_or os depth unkept) 0 true ≡ seen (fresh i (record_at w i)) (top ∷ around)
+    unfolding only_empty
+    seen-is = rw (is-kept, er) (seen-kept (fresh i (record_at w i)) top around)
 
-    opens-stop : s ≡ stopOf bytes open_step
-    unfolding stopOf
+    opens-stop : s ≡ stop_of bytes open_step
+    unfolding stop_of
     opens-stop = es ∙ rw (seen-is, er)
 
-    pub open-stop : (s ≡ 0 → ⊥) → Answers (afterRun w bytes old) (Stopped s i) new
-    unfolding afterRun runAnswer marksOf
+    pub open-stop : (s ≡ 0 → ⊥) → Answers (after_run w bytes old) (Stopped s i) new
+    unfolding after_run run_answer marks_of
     open-stop h =
         let here = stops-here bytes open_step after_open (rw opens-stop at h) in
         record { answer = rw (z.running.ends, z.running.marked, steps-are, here, opens-stop); proper = proper-stop opening bytes r _ es h }
 
-    pub open_turn : {m : ℕ} {q : Kept} → s ≡ 0 → m ≡ mark_of r (seenBy r (get_or os depth unkept) 0 true) → q ≡ openedIn i r (get_or os depth unkept) → Running w bytes old n (set new i m) (set os (depth + 1) q) (depth + 1) (i + 1)
-    unfolding Held marksOf lastMark stopOf
+    pub open_turn : {m : ℕ} {q : Kept} → s ≡ 0 → m ≡ mark_of r (seen_by r (get_or os depth unkept) 0 true) → q ≡ opened_in i r (get_or os depth unkept) → Running w bytes old n (set new i m) (set os (depth + 1) q) (depth + 1) (i + 1)
+    unfolding Held marks_of last_mark stop_of
     open_turn {m} {q} h em eq =
         let on = goes_on bytes open_step after_open (sym opens-stop ∙ h) in
         let v = z.running in
         let o = v.held.0 in
-        let e : q ≡ keptOf (fresh i (recordAt w i)) (top ∷ around) = eq ∙ rw (is-kept, er) (opened-kept i (recordAt w i) top around) in
-        let mark : m ≡ mark_of (recordAt w i) (seen (fresh i (recordAt w i)) (top ∷ around)) = em ∙ rw (seen-is, er) in
+        let e : q ≡ kept_of (fresh i (record_at w i)) (top ∷ around) = eq ∙ rw (is-kept, er) (opened-kept i (record_at w i) top around) in
+        let mark : m ≡ mark_of (record_at w i) (seen (fresh i (record_at w i)) (top ∷ around)) = em ∙ rw (seen-is, er) in
         let d : length (top ∷ around) ≡ depth + 1 = omega (arith, v.deep) in
-        let i-small : i < recordsOf w = omega (arith, z.inside, v.all) in
+        let i-small : i < records_of w = omega (arith, z.inside, v.all) in
         record {
           ok = v.ok;
           all = v.all;
@@ -380,10 +380,10 @@ module _ (w bytes old : List ℕ) (n : ℕ) (new : List ℕ) (os : List Kept) (d
           near = λ g. omega (arith, next-near w bytes v.ok i (omega (arith, g, v.all)), z.level);
           long = simp length-set v.long;
           shallow = z.most;
-          top = fresh i (recordAt w i);
+          top = fresh i (record_at w i);
           around = top ∷ around;
           deep = d;
-          held = (record { level = omega (arith, z.level); kept = rw d (get_or-set_same os (depth + 1) q unkept (omega (arith, v.long, z.most)) ∙ e); from = λ g. (z.inside, refl); few = omega arith; small = omega arith; own = λ g. small-number bytes (recordAt w i) (seen (fresh i (recordAt w i)) (top ∷ around)) (sym opens-stop ∙ h) (each-passed w bytes v.ok i i-small).field g }, (one_set w n os (depth + 1) q i (i + 1) 0 1 top around (omega (arith, v.deep)) (omega arith) o, held-set w n os (depth + 1) q i (i + 1) around (omega (arith, v.deep)) (omega arith) v.held.1));
+          held = (record { level = omega (arith, z.level); kept = rw d (get_or-set_same os (depth + 1) q unkept (omega (arith, v.long, z.most)) ∙ e); from = λ g. (z.inside, refl); few = omega arith; small = omega arith; own = λ g. small-number bytes (record_at w i) (seen (fresh i (record_at w i)) (top ∷ around)) (sym opens-stop ∙ h) (each-passed w bytes v.ok i i-small).field g }, (one_set w n os (depth + 1) q i (i + 1) 0 1 top around (omega (arith, v.deep)) (omega arith) o, held-set w n os (depth + 1) q i (i + 1) around (omega (arith, v.deep)) (omega arith) v.held.1));
           ends = v.ends ∙ rw (steps-are, on);
           marked = v.marked ∙ rw (steps-are, on, mark) refl;
         }

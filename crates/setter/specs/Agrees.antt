@@ -3,9 +3,9 @@
 -- the entries the check wrote; its run and stop are the machine's on the same sheet and text." The table is `stops`.
 use Rattle.std.specs.Prelude.{ℕ, ◌+◌, ◌<◌, ◌≤◌, ◌≡◌, ◌⊎◌, ◌↔◌, true, List, [], ◌∷◌, ◌++◌, eqb}
 use Rattle.leaves.specs.Text.Lists.{if◌then◌else◌}
-use Rattle.leaves.specs.Sheet.Records.{recordsOf}
+use Rattle.leaves.specs.Sheet.Records.{records_of}
 use Rattle.leaves.specs.Report.Entries.{Entry}
-use Rattle.blocks.specs.Walk.{validateDocument}
+use Rattle.blocks.specs.Walk.{validate_document}
 use Rattle.setter.specs.Steps.{Step, opens, closes, steps_of}
 use Rattle.setter.specs.Stops.{beside, named}
 use Rattle.setter.specs.Machine.{Run, reached, run, StopsAt, StopsSomewhere}
@@ -30,15 +30,15 @@ abbrev pub Told : ℕ → List ℕ → Entry → Type 0
 Told s p e = (beside s e.rule ≡ true) × Begins p e.path
 
 -- ---- how often record i is opened, and closed
-unfoldable pub timesOpened : ℕ → List Step → ℕ
-timesOpened i [] = 0
-timesOpened i (opens f around ∷ ss) = (if eqb f.at i then 1 else 0) + timesOpened i ss
-timesOpened i (closes f around ∷ ss) = timesOpened i ss
+unfoldable pub times_opened : ℕ → List Step → ℕ
+times_opened i [] = 0
+times_opened i (opens f around ∷ ss) = (if eqb f.at i then 1 else 0) + times_opened i ss
+times_opened i (closes f around ∷ ss) = times_opened i ss
 
-unfoldable pub timesClosed : ℕ → List Step → ℕ
-timesClosed i [] = 0
-timesClosed i (opens f around ∷ ss) = timesClosed i ss
-timesClosed i (closes f around ∷ ss) = (if eqb f.at i then 1 else 0) + timesClosed i ss
+unfoldable pub times_closed : ℕ → List Step → ℕ
+times_closed i [] = 0
+times_closed i (opens f around ∷ ss) = times_closed i ss
+times_closed i (closes f around ∷ ss) = (if eqb f.at i then 1 else 0) + times_closed i ss
 
 -- a run that goes through the whole sheet
 pub record Whole (w : List ℕ) (r : Run) : Type 0 where
@@ -47,9 +47,9 @@ pub record Whole (w : List ℕ) (r : Run) : Type 0 where
   -- its steps are all openings and closings of the sheet
   pub all : r.steps ≡ steps_of w
   -- each record is opened exactly once and closed exactly once
-  pub once : (i : ℕ) → i < recordsOf w → (timesOpened i r.steps ≡ 1) × (timesClosed i r.steps ≡ 1)
+  pub once : (i : ℕ) → i < records_of w → (times_opened i r.steps ≡ 1) × (times_closed i r.steps ≡ 1)
   -- and nothing else is
-  pub other : (i : ℕ) → recordsOf w ≤ i → (timesOpened i r.steps ≡ 0) × (timesClosed i r.steps ≡ 0)
+  pub other : (i : ℕ) → records_of w ≤ i → (times_opened i r.steps ≡ 0) × (times_closed i r.steps ≡ 0)
 
 -- ---- the three sentences, of a sheet, its text, and a list of entries
 pub record Agrees (w bytes : List ℕ) (es : List Entry) : Type 0 where
@@ -64,4 +64,4 @@ pub record Agrees (w bytes : List ℕ) (es : List Entry) : Type 0 where
 
 -- demand 3 of a sheet and its text: `Agrees` of its whole list
 unfoldable pub Demand : List ℕ → List ℕ → Type 0
-Demand w bytes = Agrees w bytes (validateDocument w bytes)
+Demand w bytes = Agrees w bytes (validate_document w bytes)

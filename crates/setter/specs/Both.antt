@@ -1,7 +1,7 @@
 -- What running both the check and the setting machine promises: the two equations, and demand 3 about what was written.
 use Rattle.std.specs.Prelude.{ℕ, ◌≡◌, List}
-use Rattle.leaves.specs.Report.Entries.{entriesIn}
-use Rattle.blocks.specs.Check.{checkedAnswer, outcome}
+use Rattle.leaves.specs.Report.Entries.{entries_in}
+use Rattle.blocks.specs.Check.{checked_answer, outcome}
 use Rattle.blocks.specs.declared.answer.Checked.{Checked}
 use Rattle.setter.specs.Answer.{Answers}
 use Rattle.setter.specs.Setting.{setting_of}
@@ -17,9 +17,9 @@ pub record ChecksAndSets
     (set : Setting)
     (marked : List ℕ) : Type 0 where
   -- the check's equation
-  pub check : (checkedAnswer checked, written) ≡ outcome w bytes report
+  pub check : (checked_answer checked, written) ≡ outcome w bytes report
   -- the machine's
   pub machine : Answers (setting_of w bytes marks) set marked
   -- Demand 3, where the check accepts: "Its list is the entries the check wrote; its run and stop are the machine's on
   -- the same sheet and text." The entries are read back from the report's words.
-  pub demand : (checkedAnswer checked).number ≡ 0 → Agrees w bytes (entriesIn (checkedAnswer checked).value written)
+  pub demand : (checked_answer checked).number ≡ 0 → Agrees w bytes (entries_in (checked_answer checked).value written)

@@ -1,10 +1,10 @@
 -- What the C functions promise: an answer in the two halves of one number, and the lent words after the call.
 use Rattle.std.specs.Prelude.{ℕ, ◌/◌, ◌%◌, ◌^◌, ◌<◌, ◌≡◌, List}
-use Rattle.leaves.specs.Sheet.Records.{recordsOf}
-use Rattle.leaves.specs.Report.Entries.{entriesIn}
+use Rattle.leaves.specs.Sheet.Records.{records_of}
+use Rattle.leaves.specs.Report.Entries.{entries_in}
 use Rattle.leaves.specs.Refusal.Verdict.{Answer}
 use Rattle.blocks.specs.Check.{outcome}
-use Rattle.setter.specs.Machine.{runAnswer}
+use Rattle.setter.specs.Machine.{run_answer}
 use Rattle.setter.specs.Setting.{setting_of}
 use Rattle.setter.specs.Agrees.{Agrees}
 
@@ -27,8 +27,8 @@ pub record SetPromise (w bytes marks : List ℕ) (r : ℕ) (marked : List ℕ) :
 -- `set` of the machine for the same sheet and text. Both promises give it (`shipped` in proofs/ExportLaws.antt).
 pub record Shipped (w bytes : List ℕ) (checked : ℕ) (written : List ℕ) (set : ℕ) : Type 0 where
   -- the entries that the answer counts, read back from the report, agree with the run
-  pub agrees : Agrees w bytes (entriesIn (checked % 2 ^ 32) written)
+  pub agrees : Agrees w bytes (entries_in (checked % 2 ^ 32) written)
   -- the machine's number is the answer of that run, unless the marks are refused (256 and more)
-  pub ran : set / 2 ^ 32 < 256 → Halves set (runAnswer w bytes)
+  pub ran : set / 2 ^ 32 < 256 → Halves set (run_answer w bytes)
   -- and so where the check lists nothing, the machine comes to the end of all records
-  pub clean : checked ≡ 0 → set / 2 ^ 32 < 256 → set ≡ recordsOf w
+  pub clean : checked ≡ 0 → set / 2 ^ 32 < 256 → set ≡ records_of w

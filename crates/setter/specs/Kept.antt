@@ -2,60 +2,60 @@
 -- the machine's promise does not cite them.
 use Rattle.std.specs.Prelude.{ℕ, ◌+◌, Bool, true, false, ◌&&◌, ◌||◌, List, [], ◌∷◌, eqb, length}
 use Rattle.leaves.specs.Text.Lists.{if◌then◌else◌}
-use Rattle.leaves.specs.Sheet.Kinds.{among, isInline, list, table, blankLine, link, linkReference}
+use Rattle.leaves.specs.Sheet.Kinds.{among, is_inline, list, table, blank_line, link, link_reference}
 use Rattle.leaves.specs.declared.sheet.records.Rec.{Rec}
-use Rattle.leaves.specs.Sheet.Classes.{isBreak}
-use Rattle.leaves.specs.Sheet.Empty.{isEmptyText}
-use Rattle.leaves.specs.Text.Marker.{writtenMarker}
-use Rattle.leaves.specs.Refusal.Limits.{mostRecords}
+use Rattle.leaves.specs.Sheet.Classes.{is_break}
+use Rattle.leaves.specs.Sheet.Empty.{is_empty_text}
+use Rattle.leaves.specs.Text.Marker.{written_marker}
+use Rattle.leaves.specs.Refusal.Limits.{most_records}
 use Rattle.setter.specs.Steps.{Frame}
-use Rattle.setter.specs.Seen.{Seen, columns, nearest, inLink, behindBreak, onlyEmpty, itemMark, lastMark}
-use Rattle.setter.specs.Stops.{mostOwnNumber}
+use Rattle.setter.specs.Seen.{Seen, columns, nearest, in_link, behind_break, only_empty, item_mark, last_mark}
+use Rattle.setter.specs.Stops.{most_own_number}
 use Rattle.setter.specs.declared.kept.Kept.{Kept}
 
 -- no record has more children: a sheet has no more records
-abbrev pub mostKids : ℕ
-mostKids = mostRecords
+abbrev pub most_kids : ℕ
+most_kids = most_records
 
 -- no item has a larger number: the largest own number, and 1 more for each item behind it
-abbrev pub mostItemMark : ℕ
-mostItemMark = mostOwnNumber + mostKids
+abbrev pub most_item_mark : ℕ
+most_item_mark = most_own_number + most_kids
 
 -- the marker kept once record r has closed: for a list its written one, for a blank line the one before, and 0 for any
 -- other kind
-abbrev pub nextMarker : Rec → ℕ → ℕ
-nextMarker r before =
-    if eqb r.kind blankLine
+abbrev pub next_marker : Rec → ℕ → ℕ
+next_marker r before =
+    if eqb r.kind blank_line
     then before
     else if eqb r.kind list
-    then writtenMarker r.a r.b
+    then written_marker r.a r.b
     else 0
 
 -- the marker kept once these siblings have closed, newest first
-unfoldable pub markerBehind : List Rec → ℕ
-markerBehind [] = 0
-markerBehind (s ∷ ss) = nextMarker s (markerBehind ss)
+unfoldable pub marker_behind : List Rec → ℕ
+marker_behind [] = 0
+marker_behind (s ∷ ss) = next_marker s (marker_behind ss)
 
 -- what is kept of an open record
-unfoldable pub keptOf : Frame → List Frame → Kept
-keptOf f around =
+unfoldable pub kept_of : Frame → List Frame → Kept
+kept_of f around =
     record {
       at = f.at;
       columns = columns (f ∷ around);
       nearest = nearest (f ∷ around);
-      linked = inLink (f ∷ around);
+      linked = in_link (f ∷ around);
       ordered = eqb f.of.a 1;
       kids = length f.kids;
-      broke = behindBreak f.kids;
-      marker = markerBehind f.kids;
-      empty = onlyEmpty f.kids;
-      number = lastMark f.kids;
+      broke = behind_break f.kids;
+      marker = marker_behind f.kids;
+      empty = only_empty f.kids;
+      number = last_mark f.kids;
     }
 
 -- what record r sees, where k is kept of the record around it. r has so many children that have closed (`kids`), and
 -- `empty` says whether they are nothing but empty texts.
-abbrev pub seenBy : Rec → Kept → ℕ → Bool → Seen
-seenBy r k kids empty =
+abbrev pub seen_by : Rec → Kept → ℕ → Bool → Seen
+seen_by r k kids empty =
     record {
       columns = k.columns;
       nearest = k.nearest;
@@ -63,20 +63,20 @@ seenBy r k kids empty =
       ordered = k.ordered;
       before = k.kids;
       broke = k.broke;
-      joins = eqb k.marker (writtenMarker r.a r.b);
+      joins = eqb k.marker (written_marker r.a r.b);
       number = k.number;
       kids = kids;
       empty = empty;
     }
 
 -- what is kept of record i, which is r, as it opens under the record of which k is kept
-unfoldable pub openedIn : ℕ → Rec → Kept → Kept
-openedIn i r k =
+unfoldable pub opened_in : ℕ → Rec → Kept → Kept
+opened_in i r k =
     record {
       at = i;
       columns = if eqb r.kind table then r.a else k.columns;
-      nearest = if isInline r.kind then k.nearest else r.kind;
-      linked = among r.kind (link ∷ linkReference ∷ []) || k.linked;
+      nearest = if is_inline r.kind then k.nearest else r.kind;
+      linked = among r.kind (link ∷ link_reference ∷ []) || k.linked;
       ordered = eqb r.a 1;
       kids = 0;
       broke = false;
@@ -86,8 +86,8 @@ openedIn i r k =
     }
 
 -- what is kept of a record once its child r has closed; k was kept before
-unfoldable pub joinedBy : Kept → Rec → Kept
-joinedBy k r =
+unfoldable pub joined_by : Kept → Rec → Kept
+joined_by k r =
     record {
       at = k.at;
       columns = k.columns;
@@ -95,8 +95,8 @@ joinedBy k r =
       linked = k.linked;
       ordered = k.ordered;
       kids = k.kids + 1;
-      broke = isBreak r.kind;
-      marker = nextMarker r k.marker;
-      empty = isEmptyText r && k.empty;
-      number = itemMark r k.number;
+      broke = is_break r.kind;
+      marker = next_marker r k.marker;
+      empty = is_empty_text r && k.empty;
+      number = item_mark r k.number;
     }

@@ -3,39 +3,39 @@
 -- "It works from the sheet and its text alone, without the checker or its list."
 use Rattle.std.specs.Prelude.{ℕ, suc, ◌+◌, ◌≡◌, Bool, ◌||◌, List, [], ◌∷◌, ◌++◌, eqb}
 use Rattle.leaves.specs.Text.Lists.{if◌then◌else◌}
-use Rattle.leaves.specs.Sheet.Kinds.{isBlock, item}
-use Rattle.leaves.specs.Sheet.Records.{recordsOf}
+use Rattle.leaves.specs.Sheet.Kinds.{is_block, item}
+use Rattle.leaves.specs.Sheet.Records.{records_of}
 use Rattle.leaves.specs.declared.sheet.records.Rec.{Rec}
 use Rattle.leaves.specs.Refusal.Verdict.{Answer, answer}
 use Rattle.setter.specs.Steps.{Frame, Step, opens, closes, steps_of}
 use Rattle.setter.specs.Seen.{siblings}
-use Rattle.setter.specs.Stops.{stopOf}
+use Rattle.setter.specs.Stops.{stop_of}
 
 -- ---- the block. "The block (kinds 1–17, so no item, row or cell) it stopped in is the one being opened or closed,
 -- else the innermost open one." "A block's path has one index for each block and item from the sheet down to that
 -- block, itself included: how many blocks or items stand before it under the same parent."
 
-abbrev pub inPath : ℕ → Bool
-inPath kind = isBlock kind || eqb kind item
+abbrev pub in_path : ℕ → Bool
+in_path kind = is_block kind || eqb kind item
 
 -- how many blocks or items are among the siblings
 unfoldable pub position : List Rec → ℕ
 position [] = 0
-position (s ∷ ss) = if inPath s.kind then suc (position ss) else position ss
+position (s ∷ ss) = if in_path s.kind then suc (position ss) else position ss
 
 -- the path of the innermost open record, or of the block or item around it
-unfoldable pub pathOf : List Frame → List ℕ
-pathOf [] = []
-pathOf (f ∷ around) =
-    let outer = pathOf around in
-    if inPath f.of.kind then outer ++ position (siblings around) ∷ [] else outer
+unfoldable pub path_of : List Frame → List ℕ
+path_of [] = []
+path_of (f ∷ around) =
+    let outer = path_of around in
+    if in_path f.of.kind then outer ++ position (siblings around) ∷ [] else outer
 
 -- the path of the innermost open block
-unfoldable pub blockPath : List Frame → List ℕ
-blockPath [] = []
-blockPath (f ∷ around) =
-    let outer = blockPath around in
-    if isBlock f.of.kind then pathOf (f ∷ around) else outer
+unfoldable pub block_path : List Frame → List ℕ
+block_path [] = []
+block_path (f ∷ around) =
+    let outer = block_path around in
+    if is_block f.of.kind then path_of (f ∷ around) else outer
 
 -- what is open at an opening or a closing, its own record first
 abbrev pub open_at : Step → List Frame
@@ -43,9 +43,9 @@ open_at (opens f around) = f ∷ around
 open_at (closes f around) = f ∷ around
 
 -- the record that is opened or closed
-abbrev pub recordAtStep : Step → ℕ
-recordAtStep (opens f around) = f.at
-recordAtStep (closes f around) = f.at
+abbrev pub record_at_step : Step → ℕ
+record_at_step (opens f around) = f.at
+record_at_step (closes f around) = f.at
 
 -- ---- the run: "stated as the list of its openings and closings, in the order they happen, and its answer and marks
 -- are those of that run"
@@ -63,15 +63,15 @@ pub record Run : Type 0 where
   pub end : End
 
 -- a run with one opening or closing more at its front
-abbrev pub stepThen : Step → Run → Run
-stepThen s r = record { steps = s ∷ r.steps; end = r.end }
+abbrev pub step_then : Step → Run → Run
+step_then s r = record { steps = s ∷ r.steps; end = r.end }
 
 -- the run over the openings and closings that are due: up to the first that has a stop
 unfoldable pub run_of : List ℕ → List Step → Run
 run_of bytes [] = record { steps = []; end = reached }
 run_of bytes (s ∷ ss) =
-    let later = stepThen s (run_of bytes ss) in
-    if eqb (stopOf bytes s) 0 then later else record { steps = []; end = stopped (stopOf bytes s) s }
+    let later = step_then s (run_of bytes ss) in
+    if eqb (stop_of bytes s) 0 then later else record { steps = []; end = stopped (stop_of bytes s) s }
 
 -- the run of a sheet and its text
 unfoldable pub run : List ℕ → List ℕ → Run
@@ -81,8 +81,8 @@ run w bytes = run_of bytes (steps_of w)
 pub record StopsAt (r : Run) (stop i : ℕ) (path : List ℕ) : Type 0 where
   pub step : Step
   pub end : r.end ≡ stopped stop step
-  pub at : recordAtStep step ≡ i
-  pub block : blockPath (open_at step) ≡ path
+  pub at : record_at_step step ≡ i
+  pub block : block_path (open_at step) ≡ path
 
 -- the run stopped: there are such a stop, record and block
 pub record StopsSomewhere (r : Run) : Type 0 where
@@ -93,10 +93,10 @@ pub record StopsSomewhere (r : Run) : Type 0 where
 
 -- "Answer: end and record count, or stop and the record being opened or closed." The number is 0 at the end, as the
 -- program prints it ("stop (0 at the end), record").
-abbrev pub endAnswer : ℕ → End → Answer
-endAnswer records reached = answer 0 records
-endAnswer records (stopped stop s) = answer stop (recordAtStep s)
+abbrev pub end_answer : ℕ → End → Answer
+end_answer records reached = answer 0 records
+end_answer records (stopped stop s) = answer stop (record_at_step s)
 
 -- the answer of the run of a sheet and its text
-unfoldable pub runAnswer : List ℕ → List ℕ → Answer
-runAnswer w bytes = endAnswer (recordsOf w) (run w bytes).end
+unfoldable pub run_answer : List ℕ → List ℕ → Answer
+run_answer w bytes = end_answer (records_of w) (run w bytes).end

@@ -5,7 +5,7 @@ use Rattle.leaves.specs.Text.Lists.{if◌then◌else◌}
 use Rattle.leaves.specs.Sheet.Kinds.{heading, item, cell}
 use Rattle.leaves.specs.declared.sheet.records.Rec.{Rec}
 use Rattle.setter.specs.Steps.{Step, opens, closes}
-use Rattle.setter.specs.Seen.{Seen, itemMark, seen}
+use Rattle.setter.specs.Seen.{Seen, item_mark, seen}
 
 unfoldable pub mark_of : Rec → Seen → ℕ
 mark_of r s =
@@ -14,11 +14,11 @@ mark_of r s =
     else if eqb r.kind cell
     then s.before + 1
     else if eqb r.kind item && s.ordered
-    then itemMark r s.number
+    then item_mark r s.number
     else 0
 
 -- the marks after the openings and closings of a run
-unfoldable pub marksOf : List Step → List ℕ → List ℕ
-marksOf [] marks = marks
-marksOf (opens f around ∷ ss) marks = marksOf ss (set marks f.at (mark_of f.of (seen f around)))
-marksOf (closes f around ∷ ss) marks = marksOf ss marks
+unfoldable pub marks_of : List Step → List ℕ → List ℕ
+marks_of [] marks = marks
+marks_of (opens f around ∷ ss) marks = marks_of ss (set marks f.at (mark_of f.of (seen f around)))
+marks_of (closes f around ∷ ss) marks = marks_of ss marks

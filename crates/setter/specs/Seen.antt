@@ -2,10 +2,10 @@
 -- its own children that have closed.
 use Rattle.std.specs.Prelude.{ℕ, ◌+◌, Bool, true, false, ◌&&◌, ◌||◌, List, [], ◌∷◌, eqb, length}
 use Rattle.leaves.specs.Text.Lists.{if◌then◌else◌}
-use Rattle.leaves.specs.Sheet.Kinds.{among, isInline, list, table, blankLine}
-use Rattle.leaves.specs.Sheet.Kinds.{text, link, linkReference, softBreak, lineBreak}
+use Rattle.leaves.specs.Sheet.Kinds.{among, is_inline, list, table, blank_line}
+use Rattle.leaves.specs.Sheet.Kinds.{text, link, link_reference, soft_break, line_break}
 use Rattle.leaves.specs.declared.sheet.records.Rec.{Rec}
-use Rattle.leaves.specs.Text.Marker.{writtenMarker}
+use Rattle.leaves.specs.Text.Marker.{written_marker}
 use Rattle.setter.specs.Steps.{Frame}
 
 -- the children of the innermost open record that have closed, newest first: the siblings before
@@ -21,12 +21,12 @@ columns (f ∷ around) = let outer = columns around in if eqb f.of.kind table th
 -- the kind of the "nearest open non-inline"; 0 for the sheet
 unfoldable pub nearest : List Frame → ℕ
 nearest [] = 0
-nearest (f ∷ around) = let outer = nearest around in if isInline f.of.kind then outer else f.of.kind
+nearest (f ∷ around) = let outer = nearest around in if is_inline f.of.kind then outer else f.of.kind
 
 -- a link or link reference is open, "at any depth"
-unfoldable pub inLink : List Frame → Bool
-inLink [] = false
-inLink (f ∷ around) = among f.of.kind (link ∷ linkReference ∷ []) || inLink around
+unfoldable pub in_link : List Frame → Bool
+in_link [] = false
+in_link (f ∷ around) = among f.of.kind (link ∷ link_reference ∷ []) || in_link around
 
 -- the list that holds an item is ordered (A is 1)
 abbrev pub ordered : List Frame → Bool
@@ -34,33 +34,33 @@ ordered [] = false
 ordered (f ∷ around) = eqb f.of.a 1
 
 -- the newest sibling is an inline break: a soft break or a line break
-abbrev pub behindBreak : List Rec → Bool
-behindBreak [] = false
-behindBreak (s ∷ ss) = among s.kind (softBreak ∷ lineBreak ∷ [])
+abbrev pub behind_break : List Rec → Bool
+behind_break [] = false
+behind_break (s ∷ ss) = among s.kind (soft_break ∷ line_break ∷ [])
 
 -- the newest sibling, "only blank lines skipped", is a list of the same written marker
-unfoldable pub behindList : List Rec → Rec → Bool
-behindList [] r = false
-behindList (s ∷ ss) r =
-    let before = behindList ss r in
-    if eqb s.kind blankLine
+unfoldable pub behind_list : List Rec → Rec → Bool
+behind_list [] r = false
+behind_list (s ∷ ss) r =
+    let before = behind_list ss r in
+    if eqb s.kind blank_line
     then before
-    else eqb s.kind list && eqb (writtenMarker s.a s.b) (writtenMarker r.a r.b)
+    else eqb s.kind list && eqb (written_marker s.a s.b) (written_marker r.a r.b)
 
 -- "nothing but empty texts": each child is a text of no bytes
-unfoldable pub onlyEmpty : List Rec → Bool
-onlyEmpty [] = true
-onlyEmpty (s ∷ ss) = (eqb s.kind text && eqb s.first.len 0) && onlyEmpty ss
+unfoldable pub only_empty : List Rec → Bool
+only_empty [] = true
+only_empty (s ∷ ss) = (eqb s.kind text && eqb s.first.len 0) && only_empty ss
 
 -- the number of an ordered item: its "own number, else the item before plus 1, else 1", where `before` is that of the
 -- item before, and 0 where there is none
-abbrev pub itemMark : Rec → ℕ → ℕ
-itemMark r before = if eqb r.b 1 then r.c else before + 1
+abbrev pub item_mark : Rec → ℕ → ℕ
+item_mark r before = if eqb r.b 1 then r.c else before + 1
 
 -- the number of the newest of those items; 0 where there is none
-unfoldable pub lastMark : List Rec → ℕ
-lastMark [] = 0
-lastMark (s ∷ ss) = itemMark s (lastMark ss)
+unfoldable pub last_mark : List Rec → ℕ
+last_mark [] = 0
+last_mark (s ∷ ss) = item_mark s (last_mark ss)
 
 -- what the stops and the mark go by when a record opens or closes, beside the record itself
 pub record Seen : Type 0 where
@@ -91,12 +91,12 @@ seen f around =
     record {
       columns = columns around;
       nearest = nearest around;
-      linked = inLink around;
+      linked = in_link around;
       ordered = ordered around;
       before = length (siblings around);
-      broke = behindBreak (siblings around);
-      joins = behindList (siblings around) f.of;
-      number = lastMark (siblings around);
+      broke = behind_break (siblings around);
+      joins = behind_list (siblings around) f.of;
+      number = last_mark (siblings around);
       kids = length f.kids;
-      empty = onlyEmpty f.kids;
+      empty = only_empty f.kids;
     }

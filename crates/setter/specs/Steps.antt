@@ -3,8 +3,8 @@
 -- are open, and then it is at the end."
 use Rattle.std.specs.Prelude.{ℕ, suc, ◌+◌, List, [], ◌∷◌, ◌++◌, leb}
 use Rattle.leaves.specs.Text.Lists.{if◌then◌else◌}
-use Rattle.leaves.specs.Sheet.Records.{recordsOf}
-use Rattle.leaves.specs.Sheet.Forest.{recordsFrom}
+use Rattle.leaves.specs.Sheet.Records.{records_of}
+use Rattle.leaves.specs.Sheet.Forest.{records_from}
 use Rattle.leaves.specs.declared.sheet.records.Rec.{Rec}
 
 -- an open record: its number from 0, itself, and its children that have closed, the newest first
@@ -17,12 +17,12 @@ abbrev pub fresh : ℕ → Rec → Frame
 fresh i r = record { at = i; of = r; kids = [] }
 
 -- the open record f once its child r has closed
-abbrev pub withKid : Rec → Frame → Frame
-withKid r f = record { at = f.at; of = f.of; kids = r ∷ f.kids }
+abbrev pub with_kid : Rec → Frame → Frame
+with_kid r f = record { at = f.at; of = f.of; kids = r ∷ f.kids }
 
 -- the sheet itself, which holds the records of level 1 and never closes
-abbrev pub theSheet : Frame
-theSheet =
+abbrev pub the_sheet : Frame
+the_sheet =
     fresh 0 (record {
       kind = 0;
       level = 0;
@@ -48,25 +48,25 @@ pub record Opened : Type 0 where
 unfoldable pub closings : ℕ → Frame → List Frame → List Step
 closings l f [] = []
 closings l f (g ∷ around) =
-    let later = closings l (withKid f.of g) around in
+    let later = closings l (with_kid f.of g) around in
     if leb l f.of.level then closes f (g ∷ around) ∷ later else []
 
 -- what is open after those closings
 unfoldable pub remain : ℕ → Frame → List Frame → Opened
 remain l f [] = record { top = f; around = [] }
 remain l f (g ∷ around) =
-    let later = remain l (withKid f.of g) around in
+    let later = remain l (with_kid f.of g) around in
     if leb l f.of.level then later else record { top = f; around = g ∷ around }
 
 -- the openings and closings from record i on, where o is open
-unfoldable pub stepsFrom : Opened → ℕ → List Rec → List Step
-stepsFrom o i [] = closings 1 o.top o.around
-stepsFrom o i (r ∷ rs) =
+unfoldable pub steps_from : Opened → ℕ → List Rec → List Step
+steps_from o i [] = closings 1 o.top o.around
+steps_from o i (r ∷ rs) =
     let q = remain r.level o.top o.around in
     closings r.level o.top o.around
     ++ (opens (fresh i r) (q.top ∷ q.around)
-    ∷ stepsFrom (record { top = fresh i r; around = q.top ∷ q.around }) (suc i) rs)
+    ∷ steps_from (record { top = fresh i r; around = q.top ∷ q.around }) (suc i) rs)
 
 -- the openings and closings of a whole sheet where nothing stops the machine
 unfoldable pub steps_of : List ℕ → List Step
-steps_of w = stepsFrom (record { top = theSheet; around = [] }) 0 (recordsFrom w (recordsOf w) 0)
+steps_of w = steps_from (record { top = the_sheet; around = [] }) 0 (records_from w (records_of w) 0)

@@ -3,7 +3,7 @@
 use Rattle.std.specs.Prelude.{ℕ, Bool, true, false, not, ◌&&◌, ◌||◌, List, [], ◌∷◌, eqb, ltb, leb}
 use Rattle.leaves.specs.Text.Bytes.{between}
 use Rattle.leaves.specs.Text.Lists.{if◌then◌else◌}
-use Rattle.leaves.specs.Text.Lines.{holdsLineEnding}
+use Rattle.leaves.specs.Text.Lines.{holds_line_ending}
 use Rattle.leaves.specs.Sheet.Kinds
 use Rattle.leaves.specs.Sheet.Kinds.{among}
 use Rattle.leaves.specs.declared.sheet.records.Rec.{Rec}
@@ -16,11 +16,11 @@ pub data Moment : Type 0 where
   opening : Moment
   closing : Moment
 
-abbrev pub sameMoment : Moment → Moment → Bool
-sameMoment opening opening = true
-sameMoment opening closing = false
-sameMoment closing opening = false
-sameMoment closing closing = true
+abbrev pub same_moment : Moment → Moment → Bool
+same_moment opening opening = true
+same_moment opening closing = false
+same_moment closing opening = false
+same_moment closing closing = true
 
 -- "Stop | Condition | Rules"
 pub record Row : Type 0 where
@@ -37,8 +37,8 @@ abbrev pub row : ℕ → Moment → List ℕ → (List ℕ → Rec → Seen → 
 row n moment rules holds = record { stop = n; moment = moment; rules = rules; holds = holds }
 
 -- 7: "ordered item's own number over 999,999,999"
-abbrev pub mostOwnNumber : ℕ
-mostOwnNumber = 999999999
+abbrev pub most_own_number : ℕ
+most_own_number = 999999999
 
 abbrev pub stops : List Row
 stops =
@@ -54,17 +54,17 @@ stops =
     -- "inline break (so no thematic break) whose nearest open non-inline is a cell, leaf or container directive"
     ∷ row 4 opening (20 ∷ 22 ∷ 23 ∷ [])
     (λ bytes r s.
-    among r.kind (Kinds.softBreak ∷ Kinds.lineBreak ∷ [])
-    && among s.nearest (Kinds.cell ∷ Kinds.leafDirective ∷ Kinds.containerDirective ∷ []))
+    among r.kind (Kinds.soft_break ∷ Kinds.line_break ∷ [])
+    && among s.nearest (Kinds.cell ∷ Kinds.leaf_directive ∷ Kinds.container_directive ∷ []))
     -- "link, autolink, link reference or wikilink under a link or link reference, at any depth"
     ∷ row 5 opening (42 ∷ [])
     (λ bytes r s.
-    among r.kind (Kinds.link ∷ Kinds.autolink ∷ Kinds.linkReference ∷ Kinds.wikiLink ∷ []) && s.linked)
+    among r.kind (Kinds.link ∷ Kinds.autolink ∷ Kinds.link_reference ∷ Kinds.wiki_link ∷ []) && s.linked)
     -- "heading depth not 1–6"
     ∷ row 6 opening (10 ∷ []) (λ bytes r s. eqb r.kind Kinds.heading && not (between 1 6 r.a))
     -- "ordered item's own number over 999,999,999"
     ∷ row 7 opening (50 ∷ [])
-    (λ bytes r s. eqb r.kind Kinds.item && s.ordered && eqb r.b 1 && ltb mostOwnNumber r.c)
+    (λ bytes r s. eqb r.kind Kinds.item && s.ordered && eqb r.b 1 && ltb most_own_number r.c)
     -- "bullet item with number"
     ∷ row 8 opening (49 ∷ []) (λ bytes r s. eqb r.kind Kinds.item && not s.ordered && eqb r.b 1)
     -- "list closed without item"
@@ -76,12 +76,12 @@ stops =
     && s.empty)
     -- "soft or spaces break straight after a sibling break": a line break whose A is 1 is one of spaces
     ∷ row 11 opening (37 ∷ [])
-    (λ bytes r s. (eqb r.kind Kinds.softBreak || eqb r.kind Kinds.lineBreak && eqb r.a 1) && s.broke)
+    (λ bytes r s. (eqb r.kind Kinds.soft_break || eqb r.kind Kinds.line_break && eqb r.a 1) && s.broke)
     -- "frontmatter whose level exceeds 1"
     ∷ row 12 opening (28 ∷ []) (λ bytes r s. eqb r.kind Kinds.frontmatter && ltb 1 r.level)
     -- "text or inline code (kinds 31, 39) with CR or LF"
     ∷ row 13 opening (31 ∷ 45 ∷ [])
-    (λ bytes r s. among r.kind (Kinds.text ∷ Kinds.code ∷ []) && holdsLineEnding (text_of bytes r.first))
+    (λ bytes r s. among r.kind (Kinds.text ∷ Kinds.code ∷ []) && holds_line_ending (text_of bytes r.first))
     -- "list straight after a sibling list of the same written marker, only blank lines skipped"
     ∷ row 14 opening (1 ∷ []) (λ bytes r s. eqb r.kind Kinds.list && s.joins)
     ∷ []
@@ -91,27 +91,27 @@ stops =
 abbrev pub lowest : Moment → List ℕ → Rec → Seen → List Row → ℕ
 lowest m bytes r s [] = 0
 lowest m bytes r s (t ∷ ts) =
-    if sameMoment m t.moment && t.holds bytes r s then t.stop else lowest m bytes r s ts
+    if same_moment m t.moment && t.holds bytes r s then t.stop else lowest m bytes r s ts
 
 unfoldable pub stop_at : Moment → List ℕ → Rec → Seen → ℕ
 stop_at m bytes r s = lowest m bytes r s stops
 
 -- the stop of an opening or a closing; 0 where it has none
-unfoldable pub stopOf : List ℕ → Step → ℕ
-stopOf bytes (opens f around) = stop_at opening bytes f.of (seen f around)
-stopOf bytes (closes f around) = stop_at closing bytes f.of (seen f around)
+unfoldable pub stop_of : List ℕ → Step → ℕ
+stop_of bytes (opens f around) = stop_at opening bytes f.of (seen f around)
+stop_of bytes (closes f around) = stop_at closing bytes f.of (seen f around)
 
 -- ---- the table read the other way, for demand 3: rule n is named beside stop s (`beside`), or beside any (`named`)
-abbrev pub besideIn : ℕ → ℕ → List Row → Bool
-besideIn s n [] = false
-besideIn s n (t ∷ ts) = eqb s t.stop && among n t.rules || besideIn s n ts
+abbrev pub beside_in : ℕ → ℕ → List Row → Bool
+beside_in s n [] = false
+beside_in s n (t ∷ ts) = eqb s t.stop && among n t.rules || beside_in s n ts
 
 abbrev pub named_in : ℕ → List Row → Bool
 named_in n [] = false
 named_in n (t ∷ ts) = among n t.rules || named_in n ts
 
 unfoldable pub beside : ℕ → ℕ → Bool
-beside s n = besideIn s n stops
+beside s n = beside_in s n stops
 
 unfoldable pub named : ℕ → Bool
 named n = named_in n stops

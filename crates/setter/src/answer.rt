@@ -1,6 +1,6 @@
 // The answer of the setting machine, with its number and its value.
 ghost use Rattle.std.specs.Prelude.{◌≡◌};
-ghost use Rattle.setter.specs.Answer.{settingAnswer};
+ghost use Rattle.setter.specs.Answer.{setting_answer};
 
 use leaves::refusal::verdict;
 use leaves::refusal::verdict::Refusal;
@@ -21,7 +21,7 @@ const SHORT_MARKS: u32 = 12;
 
 // The stop, and 0 at the end; or the number of a refusal, with 256 added.
 pub(crate) fn setting_number(s: Setting) -> u32
-    ensures { result ≡ (settingAnswer s).number }
+    ensures { result ≡ (setting_answer s).number }
 {
     match s {
         Setting::Ended(_) => 0,
@@ -33,7 +33,7 @@ pub(crate) fn setting_number(s: Setting) -> u32
 
 // The record of a stop or of a refusal; the number of records at the end.
 pub(crate) fn setting_value(s: Setting) -> usize
-    ensures { result ≡ (settingAnswer s).value }
+    ensures { result ≡ (setting_answer s).value }
 {
     match s {
         Setting::Ended(records) => records as usize,

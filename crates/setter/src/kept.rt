@@ -1,7 +1,7 @@
 // What the machine keeps of each open record, and how it changes as records open and close.
 ghost use Rattle.std.specs.Prelude.{◌≡◌, ◌≤◌, []};
-ghost use Rattle.setter.specs.Steps.{theSheet};
-ghost use Rattle.setter.specs.Kept.{keptOf, openedIn, joinedBy, nextMarker, mostKids, mostItemMark};
+ghost use Rattle.setter.specs.Steps.{the_sheet};
+ghost use Rattle.setter.specs.Kept.{kept_of, opened_in, joined_by, next_marker, most_kids, most_item_mark};
 
 use crate::marks::item_mark;
 use leaves::sheet::records::Rec;
@@ -37,7 +37,7 @@ pub(crate) struct Kept {
 
 // What is kept of the sheet itself, before anything opens.
 pub(crate) fn the_sheet() -> Kept
-    ensures { result ≡ keptOf theSheet [] }
+    ensures { result ≡ kept_of the_sheet [] }
 {
     Kept {
         at: 0,
@@ -55,7 +55,7 @@ pub(crate) fn the_sheet() -> Kept
 
 // What is kept of record `i`, which is r, as it opens under the record of which `k` is kept.
 pub(crate) fn opened(i: u32, r: Rec, k: Kept) -> Kept
-    ensures { result ≡ openedIn i r k }
+    ensures { result ≡ opened_in i r k }
 {
     Kept {
         at: i,
@@ -74,7 +74,7 @@ pub(crate) fn opened(i: u32, r: Rec, k: Kept) -> Kept
 // The marker kept once record r has closed: for a list its written one, for a blank line the one before, and 0 for any
 // other kind.
 fn next_marker(r: Rec, before: u32) -> u32
-    ensures { result ≡ nextMarker r before }
+    ensures { result ≡ next_marker r before }
 {
     let list = pick(r.kind == kinds::LIST, written_marker(r.a, r.b), 0);
     pick(r.kind == kinds::BLANK_LINE, before, list)
@@ -82,8 +82,8 @@ fn next_marker(r: Rec, before: u32) -> u32
 
 // What is kept of a record once its child r has closed; `k` was kept before.
 pub(crate) fn joined(k: Kept, r: Rec) -> Kept
-    requires { (k.kids ≤ mostKids) × (k.number ≤ mostItemMark) }
-    ensures { result ≡ joinedBy k r }
+    requires { (k.kids ≤ most_kids) × (k.number ≤ most_item_mark) }
+    ensures { result ≡ joined_by k r }
 {
     Kept {
         at: k.at,

@@ -1,12 +1,12 @@
 // The setting machine: it opens and closes the records of a sheet, marks those that it opens, and stops. It works from
 // the sheet and its text alone.
 ghost use Rattle.std.specs.Prelude.{◌≡◌, ◌*◌, ◌≤◌, length};
-ghost use Rattle.leaves.specs.Sheet.Records.{recordWords, recordsOf};
-ghost use Rattle.leaves.specs.Refusal.Judge.{judgeSheet};
+ghost use Rattle.leaves.specs.Sheet.Records.{record_words, records_of};
+ghost use Rattle.leaves.specs.Refusal.Judge.{judge_sheet};
 ghost use Rattle.leaves.specs.declared.refusal.verdict.Judged.TheVariants.{Accepted};
 ghost use Rattle.setter.specs.Answer.{Answers};
-ghost use Rattle.setter.specs.Setting.{afterRun, setting_of};
-ghost use Rattle.setter.specs.MachineRunning.{nextLevel};
+ghost use Rattle.setter.specs.Setting.{after_run, setting_of};
+ghost use Rattle.setter.specs.MachineRunning.{next_level};
 
 use crate::answer::Setting;
 use crate::kept;
@@ -19,8 +19,8 @@ use leaves::sheet::records::{RECORD_WORDS, level_at, record_at};
 // Open records of this level or deeper close next. It is the level of record `i`; after the last record it is 1, so
 // that all close.
 fn next_level(sheet: &[u32], n: usize, i: usize) -> u32
-    requires { n * recordWords ≤ length sheet.now }
-    ensures { result ≡ nextLevel sheet.now n i }
+    requires { n * record_words ≤ length sheet.now }
+    ensures { result ≡ next_level sheet.now n i }
 {
     if n <= i {
         return 1;
@@ -31,10 +31,10 @@ fn next_level(sheet: &[u32], n: usize, i: usize) -> u32
 // Opens and closes the records one after another, a turn for each opening and closing, until one stops. `open` has, by
 // level, what is kept of each open record, and `depth` is the innermost's level.
 fn run_records(sheet: &[u32], text: &[u8], marks: &mut [u32], n: usize) -> Setting
-    requires { (judgeSheet sheet.now text.now ≡ Accepted)
-        × (n ≡ recordsOf sheet.now)
+    requires { (judge_sheet sheet.now text.now ≡ Accepted)
+        × (n ≡ records_of sheet.now)
         × (n ≤ length marks.old) }
-    ensures { Answers (afterRun sheet.now text.now marks.old)
+    ensures { Answers (after_run sheet.now text.now marks.old)
         result marks.new }
 {
     let mut open = [kept::the_sheet(); 65];

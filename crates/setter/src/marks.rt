@@ -1,8 +1,8 @@
 // The marks of the records that open.
 ghost use Rattle.std.specs.Prelude.{◌≡◌, true, ◌≤◌};
-ghost use Rattle.setter.specs.Seen.{itemMark};
+ghost use Rattle.setter.specs.Seen.{item_mark};
 ghost use Rattle.setter.specs.Marks.{mark_of};
-ghost use Rattle.setter.specs.Kept.{seenBy, mostKids, mostItemMark};
+ghost use Rattle.setter.specs.Kept.{seen_by, most_kids, most_item_mark};
 
 use crate::kept::Kept;
 use leaves::sheet::kinds;
@@ -11,16 +11,16 @@ use leaves::text::bytes::pick;
 
 // The number of an ordered item: its own, else one more than that of the item before.
 pub(crate) fn item_mark(r: Rec, before: u32) -> u32
-    requires { before ≤ mostItemMark }
-    ensures { result ≡ itemMark r before }
+    requires { before ≤ most_item_mark }
+    ensures { result ≡ item_mark r before }
 {
     pick(r.b == 1, r.c, before + 1)
 }
 
 // The mark of record r as it opens under the record of which `k` is kept.
 pub(crate) fn mark_of(r: Rec, k: Kept) -> u32
-    requires { (k.kids ≤ mostKids) × (k.number ≤ mostItemMark) }
-    ensures { result ≡ mark_of r (seenBy r k 0 true) }
+    requires { (k.kids ≤ most_kids) × (k.number ≤ most_item_mark) }
+    ensures { result ≡ mark_of r (seen_by r k 0 true) }
 {
     let item = (r.kind == kinds::ITEM) & k.ordered;
     let mark = pick(item, item_mark(r, k.number), 0);

@@ -1,12 +1,12 @@
 // The machine's stops, from what is kept of the records that are open. Document 01's table of them is in
 // specs/Stops.antt.
 ghost use Rattle.std.specs.Prelude.{◌≡◌, ℕ, true, ◌&&◌, List, [], ◌∷◌};
-ghost use Rattle.leaves.specs.Sheet.Kinds.{among, paragraph, leafDirective, containerDirective, cell};
+ghost use Rattle.leaves.specs.Sheet.Kinds.{among, paragraph, leaf_directive, container_directive, cell};
 ghost use Rattle.leaves.specs.Sheet.Kinds.{text, emphasis, strong, delete, mark, code};
-ghost use Rattle.leaves.specs.Text.Lines.{holdsLineEnding};
+ghost use Rattle.leaves.specs.Text.Lines.{holds_line_ending};
 ghost use Rattle.leaves.specs.Sheet.Texts.{text_of};
 ghost use Rattle.setter.specs.Stops.{opening, closing, stop_at};
-ghost use Rattle.setter.specs.Kept.{seenBy};
+ghost use Rattle.setter.specs.Kept.{seen_by};
 
 use crate::kept::Kept;
 use leaves::sheet::records::Rec;
@@ -22,7 +22,7 @@ const MOST_OWN_NUMBER: u32 = 999999999;
 // A text or inline code that holds a line ending.
 fn is_broken_text(bytes: &[u8], r: Rec) -> bool
     ensures { result ≡ (among r.kind (text ∷ code ∷ [])
-        && holdsLineEnding (text_of bytes.now r.first)) }
+        && holds_line_ending (text_of bytes.now r.first)) }
 {
     let counts = (r.kind == kinds::TEXT) | (r.kind == kinds::CODE);
     if counts {
@@ -33,7 +33,7 @@ fn is_broken_text(bytes: &[u8], r: Rec) -> bool
 
 // A cell, leaf directive or container directive: no line may break inside it.
 fn is_one_line(kind: u32) -> bool
-    ensures { result ≡ among kind (cell ∷ leafDirective ∷ containerDirective ∷ []) }
+    ensures { result ≡ among kind (cell ∷ leaf_directive ∷ container_directive ∷ []) }
 {
     (kind == kinds::CELL) | (kind == kinds::LEAF_DIRECTIVE) | (kind == kinds::CONTAINER_DIRECTIVE)
 }
@@ -51,7 +51,7 @@ fn holds_prose(kind: u32) -> bool
 
 // The stop of record r as it opens under the record of which `k` is kept; 0 where it has none.
 pub(crate) fn opening_stop(bytes: &[u8], r: Rec, k: Kept) -> u32
-    ensures { result ≡ stop_at opening bytes.now r (seenBy r k 0 true) }
+    ensures { result ≡ stop_at opening bytes.now r (seen_by r k 0 true) }
 {
     let item = r.kind == kinds::ITEM;
     let numbered = r.b == 1;
@@ -75,7 +75,7 @@ pub(crate) fn opening_stop(bytes: &[u8], r: Rec, k: Kept) -> u32
 // The stop of record r as it closes; 0 where it has none. `k` is kept of r, and `around` of the record that holds it.
 // No closing asks for the text, so the promise is for every text.
 pub(crate) fn closing_stop(r: Rec, k: Kept, around: Kept) -> u32
-    ensures { (bytes : List ℕ) → result ≡ stop_at closing bytes r (seenBy r around k.kids k.empty) }
+    ensures { (bytes : List ℕ) → result ≡ stop_at closing bytes r (seen_by r around k.kids k.empty) }
 {
     let row = (r.kind == kinds::ROW) & (k.kids < around.columns);
     let table = (r.kind == kinds::TABLE) & ((k.kids == 0) | (r.a == 0));

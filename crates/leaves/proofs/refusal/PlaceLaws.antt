@@ -9,15 +9,15 @@ use lib.ListN.{get_or}
 use borrow.Author.Rules.{rules}
 use borrow.Author.Tests.{eqb-true, ltb-true, leb-false, eq-eqb, ne_eqb}
 use Rattle.leaves.proofs.text.TestLaws.{all_below, each, and_left, and_right, or_left, or_right}
-use Rattle.leaves.specs.Sheet.Kinds.{htmlTag}
-use Rattle.leaves.specs.Refusal.Groups.{holdsTagsAndBlocks, holdsTagsAndInlines}
-use Rattle.leaves.specs.Refusal.PlaceTable.{placeTable}
+use Rattle.leaves.specs.Sheet.Kinds.{html_tag}
+use Rattle.leaves.specs.Refusal.Groups.{holds_tags_and_blocks, holds_tags_and_inlines}
+use Rattle.leaves.specs.Refusal.PlaceTable.{place_table}
 use Rattle.leaves.specs.Refusal.Places.{holds, place_in, place_of, joined, misplaced}
 use Rattle.leaves.specs.declared.refusal.places.Open.{Open}
 
 -- ---- the table that the code reads has the places of the definitions, by one computed test of all its cells
 cell : ℕ → ℕ → ℕ
-cell group column = get_or (get_or placeTable group []) column 0
+cell group column = get_or (get_or place_table group []) column 0
 
 cell-test : ℕ → ℕ → Bool
 cell-test group column = eqb (cell group column) (place_in 1 (holds group) column)
@@ -26,10 +26,10 @@ row-test : ℕ → Bool
 row-test group = all_below (cell-test group) 7
 
 celled : (group : ℕ) → group < 10 → row-test group ≡ true
-unfolding all_below row-test cell-test cell placeTable holds place_in
+unfolding all_below row-test cell-test cell place_table holds place_in
 celled group h = each row-test 10 refl group h
 
-pub place_inside : (table : List (List ℕ)) (group column : ℕ) → table ≡ placeTable → group < 10 → column < 7 → get_or (get_or table group []) column 0 ≡ place_in 1 (holds group) column
+pub place_inside : (table : List (List ℕ)) (group column : ℕ) → table ≡ place_table → group < 10 → column < 7 → get_or (get_or table group []) column 0 ≡ place_in 1 (holds group) column
 unfolding row-test cell-test cell
 place_inside table group column e h k = rw e (eqb-true _ _ (each (cell-test group) 7 (celled group h) column k))
 
@@ -62,21 +62,21 @@ unfolding all_below few holds
 place-right group column g h = place_none 1 (holds group) column (each (λ g. few (holds g)) 10 refl group g) h
 
 -- a tag that is not misplaced is the first or the second
-pub few-tags : (o : Open) (kind : ℕ) → misplaced o kind ≡ false → eqb kind htmlTag ≡ true → o.tags < 2
+pub few-tags : (o : Open) (kind : ℕ) → misplaced o kind ≡ false → eqb kind html_tag ≡ true → o.tags < 2
 unfolding misplaced
 few-tags o kind h e =
     let place = place_of o.group kind in
-    let third = eqb kind htmlTag && leb 2 o.tags in
-    let first : (eqb place 0 || ltb place o.stage || third) ≡ false = or_left _ ((eqb o.group holdsTagsAndBlocks || eqb o.group holdsTagsAndInlines) && not (eqb kind htmlTag) && ltb o.tags 2) h in
+    let third = eqb kind html_tag && leb 2 o.tags in
+    let first : (eqb place 0 || ltb place o.stage || third) ≡ false = or_left _ ((eqb o.group holds_tags_and_blocks || eqb o.group holds_tags_and_inlines) && not (eqb kind html_tag) && ltb o.tags 2) h in
     let none : third ≡ false = or_right (eqb place 0 || ltb place o.stage) third first in
     leb-false 2 o.tags (rw e at none)
 
 module _ (o : Open) (kind : ℕ) {place : ℕ} (e : place ≡ place_of o.group kind) where
-  pub joined-tag : eqb kind htmlTag ≡ true → ◌≡◌ {A = Open} (record { group = o.group; stage = place; tags = o.tags + 1 }) (joined o kind)
+  pub joined-tag : eqb kind html_tag ≡ true → ◌≡◌ {A = Open} (record { group = o.group; stage = place; tags = o.tags + 1 }) (joined o kind)
   unfolding joined
   joined-tag y = rw (e, y)
 
-  pub joined-other : eqb kind htmlTag ≡ false → ◌≡◌ {A = Open} (record { group = o.group; stage = place; tags = o.tags }) (joined o kind)
+  pub joined-other : eqb kind html_tag ≡ false → ◌≡◌ {A = Open} (record { group = o.group; stage = place; tags = o.tags }) (joined o kind)
   unfolding joined
   joined-other n = rw (e, n)
 

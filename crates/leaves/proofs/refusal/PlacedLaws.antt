@@ -5,9 +5,9 @@ use Prim.Native.Nat.{ℕ, ◌≤◌}
 use borrow.Author.Tests.{ltb-false}
 use lib.Dec.{eqb, ltb, leb}
 use Rattle.leaves.proofs.text.TestLaws.{or_left, or_right, all_below, each}
-use Rattle.leaves.specs.Sheet.Kinds.{isBlock, isInline, isKind, item, row, cell, htmlTag, attribute}
+use Rattle.leaves.specs.Sheet.Kinds.{is_block, is_inline, is_kind, item, row, cell, html_tag, attribute}
 use Rattle.leaves.proofs.sheet.KindLaws.{kind-below}
-use Rattle.leaves.specs.Refusal.Groups.{holdsBlocks, holdsItems, holdsRows, holdsCells, holdsInlines, holdsLabel, holdsLabelAndBlocks, holdsTagsAndBlocks, holdsTagsAndInlines, holdsNothing, childGroup}
+use Rattle.leaves.specs.Refusal.Groups.{holds_blocks, holds_items, holds_rows, holds_cells, holds_inlines, holds_label, holds_label_and_blocks, holds_tags_and_blocks, holds_tags_and_inlines, holds_nothing, child_group}
 use Rattle.leaves.specs.Refusal.Places.{holds, place_in, place_of, opened, joined, misplaced}
 use Rattle.leaves.specs.declared.refusal.places.Open.{Open}
 
@@ -15,7 +15,7 @@ use Rattle.leaves.specs.declared.refusal.places.Open.{Open}
 module _ (o : Open) (k : ℕ) (h : misplaced o k ≡ false) where
   firsts : (eqb (place_of o.group k) 0 || ltb (place_of o.group k) o.stage) ≡ false
   unfolding misplaced
-  firsts = or_left _ (eqb k htmlTag && leb 2 o.tags) (or_left _ ((eqb o.group holdsTagsAndBlocks || eqb o.group holdsTagsAndInlines) && not (eqb k htmlTag) && ltb o.tags 2) h)
+  firsts = or_left _ (eqb k html_tag && leb 2 o.tags) (or_left _ ((eqb o.group holds_tags_and_blocks || eqb o.group holds_tags_and_inlines) && not (eqb k html_tag) && ltb o.tags 2) h)
 
   pub has-place : eqb (place_of o.group k) 0 ≡ false
   has-place = or_left _ (ltb (place_of o.group k) o.stage) firsts
@@ -34,49 +34,49 @@ opened-group g = refl
 
 -- ---- a rule of all kinds under a group, by one computed test
 under-test : ℕ → (ℕ → Bool) → ℕ → Bool
-under-test g test k = not (isKind k && not (eqb (place_of g k) 0)) || test k
+under-test g test k = not (is_kind k && not (eqb (place_of g k) 0)) || test k
 
-under-rule : (g : ℕ) (test : ℕ → Bool) → all_below (under-test g test) 54 ≡ true → (o : Open) (k : ℕ) → o.group ≡ g → isKind k ≡ true → misplaced o k ≡ false → test k ≡ true
+under-rule : (g : ℕ) (test : ℕ → Bool) → all_below (under-test g test) 54 ≡ true → (o : Open) (k : ℕ) → o.group ≡ g → is_kind k ≡ true → misplaced o k ≡ false → test k ≡ true
 unfolding under-test
 under-rule g test e o k f c h = rw (c, ← f, has-place o k h) at (each (under-test g test) 54 e k (kind-below k c))
 
 module _ (o : Open) (k : ℕ) where
-  pub blocks-only : o.group ≡ holdsBlocks → isKind k ≡ true → misplaced o k ≡ false → isBlock k ≡ true
-  unfolding all_below under-test place_of holds place_in childGroup
-  blocks-only = under-rule holdsBlocks isBlock refl o k
+  pub blocks-only : o.group ≡ holds_blocks → is_kind k ≡ true → misplaced o k ≡ false → is_block k ≡ true
+  unfolding all_below under-test place_of holds place_in child_group
+  blocks-only = under-rule holds_blocks is_block refl o k
 
-  pub items-only : o.group ≡ holdsItems → isKind k ≡ true → misplaced o k ≡ false → eqb k item ≡ true
-  unfolding all_below under-test place_of holds place_in childGroup
-  items-only = under-rule holdsItems (λ x. eqb x item) refl o k
+  pub items-only : o.group ≡ holds_items → is_kind k ≡ true → misplaced o k ≡ false → eqb k item ≡ true
+  unfolding all_below under-test place_of holds place_in child_group
+  items-only = under-rule holds_items (λ x. eqb x item) refl o k
 
-  pub rows-only : o.group ≡ holdsRows → isKind k ≡ true → misplaced o k ≡ false → eqb k row ≡ true
-  unfolding all_below under-test place_of holds place_in childGroup
-  rows-only = under-rule holdsRows (λ x. eqb x row) refl o k
+  pub rows-only : o.group ≡ holds_rows → is_kind k ≡ true → misplaced o k ≡ false → eqb k row ≡ true
+  unfolding all_below under-test place_of holds place_in child_group
+  rows-only = under-rule holds_rows (λ x. eqb x row) refl o k
 
-  pub cells-only : o.group ≡ holdsCells → isKind k ≡ true → misplaced o k ≡ false → eqb k cell ≡ true
-  unfolding all_below under-test place_of holds place_in childGroup
-  cells-only = under-rule holdsCells (λ x. eqb x cell) refl o k
+  pub cells-only : o.group ≡ holds_cells → is_kind k ≡ true → misplaced o k ≡ false → eqb k cell ≡ true
+  unfolding all_below under-test place_of holds place_in child_group
+  cells-only = under-rule holds_cells (λ x. eqb x cell) refl o k
 
-  pub inlines-only : o.group ≡ holdsInlines → isKind k ≡ true → misplaced o k ≡ false → isInline k ≡ true
-  unfolding all_below under-test place_of holds place_in childGroup
-  inlines-only = under-rule holdsInlines isInline refl o k
+  pub inlines-only : o.group ≡ holds_inlines → is_kind k ≡ true → misplaced o k ≡ false → is_inline k ≡ true
+  unfolding all_below under-test place_of holds place_in child_group
+  inlines-only = under-rule holds_inlines is_inline refl o k
 
-  pub label-only : o.group ≡ holdsLabel → isKind k ≡ true → misplaced o k ≡ false → (eqb k attribute || isInline k) ≡ true
-  unfolding all_below under-test place_of holds place_in childGroup
-  label-only = under-rule holdsLabel (λ x. eqb x attribute || isInline x) refl o k
+  pub label-only : o.group ≡ holds_label → is_kind k ≡ true → misplaced o k ≡ false → (eqb k attribute || is_inline k) ≡ true
+  unfolding all_below under-test place_of holds place_in child_group
+  label-only = under-rule holds_label (λ x. eqb x attribute || is_inline x) refl o k
 
-  pub label-and-blocks-only : o.group ≡ holdsLabelAndBlocks → isKind k ≡ true → misplaced o k ≡ false → (eqb k attribute || isInline k || isBlock k) ≡ true
-  unfolding all_below under-test place_of holds place_in childGroup
-  label-and-blocks-only = under-rule holdsLabelAndBlocks (λ x. eqb x attribute || isInline x || isBlock x) refl o k
+  pub label-and-blocks-only : o.group ≡ holds_label_and_blocks → is_kind k ≡ true → misplaced o k ≡ false → (eqb k attribute || is_inline k || is_block k) ≡ true
+  unfolding all_below under-test place_of holds place_in child_group
+  label-and-blocks-only = under-rule holds_label_and_blocks (λ x. eqb x attribute || is_inline x || is_block x) refl o k
 
-  pub tags-and-blocks-only : o.group ≡ holdsTagsAndBlocks → isKind k ≡ true → misplaced o k ≡ false → (eqb k htmlTag || isBlock k) ≡ true
-  unfolding all_below under-test place_of holds place_in childGroup
-  tags-and-blocks-only = under-rule holdsTagsAndBlocks (λ x. eqb x htmlTag || isBlock x) refl o k
+  pub tags-and-blocks-only : o.group ≡ holds_tags_and_blocks → is_kind k ≡ true → misplaced o k ≡ false → (eqb k html_tag || is_block k) ≡ true
+  unfolding all_below under-test place_of holds place_in child_group
+  tags-and-blocks-only = under-rule holds_tags_and_blocks (λ x. eqb x html_tag || is_block x) refl o k
 
-  pub tags-and-inlines-only : o.group ≡ holdsTagsAndInlines → isKind k ≡ true → misplaced o k ≡ false → (eqb k htmlTag || isInline k) ≡ true
-  unfolding all_below under-test place_of holds place_in childGroup
-  tags-and-inlines-only = under-rule holdsTagsAndInlines (λ x. eqb x htmlTag || isInline x) refl o k
+  pub tags-and-inlines-only : o.group ≡ holds_tags_and_inlines → is_kind k ≡ true → misplaced o k ≡ false → (eqb k html_tag || is_inline k) ≡ true
+  unfolding all_below under-test place_of holds place_in child_group
+  tags-and-inlines-only = under-rule holds_tags_and_inlines (λ x. eqb x html_tag || is_inline x) refl o k
 
-  pub nothing-there : o.group ≡ holdsNothing → isKind k ≡ true → misplaced o k ≡ false → false ≡ true
-  unfolding all_below under-test place_of holds place_in childGroup
-  nothing-there = under-rule holdsNothing (λ x. false) refl o k
+  pub nothing-there : o.group ≡ holds_nothing → is_kind k ≡ true → misplaced o k ≡ false → false ≡ true
+  unfolding all_below under-test place_of holds place_in child_group
+  nothing-there = under-rule holds_nothing (λ x. false) refl o k

@@ -5,7 +5,7 @@ use mathlib.Core.List.{[], ◌∷◌}
 use Prim.Native.Nat.{ℕ, ◌<◌, ◌≤◌}
 use native.Mathlib.Omega.{arith}
 use lib.ListN.{get_or}
-use Rattle.leaves.specs.Refusal.Verdict.{Answer, refusalAnswer, judgedAnswer, isAccepted, or_else}
+use Rattle.leaves.specs.Refusal.Verdict.{Answer, refusal_answer, judged_answer, is_accepted, or_else}
 use Rattle.leaves.specs.declared.refusal.verdict.Refusal.{Refusal}
 use Rattle.leaves.specs.declared.refusal.verdict.Refusal.TheVariants.{OddSheet, LongSheet, LongText, UnknownKind, BadLevel, Misplaced, BadField, TextOutside, NotUtf8, TagsMissing}
 use Rattle.leaves.specs.declared.refusal.verdict.Judged.{Judged}
@@ -16,7 +16,7 @@ pub record Numbered (n : ℕ) : Type 0 where
   pub some : 0 < n
   pub most : n ≤ 10
 
-pub refusal-numbered : (r : Refusal) → Numbered (refusalAnswer r).number
+pub refusal-numbered : (r : Refusal) → Numbered (refusal_answer r).number
 refusal-numbered OddSheet = record { some = omega arith; most = omega arith }
 refusal-numbered LongSheet = record { some = omega arith; most = omega arith }
 refusal-numbered LongText = record { some = omega arith; most = omega arith }
@@ -28,11 +28,11 @@ refusal-numbered (TextOutside i) = record { some = omega arith; most = omega ari
 refusal-numbered (NotUtf8 i) = record { some = omega arith; most = omega arith }
 refusal-numbered (TagsMissing i) = record { some = omega arith; most = omega arith }
 
-pub none-refused : (j : Judged) → (judgedAnswer j).number ≡ 0 → j ≡ Accepted
+pub none-refused : (j : Judged) → (judged_answer j).number ≡ 0 → j ≡ Accepted
 none-refused Accepted e = refl
 none-refused (Refused r) e = absurd (omega (arith, (refusal-numbered r).some))
 
-pub is-accepted : (j : Judged) → isAccepted j ≡ true → j ≡ Accepted
+pub is-accepted : (j : Judged) → is_accepted j ≡ true → j ≡ Accepted
 is-accepted Accepted h = refl
 is-accepted (Refused r) h = absurd (false≢true h)
 
@@ -46,7 +46,7 @@ same-value e = ap (λ (a : Answer). a.value) e
 read : Answer → Judged
 read a = get_or (Accepted ∷ Refused OddSheet ∷ Refused LongSheet ∷ Refused LongText ∷ Refused (UnknownKind a.value) ∷ Refused (BadLevel a.value) ∷ Refused (Misplaced a.value) ∷ Refused (BadField a.value) ∷ Refused (TextOutside a.value) ∷ Refused (NotUtf8 a.value) ∷ Refused (TagsMissing a.value) ∷ []) a.number Accepted
 
-refusal-back : (r : Refusal) → read (refusalAnswer r) ≡ Refused r
+refusal-back : (r : Refusal) → read (refusal_answer r) ≡ Refused r
 unfolding read
 refusal-back OddSheet = refl
 refusal-back LongSheet = refl
@@ -59,34 +59,34 @@ refusal-back (TextOutside i) = refl
 refusal-back (NotUtf8 i) = refl
 refusal-back (TagsMissing i) = refl
 
-judged-back : (j : Judged) → read (judgedAnswer j) ≡ j
+judged-back : (j : Judged) → read (judged_answer j) ≡ j
 unfolding read
 judged-back Accepted = refl
 judged-back (Refused r) = refusal-back r
 
-pub judged-one : (j k : Judged) → judgedAnswer j ≡ judgedAnswer k → j ≡ k
+pub judged-one : (j k : Judged) → judged_answer j ≡ judged_answer k → j ≡ k
 judged-one j k e = sym (judged-back j) ∙ ap read e ∙ judged-back k
 
-pub refusal-one : (r s : Refusal) → refusalAnswer r ≡ refusalAnswer s → r ≡ s
+pub refusal-one : (r s : Refusal) → refusal_answer r ≡ refusal_answer s → r ≡ s
 refusal-one r s e = let same : Refused r ≡ Refused s = judged-one (Refused r) (Refused s) e in cc
 
 -- ---- one answer, or another after it
-pub or-first : (j k : Judged) → isAccepted j ≡ false → or_else j k ≡ j
+pub or-first : (j k : Judged) → is_accepted j ≡ false → or_else j k ≡ j
 unfolding or_else
 or-first j k e = rw e
 
-pub or-second : (j k : Judged) → isAccepted j ≡ true → or_else j k ≡ k
+pub or-second : (j k : Judged) → is_accepted j ≡ true → or_else j k ≡ k
 unfolding or_else
 or-second j k e = rw e
 
 -- both are accepted where the first that is given is
-pub both_first : (j k : Judged) → isAccepted (or_else j k) ≡ true → isAccepted j ≡ true
+pub both_first : (j k : Judged) → is_accepted (or_else j k) ≡ true → is_accepted j ≡ true
 unfolding or_else
-both_first j k h = go (isAccepted j) refl
+both_first j k h = go (is_accepted j) refl
   where
-    go : (t : Bool) → isAccepted j ≡ t → isAccepted j ≡ true
+    go : (t : Bool) → is_accepted j ≡ t → is_accepted j ≡ true
     go true e = e
     go false e = absurd (false≢true (sym e ∙ (rw e at h)))
 
-pub both-second : (j k : Judged) → isAccepted (or_else j k) ≡ true → isAccepted k ≡ true
+pub both-second : (j k : Judged) → is_accepted (or_else j k) ≡ true → is_accepted k ≡ true
 both-second j k h = rw (or-second j k (both_first j k h)) at h

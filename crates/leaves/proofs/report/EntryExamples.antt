@@ -3,7 +3,7 @@ use mathlib.Core.Path.{◌≡◌, refl}
 use mathlib.Core.Bool.{true, false}
 use mathlib.Core.List.{[], ◌∷◌, ◌++◌}
 use Rattle.leaves.specs.declared.sheet.records.Span.{Span}
-use Rattle.leaves.specs.Report.Entries.{Entry, words, flat, ◌⊕◌, listIf, start, after, put, fitting, entriesIn}
+use Rattle.leaves.specs.Report.Entries.{Entry, words, flat, ◌⊕◌, list_if, start, after, put, fitting, entries_in}
 use Rattle.leaves.specs.Text.Lists.{over}
 
 abbrev nowhere : Span
@@ -17,8 +17,8 @@ depth = record { rule = 10; span = nowhere; path = 0 ∷ [] }
 abbrev empty : Entry
 empty = record { rule = 2; span = record { flag = 1; start = 7; end = 9 }; path = 1 ∷ 0 ∷ [] }
 
-heading : (words depth ≡ 10 ∷ 0 ∷ 0 ∷ 0 ∷ 1 ∷ 0 ∷ []) × (listIf true 10 nowhere (0 ∷ []) ≡ depth ∷ []) × (listIf false 10 nowhere (0 ∷ []) ≡ [])
-unfolding words listIf
+heading : (words depth ≡ 10 ∷ 0 ∷ 0 ∷ 0 ∷ 1 ∷ 0 ∷ []) × (list_if true 10 nowhere (0 ∷ []) ≡ depth ∷ []) × (list_if false 10 nowhere (0 ∷ []) ≡ [])
+unfolding words list_if
 heading = (refl, refl, refl)
 
 two-words : flat ((depth ∷ []) ⊕ (empty ∷ [])) ≡ 10 ∷ 0 ∷ 0 ∷ 0 ∷ 1 ∷ 0 ∷ 2 ∷ 1 ∷ 7 ∷ 9 ∷ 2 ∷ 1 ∷ 0 ∷ []
@@ -41,6 +41,6 @@ unfolding after put over words fitting
 counted-all = (refl, refl, refl, refl)
 
 -- two entries read back, and what stands behind them is left alone
-read : entriesIn 2 (10 ∷ 0 ∷ 0 ∷ 0 ∷ 1 ∷ 0 ∷ 2 ∷ 1 ∷ 7 ∷ 9 ∷ 2 ∷ 1 ∷ 0 ∷ 77 ∷ 78 ∷ []) ≡ depth ∷ empty ∷ []
-unfolding entriesIn
+read : entries_in 2 (10 ∷ 0 ∷ 0 ∷ 0 ∷ 1 ∷ 0 ∷ 2 ∷ 1 ∷ 7 ∷ 9 ∷ 2 ∷ 1 ∷ 0 ∷ 77 ∷ 78 ∷ []) ≡ depth ∷ empty ∷ []
+unfolding entries_in
 read = refl

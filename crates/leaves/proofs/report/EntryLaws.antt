@@ -13,7 +13,7 @@ use borrow.Author.Rules.{rules}
 use borrow.Author.Tests.{leb-true, leb-false, le-leb, lt-leb, not-true, not-false}
 use borrow.Rule.Slice.PartMut.{put_mid}
 use Rattle.leaves.specs.declared.sheet.records.Span.{Span}
-use Rattle.leaves.specs.Report.Entries.{Entry, words, headWords, flat, ◌⊕◌, listIf, cap, capped, start, counted, after, put, Lists, fitting, entriesIn}
+use Rattle.leaves.specs.Report.Entries.{Entry, words, head_words, flat, ◌⊕◌, list_if, cap, capped, start, counted, after, put, Lists, fitting, entries_in}
 use Rattle.leaves.specs.Text.Lists.{if◌then◌else◌, over}
 use Rattle.leaves.specs.declared.report.entries.Tally.{Tally}
 use Rattle.leaves.proofs.text.OverLaws.{length_over, over-fits, over-nil, over-not, over-two}
@@ -36,13 +36,13 @@ pub length-join : (es fs : List Entry) → length (es ⊕ fs) ≡ length es + le
 unfolding ◌⊕◌
 length-join es fs = length-append es fs
 
-pub length-if : (b : Bool) (rule : ℕ) (span : Span) (path : List ℕ) → length (listIf b rule span path) ≡ (if b then 1 else 0)
-unfolding listIf
+pub length-if : (b : Bool) (rule : ℕ) (span : Span) (path : List ℕ) → length (list_if b rule span path) ≡ (if b then 1 else 0)
+unfolding list_if
 length-if true rule span path = refl
 length-if false rule span path = refl
 
-pub few-if : (b : Bool) (rule : ℕ) (span : Span) (path : List ℕ) → length (listIf b rule span path) ≤ 1
-unfolding listIf
+pub few-if : (b : Bool) (rule : ℕ) (span : Span) (path : List ℕ) → length (list_if b rule span path) ≤ 1
+unfolding list_if
 few-if true rule span path = omega arith
 few-if false rule span path = omega arith
 
@@ -72,7 +72,7 @@ pub ruleset listing = (lists-none, lists-then, rules)
 
 -- ---- an entry's words
 
-pub length-words : (e : Entry) → length (words e) ≡ headWords + length e.path
+pub length-words : (e : Entry) → length (words e) ≡ head_words + length e.path
 unfolding words
 length-words e = omega arith
 
@@ -97,11 +97,11 @@ module _ {d s e : List ℕ} {at i : ℕ} (copy : Copying d at s i e) (room : at 
 
 -- `write_entry`: the head, and the path behind it; or nothing
 module _ (w p : List ℕ) (rule : ℕ) (span : Span) where
-  pub write_done : {x y : List ℕ} → headWords + length p ≤ length w → x ≡ over w 0 (rule ∷ span.flag ∷ span.start ∷ span.end ∷ length p ∷ []) → y ≡ over x headWords p → y ≡ over w 0 (words (record { rule = rule; span = span; path = p }))
+  pub write_done : {x y : List ℕ} → head_words + length p ≤ length w → x ≡ over w 0 (rule ∷ span.flag ∷ span.start ∷ span.end ∷ length p ∷ []) → y ≡ over x head_words p → y ≡ over w 0 (words (record { rule = rule; span = span; path = p }))
   unfolding words
   write_done {x} h f g = let two = over-two w (rule ∷ span.flag ∷ span.start ∷ span.end ∷ length p ∷ []) p 0 (omega arith) in g ∙ rw f two
 
-  pub write-none : length w < headWords + length p → w ≡ over w 0 (words (record { rule = rule; span = span; path = p }))
+  pub write-none : length w < head_words + length p → w ≡ over w 0 (words (record { rule = rule; span = span; path = p }))
   write-none h = sym (over-not w 0 _ (omega (arith, length-words (record { rule = rule; span = span; path = p }))))
 
 -- `write_if`: the tail that was lent is back with the entry at its front; or there is no room for an entry, or no fault
@@ -142,8 +142,8 @@ module _ (s : Tally) (n : ℕ) (f : Bool) where
   count_no h = rw (not-true f h)
 
 -- `list_if`
-pub list-if : {s t : Tally} {x y : List ℕ} (f : Bool) (rule : ℕ) (span : Span) (p : List ℕ) → y ≡ cond f (over x s.words (words (record { rule = rule; span = span; path = p }))) x → t ≡ cond f (counted s (headWords + length p)) s → Lists s t x y (listIf f rule span p)
-unfolding listIf after put
+pub list-if : {s t : Tally} {x y : List ℕ} (f : Bool) (rule : ℕ) (span : Span) (p : List ℕ) → y ≡ cond f (over x s.words (words (record { rule = rule; span = span; path = p }))) x → t ≡ cond f (counted s (head_words + length p)) s → Lists s t x y (list_if f rule span p)
+unfolding list_if after put
 list-if {s} true rule span p w c =
     record { tally = rw (length-words (record { rule = rule; span = span; path = p })) c; written = w }
 list-if false rule span p w c = record { tally = c; written = w }
@@ -275,7 +275,7 @@ module _ (x : List ℕ) (es : List Entry) (room : length x * 4 < 2 ^ 63) where
 
 -- ---- reading back
 
-pub read_back : (es : List Entry) (rest : List ℕ) → entriesIn (length es) (flat es ++ rest) ≡ es
-unfolding entriesIn flat words
+pub read_back : (es : List Entry) (rest : List ℕ) → entries_in (length es) (flat es ++ rest) ≡ es
+unfolding entries_in flat words
 read_back [] rest = refl
 read_back (e ∷ es) rest = rw (append_assoc e.path (flat es) rest, take-append_seam, drop-append_seam, read_back es rest)

@@ -6,10 +6,10 @@ use Prim.Native.Nat.{ℕ, zero, suc, ◌+◌, ◌-◌, ◌≤◌, ◌<◌}
 use native.Mathlib.Omega.{arith}
 use native.Mathlib.Nat.{add-zero, sub-zero, sub-add-eq}
 use native.Mathlib.Numerals.{add-one}
-use Rattle.leaves.specs.Sheet.Records.{recordAt, recordsOf}
+use Rattle.leaves.specs.Sheet.Records.{record_at, records_of}
 use lib.Dec.{ltb}
 use borrow.Author.Tests.{ltb-true, ltb-false, lt-ltb, le-ltb}
-use Rattle.leaves.specs.Sheet.Forest.{Forest, none, tree, deeper, past, grow, forestAt, forestOf, under, size, recordsIn, recordsFrom}
+use Rattle.leaves.specs.Sheet.Forest.{Forest, none, tree, deeper, past, grow, forest_at, forest_of, under, size, records_in, records_from}
 use Rattle.leaves.specs.declared.sheet.records.Rec.{Rec}
 
 module _ (l : ℕ) (r : Rec) (kids rest : Forest) where
@@ -60,8 +60,8 @@ size-split l (tree r kids rest) = go (ltb l r.level) refl (size-split l rest)
     go false e ih = rw e (omega arith)
 
 -- one step of `past-at`, at a record r in front of a forest f
-module _ (w : List ℕ) (k i l : ℕ) (r : Rec) (f : Forest) (ih : past l f ≡ forestAt w (k - size (deeper l f)) (suc i + size (deeper l f))) where
-  step_in : l < r.level → past l (grow r f) ≡ forestAt w (suc k - size (deeper l (grow r f))) (i + size (deeper l (grow r f)))
+module _ (w : List ℕ) (k i l : ℕ) (r : Rec) (f : Forest) (ih : past l f ≡ forest_at w (k - size (deeper l f)) (suc i + size (deeper l f))) where
+  step_in : l < r.level → past l (grow r f) ≡ forest_at w (suc k - size (deeper l (grow r f))) (i + size (deeper l (grow r f)))
   unfolding grow size
   step_in h =
       let n : size (deeper l f) ≡ size (deeper r.level f) + size (deeper l (past r.level f)) = size-deeper l r.level (omega arith) f in
@@ -70,30 +70,30 @@ module _ (w : List ℕ) (k i l : ℕ) (r : Rec) (f : Forest) (ih : past l f ≡ 
       rw (past-in l r (deeper r.level f) (past r.level f) h, deeper-in l r (deeper r.level f) (past r.level f) h, past-past l r.level (omega arith) f)
       (rw (p, q) ih)
 
-  step-out : r.level ≤ l → grow r f ≡ forestAt w (suc k) i → past l (grow r f) ≡ forestAt w (suc k - size (deeper l (grow r f))) (i + size (deeper l (grow r f)))
+  step-out : r.level ≤ l → grow r f ≡ forest_at w (suc k) i → past l (grow r f) ≡ forest_at w (suc k - size (deeper l (grow r f))) (i + size (deeper l (grow r f)))
   unfolding grow size
   step-out h e =
       rw (deeper-out l r (deeper r.level f) (past r.level f) h, add-zero, sub-zero) (past-out l r (deeper r.level f) (past r.level f) h ∙ e)
 
 -- moving past the trees deeper than l is moving on by as many records as they hold
-pub past-at : (w : List ℕ) (k i l : ℕ) → past l (forestAt w k i) ≡ forestAt w (k - size (deeper l (forestAt w k i))) (i + size (deeper l (forestAt w k i)))
-unfolding forestAt past deeper size
+pub past-at : (w : List ℕ) (k i l : ℕ) → past l (forest_at w k i) ≡ forest_at w (k - size (deeper l (forest_at w k i))) (i + size (deeper l (forest_at w k i)))
+unfolding forest_at past deeper size
 past-at w zero i l = refl
-past-at w (suc k) i l = go (ltb l (recordAt w i).level) refl (past-at w k (suc i) l)
+past-at w (suc k) i l = go (ltb l (record_at w i).level) refl (past-at w k (suc i) l)
   where
-    go : (b : Bool) → ltb l (recordAt w i).level ≡ b → past l (forestAt w k (suc i)) ≡ forestAt w (k - size (deeper l (forestAt w k (suc i)))) (suc i + size (deeper l (forestAt w k (suc i)))) → past l (forestAt w (suc k) i) ≡ forestAt w (suc k - size (deeper l (forestAt w (suc k) i))) (i + size (deeper l (forestAt w (suc k) i)))
-    go true e ih = step_in w k i l (recordAt w i) (forestAt w k (suc i)) ih (ltb-true _ _ e)
-    go false e ih = step-out w k i l (recordAt w i) (forestAt w k (suc i)) ih (ltb-false _ _ e) refl
+    go : (b : Bool) → ltb l (record_at w i).level ≡ b → past l (forest_at w k (suc i)) ≡ forest_at w (k - size (deeper l (forest_at w k (suc i)))) (suc i + size (deeper l (forest_at w k (suc i)))) → past l (forest_at w (suc k) i) ≡ forest_at w (suc k - size (deeper l (forest_at w (suc k) i))) (i + size (deeper l (forest_at w (suc k) i)))
+    go true e ih = step_in w k i l (record_at w i) (forest_at w k (suc i)) ih (ltb-true _ _ e)
+    go false e ih = step-out w k i l (record_at w i) (forest_at w k (suc i)) ih (ltb-false _ _ e) refl
 
 -- how many records a forest holds
-pub size-at : (w : List ℕ) (k i : ℕ) → size (forestAt w k i) ≡ k
-unfolding forestAt size grow
+pub size-at : (w : List ℕ) (k i : ℕ) → size (forest_at w k i) ≡ k
+unfolding forest_at size grow
 size-at w zero i = refl
-size-at w (suc k) i = rw (← size-split (recordAt w i).level (forestAt w k (suc i))) (ap suc (size-at w k (suc i)))
+size-at w (suc k) i = rw (← size-split (record_at w i).level (forest_at w k (suc i))) (ap suc (size-at w k (suc i)))
 
-pub size_of : (w : List ℕ) → size (forestOf w) ≡ recordsOf w
-unfolding forestOf
-size_of w = size-at w (recordsOf w) 0
+pub size_of : (w : List ℕ) → size (forest_of w) ≡ records_of w
+unfolding forest_of
+size_of w = size-at w (records_of w) 0
 
 -- a forest whose trees are all deeper than l is all of its trees deeper than l
 abbrev Over : ℕ → Forest → Type 0
@@ -114,42 +114,42 @@ over-past l m (tree r kids rest) o = go (ltb m r.level) refl (over-past l m rest
     go true e ih = rw e ih
     go false e ih = rw e o
 
-over-at : (w : List ℕ) (l k i : ℕ) → ((m : ℕ) → m < k → l < (recordAt w (i + m)).level) → Over l (forestAt w k i)
-unfolding forestAt grow
+over-at : (w : List ℕ) (l k i : ℕ) → ((m : ℕ) → m < k → l < (record_at w (i + m)).level) → Over l (forest_at w k i)
+unfolding forest_at grow
 over-at w l zero i h = tt
 over-at w l (suc k) i h =
-    (rw add-zero at (h 0 (omega arith)), over-past l (recordAt w i).level (forestAt w k (suc i)) (over-at w l k (suc i) (λ m b. let e : suc i + m ≡ i + suc m = omega arith in rw e (h (suc m) (omega arith)))))
+    (rw add-zero at (h 0 (omega arith)), over-past l (record_at w i).level (forest_at w k (suc i)) (over-at w l k (suc i) (λ m b. let e : suc i + m ≡ i + suc m = omega arith in rw e (h (suc m) (omega arith)))))
 
-pub all_under : (w : List ℕ) (n l : ℕ) → ((m : ℕ) → m < n → l < (recordAt w (0 + m)).level) → under w n 0 l ≡ forestAt w n 0
-all_under w n l h = rw sub-zero (deeper-all l (forestAt w n 0) (over-at w l n 0 h))
+pub all_under : (w : List ℕ) (n l : ℕ) → ((m : ℕ) → m < n → l < (record_at w (0 + m)).level) → under w n 0 l ≡ forest_at w n 0
+all_under w n l h = rw sub-zero (deeper-all l (forest_at w n 0) (over-at w l n 0 h))
 
 -- the walk by index: at record i of n
 module _ (w : List ℕ) (n i : ℕ) where
   pub under-end : (l : ℕ) → n ≤ i → under w n i l ≡ none
-  unfolding deeper forestAt
+  unfolding deeper forest_at
   under-end l h = let e : n - i ≡ 0 = omega arith in rw e refl
 
   pub under-fits : (l : ℕ) → i ≤ n → i + size (under w n i l) ≤ n
-  under-fits l h = omega (arith, size-split l (forestAt w (n - i) i), size-at w (n - i) i)
+  under-fits l h = omega (arith, size-split l (forest_at w (n - i) i), size-at w (n - i) i)
 
   module _ (l : ℕ) (h : i < n) where
-    forest_step : forestAt w (n - i) i ≡ grow (recordAt w i) (forestAt w (n - (i + 1)) (i + 1))
-    unfolding forestAt
+    forest_step : forest_at w (n - i) i ≡ grow (record_at w i) (forest_at w (n - (i + 1)) (i + 1))
+    unfolding forest_at
     forest_step = let e : n - i ≡ suc (n - (i + 1)) = omega arith in rw (e, add-one i)
 
-    pub under-out : (recordAt w i).level ≤ l → under w n i l ≡ none
+    pub under-out : (record_at w i).level ≤ l → under w n i l ≡ none
     unfolding grow
-    under-out d = rw forest_step (deeper-out l (recordAt w i) _ _ d)
+    under-out d = rw forest_step (deeper-out l (record_at w i) _ _ d)
 
-    pub under-in : l < (recordAt w i).level → under w n i l ≡ tree (recordAt w i) (under w n (i + 1) (recordAt w i).level) (under w n (i + 1 + size (under w n (i + 1) (recordAt w i).level)) l)
+    pub under-in : l < (record_at w i).level → under w n i l ≡ tree (record_at w i) (under w n (i + 1) (record_at w i).level) (under w n (i + 1 + size (under w n (i + 1) (record_at w i).level)) l)
     unfolding grow
-    under-in d = rw (forest_step, deeper-in l (recordAt w i) _ _ d, past-at, sub-add-eq n (i + 1))
+    under-in d = rw (forest_step, deeper-in l (record_at w i) _ _ d, past-at, sub-add-eq n (i + 1))
 
-    pub size_step : l < (recordAt w i).level → size (under w n i l) ≡ suc (size (under w n (i + 1) l))
+    pub size_step : l < (record_at w i).level → size (under w n i l) ≡ suc (size (under w n (i + 1) l))
     unfolding grow size
-    size_step d = rw (forest_step, deeper-in l (recordAt w i) _ _ d) (ap suc (sym (size-deeper l (recordAt w i).level (omega arith) _)))
+    size_step d = rw (forest_step, deeper-in l (record_at w i) _ _ d) (ap suc (sym (size-deeper l (record_at w i).level (omega arith) _)))
 
-    pub size-out : (recordAt w i).level ≤ l → size (under w n i l) ≡ 0
+    pub size-out : (record_at w i).level ≤ l → size (under w n i l) ≡ 0
     unfolding size
     size-out d = ap size (under-out d)
 
@@ -158,16 +158,16 @@ module _ (w : List ℕ) (n i : ℕ) where
   size-end l h = ap size (under-end l h)
 
 -- ---- the flat list again: a tree holds its record, then the records under it, then those of the siblings after it
-flat-split : (l : ℕ) (f : Forest) → recordsIn (deeper l f) ++ recordsIn (past l f) ≡ recordsIn f
-unfolding past deeper recordsIn
+flat-split : (l : ℕ) (f : Forest) → records_in (deeper l f) ++ records_in (past l f) ≡ records_in f
+unfolding past deeper records_in
 flat-split l none = refl
 flat-split l (tree r kids rest) = go (ltb l r.level) refl (flat-split l rest)
   where
-    go : (b : Bool) → ltb l r.level ≡ b → recordsIn (deeper l rest) ++ recordsIn (past l rest) ≡ recordsIn rest → recordsIn (deeper l (tree r kids rest)) ++ recordsIn (past l (tree r kids rest)) ≡ recordsIn (tree r kids rest)
-    go true e ih = rw e (ap (◌∷◌ r) (append_assoc (recordsIn kids) (recordsIn (deeper l rest)) (recordsIn (past l rest)) ∙ ap (◌++◌ (recordsIn kids)) ih))
+    go : (b : Bool) → ltb l r.level ≡ b → records_in (deeper l rest) ++ records_in (past l rest) ≡ records_in rest → records_in (deeper l (tree r kids rest)) ++ records_in (past l (tree r kids rest)) ≡ records_in (tree r kids rest)
+    go true e ih = rw e (ap (◌∷◌ r) (append_assoc (records_in kids) (records_in (deeper l rest)) (records_in (past l rest)) ∙ ap (◌++◌ (records_in kids)) ih))
     go false e ih = rw e
 
-pub flat-forest : (w : List ℕ) (k i : ℕ) → recordsIn (forestAt w k i) ≡ recordsFrom w k i
-unfolding forestAt grow recordsIn recordsFrom
+pub flat-forest : (w : List ℕ) (k i : ℕ) → records_in (forest_at w k i) ≡ records_from w k i
+unfolding forest_at grow records_in records_from
 flat-forest w zero i = refl
-flat-forest w (suc k) i = ap (◌∷◌ (recordAt w i)) (flat-split (recordAt w i).level (forestAt w k (suc i)) ∙ flat-forest w k (suc i))
+flat-forest w (suc k) i = ap (◌∷◌ (record_at w i)) (flat-split (record_at w i).level (forest_at w k (suc i)) ∙ flat-forest w k (suc i))

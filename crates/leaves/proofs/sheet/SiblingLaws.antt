@@ -8,7 +8,7 @@ use native.Mathlib.Numerals.{add-one}
 use native.Mathlib.Omega.{arith}
 use lib.Dec.{ltb}
 use borrow.Author.Tests.{eq-eqb, ne_eqb, ltb-true, ltb-false}
-use Rattle.leaves.specs.Sheet.Records.{recordAt}
+use Rattle.leaves.specs.Sheet.Records.{record_at}
 use Rattle.leaves.specs.Sheet.Siblings.{gather}
 use Rattle.leaves.specs.Sheet.Forest.{under, size}
 use Rattle.leaves.specs.declared.sheet.records.Rec.{Rec}
@@ -17,10 +17,10 @@ use Rattle.leaves.proofs.sheet.ForestLaws.{size_step, size-out, size-end}
 -- ---- records deeper than a level are passed over
 module _ (w : List ℕ) (n m : ℕ) where
   -- a forest that holds a record begins with one that is deeper
-  pub begins : (j s : ℕ) → size (under w n j m) ≡ suc s → (j < n) × (m < (recordAt w j).level)
-  begins j s e = go (ltb j n) (ltb m (recordAt w j).level) refl refl
+  pub begins : (j s : ℕ) → size (under w n j m) ≡ suc s → (j < n) × (m < (record_at w j).level)
+  begins j s e = go (ltb j n) (ltb m (record_at w j).level) refl refl
     where
-      go : (t u : Bool) → ltb j n ≡ t → ltb m (recordAt w j).level ≡ u → (j < n) × (m < (recordAt w j).level)
+      go : (t u : Bool) → ltb j n ≡ t → ltb m (record_at w j).level ≡ u → (j < n) × (m < (record_at w j).level)
       go false u a b = absurd (omega (arith, size-end w n j m (ltb-false _ _ a)))
       go true false a b = absurd (omega (arith, size-out w n j m (ltb-true _ _ a) (ltb-false _ _ b)))
       go true true a b = (ltb-true _ _ a, ltb-true _ _ b)
@@ -29,10 +29,10 @@ module _ (w : List ℕ) (n m : ℕ) where
   size_less j s e = let (h, d) = begins j s e in omega (arith, size_step w n j m h d)
 
   -- the record after them is not deeper
-  pub level-past : (s j : ℕ) → size (under w n j m) ≡ s → j + s < n → (recordAt w (j + s)).level ≤ m
-  level-past zero j e h = rw add-zero (go (ltb m (recordAt w j).level) refl)
+  pub level-past : (s j : ℕ) → size (under w n j m) ≡ s → j + s < n → (record_at w (j + s)).level ≤ m
+  level-past zero j e h = rw add-zero (go (ltb m (record_at w j).level) refl)
     where
-      go : (t : Bool) → ltb m (recordAt w j).level ≡ t → (recordAt w j).level ≤ m
+      go : (t : Bool) → ltb m (record_at w j).level ≡ t → (record_at w j).level ≤ m
       go false a = ltb-false _ _ a
       go true a = absurd (omega (arith, size_step w n j m (omega arith) (ltb-true _ _ a)))
   level-past (suc s) j e h =
@@ -45,19 +45,19 @@ module _ {A : Type 0} (sheet : A) (first : Rec → A) (next : A → Rec → A) (
   at l i = gather sheet first next w l i
 
   -- under record i nothing stands before its first child
-  pub gather-kid : (i l : ℕ) → (recordAt w i).level ≡ l → at (l + 1) (i + 1) ≡ first (recordAt w i)
+  pub gather-kid : (i l : ℕ) → (record_at w i).level ≡ l → at (l + 1) (i + 1) ≡ first (record_at w i)
   unfolding gather
-  gather-kid i l e = rw (add-one i, eq-eqb ((recordAt w i).level + 1) (l + 1) (ap (λ n. n + 1) e))
+  gather-kid i l e = rw (add-one i, eq-eqb ((record_at w i).level + 1) (l + 1) (ap (λ n. n + 1) e))
 
   -- record i is one child more
-  pub gather-next : (i l : ℕ) → (recordAt w i).level ≡ l → at l (i + 1) ≡ next (at l i) (recordAt w i)
+  pub gather-next : (i l : ℕ) → (record_at w i).level ≡ l → at l (i + 1) ≡ next (at l i) (record_at w i)
   unfolding gather
-  gather-next i l e = rw (add-one i, ne_eqb ((recordAt w i).level + 1) l (λ f. absurd (omega arith)), eq-eqb (recordAt w i).level l e)
+  gather-next i l e = rw (add-one i, ne_eqb ((record_at w i).level + 1) l (λ f. absurd (omega arith)), eq-eqb (record_at w i).level l e)
 
   -- a record that is deeper changes nothing
-  pub gather-deeper : (i l : ℕ) → l < (recordAt w i).level → at l (i + 1) ≡ at l i
+  pub gather-deeper : (i l : ℕ) → l < (record_at w i).level → at l (i + 1) ≡ at l i
   unfolding gather
-  gather-deeper i l h = rw (add-one i, ne_eqb ((recordAt w i).level + 1) l (λ f. absurd (omega arith)), ne_eqb (recordAt w i).level l (λ f. absurd (omega arith)))
+  gather-deeper i l h = rw (add-one i, ne_eqb ((record_at w i).level + 1) l (λ f. absurd (omega arith)), ne_eqb (record_at w i).level l (λ f. absurd (omega arith)))
 
   -- and neither do all the records of the trees deeper than it
   pub gather-past : (n m s j : ℕ) → size (under w n j m) ≡ s → at m (j + s) ≡ at m j

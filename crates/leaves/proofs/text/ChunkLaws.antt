@@ -8,7 +8,7 @@ use native.Mathlib.Nat.{zero-add, suc-add, sub_self}
 use lib.ListN.{length, drop, get_or, length-drop}
 use lib.Seq.{drop-drop}
 use Rattle.leaves.proofs.text.ScanLaws.{At, next}
-use Rattle.leaves.specs.Text.Chunk.{passes, chunk, Past, isNeither}
+use Rattle.leaves.specs.Text.Chunk.{passes, chunk, Past, is_neither}
 use lib.Dec.{eqb}
 
 and-four : (t u v w : Bool) → (t && u && v && w) ≡ (t && (u && (v && (w && true))))
@@ -99,7 +99,7 @@ module _ (test : ℕ → Bool) where
       record { within = p.within; same = inv.same ∙ passed rest e (j - i) (drop i s) p.all ∙ ap rest (drop-drop (j - i) i s) ∙ ap (λ k. rest (drop k s)) f }
 
 -- a byte that is none of two equal ones
-pub neither-same : (x b : ℕ) → isNeither x x b ≡ true → eqb b x ≡ false
+pub neither-same : (x b : ℕ) → is_neither x x b ≡ true → eqb b x ≡ false
 neither-same x b = go (eqb b x)
   where
     go : (t : Bool) → (not t && not t) ≡ true → t ≡ false

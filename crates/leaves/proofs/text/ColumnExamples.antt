@@ -5,8 +5,8 @@ use mathlib.Core.List.{List, [], ◌∷◌, ◌++◌}
 use Prim.Native.Nat.{ℕ}
 use lib.ListN.{length, replicate}
 use Rattle.leaves.specs.Text.Bytes.{space, lf}
-use Rattle.leaves.specs.Text.Field.{front, field, pastSpaces, readDigits, readNumber, readField}
-use Rattle.leaves.specs.Text.Columns.{fields, line, areFields, is_line, numbers}
+use Rattle.leaves.specs.Text.Field.{front, field, past_spaces, read_digits, read_number, read_field}
+use Rattle.leaves.specs.Text.Columns.{fields, line, are_fields, is_line, numbers}
 use Rattle.leaves.specs.declared.text.field.Column.TheVariants.{Number, Malformed}
 
 -- spaces, and what stands behind them
@@ -19,21 +19,21 @@ unfolding field front
 written = (refl, refl, refl)
 
 -- .. and as they are read; one more than the largest is malformed, and so is a number of 11 digits
-largest : (readField (field 0) ≡ Number 0) × (readField (field 10) ≡ Number 10) × (readField (field 4294967295) ≡ Number 4294967295) × (readField (field 4294967296) ≡ Malformed) × (readField (field 10000000000) ≡ Malformed)
-unfolding field front readField pastSpaces readNumber readDigits
+largest : (read_field (field 0) ≡ Number 0) × (read_field (field 10) ≡ Number 10) × (read_field (field 4294967295) ≡ Number 4294967295) × (read_field (field 4294967296) ≡ Malformed) × (read_field (field 10000000000) ≡ Malformed)
+unfolding field front read_field past_spaces read_number read_digits
 largest = (refl, refl, refl, refl, refl)
 
 -- `07`, `00`, spaces alone, `7` and a space behind it, `1 7`, `-7`, `7` behind a tab, and ten places: all malformed
-malformed : (readField (behind 9 (48 ∷ 55 ∷ [])) ≡ Malformed) × (readField (behind 9 (48 ∷ 48 ∷ [])) ≡ Malformed) × (readField (behind 11 []) ≡ Malformed) × (readField (behind 9 (55 ∷ 32 ∷ [])) ≡ Malformed) × (readField (behind 8 (49 ∷ 32 ∷ 55 ∷ [])) ≡ Malformed) × (readField (behind 9 (45 ∷ 55 ∷ [])) ≡ Malformed) × (readField (behind 9 (9 ∷ 55 ∷ [])) ≡ Malformed) × (readField (behind 9 (55 ∷ [])) ≡ Malformed)
-unfolding readField pastSpaces readNumber readDigits
+malformed : (read_field (behind 9 (48 ∷ 55 ∷ [])) ≡ Malformed) × (read_field (behind 9 (48 ∷ 48 ∷ [])) ≡ Malformed) × (read_field (behind 11 []) ≡ Malformed) × (read_field (behind 9 (55 ∷ 32 ∷ [])) ≡ Malformed) × (read_field (behind 8 (49 ∷ 32 ∷ 55 ∷ [])) ≡ Malformed) × (read_field (behind 9 (45 ∷ 55 ∷ [])) ≡ Malformed) × (read_field (behind 9 (9 ∷ 55 ∷ [])) ≡ Malformed) × (read_field (behind 9 (55 ∷ [])) ≡ Malformed)
+unfolding read_field past_spaces read_number read_digits
 malformed = (refl, refl, refl, refl, refl, refl, refl, refl)
 
 -- the line of 1 and 0, which has 23 bytes, is a line of two fields; it is none of one or of three, nor without its LF, nor with another byte in its place
 two_fields : (length (line (1 ∷ 0 ∷ [])) ≡ 23) × (is_line 2 (line (1 ∷ 0 ∷ [])) ≡ true) × (numbers 2 (line (1 ∷ 0 ∷ [])) ≡ 1 ∷ 0 ∷ []) × (is_line 1 (line (1 ∷ 0 ∷ [])) ≡ false) × (is_line 3 (line (1 ∷ 0 ∷ [])) ≡ false) × (is_line 2 (fields (1 ∷ 0 ∷ [])) ≡ false) × (is_line 2 (fields (1 ∷ 0 ∷ []) ++ 13 ∷ lf ∷ []) ≡ false)
-unfolding line fields field front is_line areFields numbers readField pastSpaces readNumber readDigits
+unfolding line fields field front is_line are_fields numbers read_field past_spaces read_number read_digits
 two_fields = (refl, refl, refl, refl, refl, refl, refl)
 
 -- what stands behind the line is not read
 behind-line : is_line 2 (line (1 ∷ 0 ∷ []) ++ 7 ∷ []) ≡ true
-unfolding line fields field front is_line areFields readField pastSpaces readNumber readDigits
+unfolding line fields field front is_line are_fields read_field past_spaces read_number read_digits
 behind-line = refl

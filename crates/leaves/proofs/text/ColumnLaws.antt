@@ -15,8 +15,8 @@ use Rattle.leaves.specs.Text.Bytes.{lf}
 use Rattle.leaves.specs.Text.Part.{part_of}
 use Rattle.leaves.specs.Text.Lists.{over}
 use Rattle.leaves.proofs.text.OverLaws.{over-fits, over-nil, length_over, over-two}
-use Rattle.leaves.specs.Text.Field.{places, field, readField, number_of, is_number}
-use Rattle.leaves.specs.Text.Columns.{fields, line, lineBytes, areFields, is_line, numbers, Writes}
+use Rattle.leaves.specs.Text.Field.{places, field, read_field, number_of, is_number}
+use Rattle.leaves.specs.Text.Columns.{fields, line, line_bytes, are_fields, is_line, numbers, Writes}
 use Rattle.leaves.specs.declared.text.field.Column.{Column}
 use Rattle.leaves.proofs.text.FieldLaws.{field-long}
 
@@ -29,11 +29,11 @@ pub ruleset endings = (ends-past, rules)
 -- ---- `read_line`
 
 -- a part that is not inside is as malformed as one that is cut
-field-part : (s : List ℕ) (at : ℕ) → readField (part_of s at places) ≡ readField (take places (drop at s))
-unfolding part_of readField
+field-part : (s : List ℕ) (at : ℕ) → read_field (part_of s at places) ≡ read_field (take places (drop at s))
+unfolding part_of read_field
 field-part s at = go (leb (at + places) (length s)) refl
   where
-    go : (b : Bool) → leb (at + places) (length s) ≡ b → readField (part_of s at places) ≡ readField (take places (drop at s))
+    go : (b : Bool) → leb (at + places) (length s) ≡ b → read_field (part_of s at places) ≡ read_field (take places (drop at s))
     go true e = rw e
     go false e =
         let short : length (take places (drop at s)) < places = simp (length-take, length-drop) (omega (arith, leb-false (at + places) (length s) e)) in
@@ -44,18 +44,18 @@ pub record Reading (s old words : List ℕ) (good : Bool) (at k : ℕ) : Type 0 
   pub inside : k ≤ length old
   pub long : length words ≡ length old
   pub place : at ≡ k * places
-  pub fine : areFields (length old) s ≡ good && areFields (length old - k) (drop at s)
+  pub fine : are_fields (length old) s ≡ good && are_fields (length old - k) (drop at s)
   pub is : numbers (length old) s ≡ take k words ++ numbers (length old - k) (drop at s)
 
 pub line-start : (s old : List ℕ) → Reading s old old true 0 0
 line-start s old = record { inside = omega arith; long = refl; place = refl; fine = rw sub-zero; is = rw sub-zero }
 
 module _ {s old words t : List ℕ} {good g : Bool} {at k v : ℕ} {c : Column} (r : Reading s old words good at k) (h : k < length words) where
-  pub line-next : t ≡ part_of s at places → c ≡ readField t → v ≡ number_of c → g ≡ is_number c → Reading s old (set words k v) (good && g) (at + places) (k + 1)
-  unfolding areFields numbers
+  pub line-next : t ≡ part_of s at places → c ≡ read_field t → v ≡ number_of c → g ≡ is_number c → Reading s old (set words k v) (good && g) (at + places) (k + 1)
+  unfolding are_fields numbers
   line-next p q a b =
       let left : length old - k ≡ suc (length old - (k + 1)) = omega (arith, r.long) in
-      let read : c ≡ readField (take places (drop at s)) = q ∙ ap readField p ∙ field-part s at in
+      let read : c ≡ read_field (take places (drop at s)) = q ∙ ap read_field p ∙ field-part s at in
       record {
         inside = omega (arith, r.long);
         long = length-set words k v ∙ r.long;
@@ -69,7 +69,7 @@ module _ {s old words : List ℕ} {good : Bool} {at k : ℕ} (r : Reading s old 
   all_read = omega (arith, r.inside, r.long)
 
   pub line-good : {b : Bool} → b ≡ eqb (get_or s at 0) lf → good && b ≡ is_line (length old) s
-  unfolding is_line areFields
+  unfolding is_line are_fields
   line-good e =
       let none : length old - k ≡ 0 = omega (arith, all_read) in
       let place : length old * places ≡ at = omega (arith, all_read, r.place) in
@@ -99,7 +99,7 @@ unfolding fields
 fields-long [] = refl
 fields-long (n ∷ ns) = length-append (field n) (fields ns) ∙ omega (arith, field-long n, fields-long ns)
 
-pub line-long : (ns : List ℕ) → length (line ns) ≡ lineBytes (length ns)
+pub line-long : (ns : List ℕ) → length (line ns) ≡ line_bytes (length ns)
 unfolding line
 line-long ns = length-append (fields ns) (lf ∷ []) ∙ omega (arith, fields-long ns)
 
@@ -110,11 +110,11 @@ pub record Writing (old ns out : List ℕ) (at end i : ℕ) : Type 0 where
   pub place : end ≡ at + i * places
   pub is : out ≡ over old at (fields (take i ns))
 
-pub write-start : (old ns : List ℕ) (at : ℕ) → at + lineBytes (length ns) ≤ length old → Writing old ns old at at 0
+pub write-start : (old ns : List ℕ) (at : ℕ) → at + line_bytes (length ns) ≤ length old → Writing old ns old at at 0
 unfolding fields
 write-start old ns at h = record { inside = omega arith; long = refl; place = omega arith; is = sym (over-nil old at) }
 
-module _ {old ns out : List ℕ} {at end i : ℕ} (w : Writing old ns out at end i) (room : at + lineBytes (length ns) ≤ length old) where
+module _ {old ns out : List ℕ} {at end i : ℕ} (w : Writing old ns out at end i) (room : at + line_bytes (length ns) ≤ length old) where
   module _ (h : i < length ns) where
     -- the next field, and behind it the rest, have room
     pub write-room : end + places ≤ length out
@@ -167,8 +167,8 @@ module _ (m : ℕ) (s : List ℕ) (h : places ≤ m) where
   rest-take : drop places (take m s) ≡ take (m - places) (drop places s)
   rest-take = drop-take places m s h
 
-are-take : (k m : ℕ) (s : List ℕ) → k * places ≤ m → areFields k (take m s) ≡ areFields k s
-unfolding areFields
+are-take : (k m : ℕ) (s : List ℕ) → k * places ≤ m → are_fields k (take m s) ≡ are_fields k s
+unfolding are_fields
 are-take zero m s h = refl
 are-take (suc k) m s h = rw (first-take m s (omega arith), rest-take m s (omega arith), are-take k (m - places) (drop places s) (omega arith))
 
@@ -177,6 +177,6 @@ unfolding numbers
 numbers-take zero m s h = refl
 numbers-take (suc k) m s h = rw (first-take m s (omega arith), rest-take m s (omega arith), numbers-take k (m - places) (drop places s) (omega arith))
 
-pub line-take : (k m : ℕ) (s : List ℕ) → lineBytes k ≤ m → is_line k (take m s) ≡ is_line k s
+pub line-take : (k m : ℕ) (s : List ℕ) → line_bytes k ≤ m → is_line k (take m s) ≡ is_line k s
 unfolding is_line
 line-take k m s h = rw (are-take k m s (omega arith), get_or-take m s (k * places) 0 (omega arith))

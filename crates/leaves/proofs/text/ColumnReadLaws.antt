@@ -12,8 +12,8 @@ use borrow.Author.Tests.{leb-true, leb-false, eqb-true}
 use Rattle.leaves.specs.Text.Bytes.{lf}
 use Rattle.leaves.specs.Text.Lists.{all}
 use Rattle.leaves.proofs.text.TestLaws.{and_left, and_right}
-use Rattle.leaves.specs.Text.Field.{places, mostNumber, field, readField, number_of, is_number}
-use Rattle.leaves.specs.Text.Columns.{fields, line, lineBytes, areFields, is_line, numbers}
+use Rattle.leaves.specs.Text.Field.{places, most_number, field, read_field, number_of, is_number}
+use Rattle.leaves.specs.Text.Columns.{fields, line, line_bytes, are_fields, is_line, numbers}
 use Rattle.leaves.specs.declared.text.field.Column.{Column}
 use Rattle.leaves.specs.declared.text.field.Column.TheVariants.{Number, Malformed}
 use Rattle.leaves.proofs.text.FieldLaws.{field-long}
@@ -22,16 +22,16 @@ use Rattle.leaves.proofs.text.ColumnLaws.{fields-long}
 
 -- no number is over the largest
 abbrev pub Small : List ℕ → Type 0
-Small ns = all (λ (n : ℕ). leb n mostNumber) ns ≡ true
+Small ns = all (λ (n : ℕ). leb n most_number) ns ≡ true
 
 -- ---- what is written is read
 
-fields_read : (ns rest : List ℕ) → Small ns → (areFields (length ns) (fields ns ++ rest) ≡ true) × (numbers (length ns) (fields ns ++ rest) ≡ ns)
-unfolding fields areFields numbers all
+fields_read : (ns rest : List ℕ) → Small ns → (are_fields (length ns) (fields ns ++ rest) ≡ true) × (numbers (length ns) (fields ns ++ rest) ≡ ns)
+unfolding fields are_fields numbers all
 fields_read [] rest h = (refl, refl)
 fields_read (n ∷ ns) rest h =
-    let small : n ≤ mostNumber = leb-true _ _ (and_left (leb n mostNumber) (all (λ (m : ℕ). leb m mostNumber) ns) h) in
-    let later = fields_read ns rest (and_right (leb n mostNumber) (all (λ (m : ℕ). leb m mostNumber) ns) h) in
+    let small : n ≤ most_number = leb-true _ _ (and_left (leb n most_number) (all (λ (m : ℕ). leb m most_number) ns) h) in
+    let later = fields_read ns rest (and_right (leb n most_number) (all (λ (m : ℕ). leb m most_number) ns) h) in
     let t : take places (field n ++ (fields ns ++ rest)) ≡ field n = take_at (field n) (fields ns ++ rest) places (field-long n) in
     let d : drop places (field n ++ (fields ns ++ rest)) ≡ fields ns ++ rest = drop_at (field n) (fields ns ++ rest) places (field-long n) in
     (rw (append_assoc (field n) (fields ns) rest, t, d, written_read n small) later.0, rw (append_assoc (field n) (fields ns) rest, t, d, written_read n small, later.1))
@@ -50,22 +50,22 @@ number_is : (c : Column) → is_number c ≡ true → c ≡ Number (number_of c)
 number_is (Number n) h = refl
 number_is Malformed h = absurd (let z : ◌≡◌ {A = ℕ} 0 1 = cc in omega arith)
 
-fields-are : (k : ℕ) (s : List ℕ) → areFields k s ≡ true → take (k * places) s ≡ fields (numbers k s)
-unfolding areFields numbers fields
+fields-are : (k : ℕ) (s : List ℕ) → are_fields k s ≡ true → take (k * places) s ≡ fields (numbers k s)
+unfolding are_fields numbers fields
 fields-are zero s h = refl
 fields-are (suc k) s h =
-    let c = readField (take places s) in
-    let n : c ≡ Number (number_of c) = number_is c (and_left (is_number c) (areFields k (drop places s)) h) in
+    let c = read_field (take places s) in
+    let n : c ≡ Number (number_of c) = number_is c (and_left (is_number c) (are_fields k (drop places s)) h) in
     let f : take places s ≡ field (number_of c) = (read-written (take places s) (number_of c) n).0 in
-    let later = fields-are k (drop places s) (and_right (is_number c) (areFields k (drop places s)) h) in
+    let later = fields-are k (drop places s) (and_right (is_number c) (are_fields k (drop places s)) h) in
     let e : suc k * places ≡ places + k * places = omega arith in
     rw (e, take-add places (k * places) s, later) (ap (λ (x : List ℕ). x ++ fields (numbers k (drop places s))) f)
 
-pub line-is : (k : ℕ) (s : List ℕ) → is_line k s ≡ true → take (lineBytes k) s ≡ line (numbers k s)
+pub line-is : (k : ℕ) (s : List ℕ) → is_line k s ≡ true → take (line_bytes k) s ≡ line (numbers k s)
 unfolding is_line line
 line-is k s h =
-    let are = and_left (areFields k s) (eqb (get_or s (k * places) 0) lf) h in
-    let last : get_or s (k * places) 0 ≡ lf = eqb-true _ _ (and_right (areFields k s) (eqb (get_or s (k * places) 0) lf) h) in
+    let are = and_left (are_fields k s) (eqb (get_or s (k * places) 0) lf) h in
+    let last : get_or s (k * places) 0 ≡ lf = eqb-true _ _ (and_right (are_fields k s) (eqb (get_or s (k * places) 0) lf) h) in
     let inside : k * places < length s = go (leb (length s) (k * places)) refl last in
     rw (add-one (k * places), take-suc s (k * places) 0 inside, last, fields-are k s are)
   where

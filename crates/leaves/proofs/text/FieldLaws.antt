@@ -12,109 +12,109 @@ use lib.Seq.{take_all, drop-cons, drop-drop, drop-length, set_at, drop-set-lt, g
 use borrow.Author.Rules.{rules}
 use borrow.Rule.Slice.PartMut.{put_mid}
 use borrow.Author.Tests.{eq-eqb, ne_eqb, leb-true, le-leb, lt-leb, not-true, not-false}
-use Rattle.leaves.specs.Text.Bytes.{space, isDigit}
+use Rattle.leaves.specs.Text.Bytes.{space, is_digit}
 use Rattle.leaves.proofs.text.ScanLaws.{At, turn, stop, end}
 use Rattle.leaves.proofs.text.TestLaws.{and_left, and_right}
 use Rattle.leaves.specs.Text.Lists.{over}
 use Rattle.leaves.proofs.text.OverLaws.{over-fits}
-use Rattle.leaves.specs.Text.Field.{places, mostNumber, digitZero, digit, lastPlace, front, field, pastSpaces, readDigits, readNumber, readField}
+use Rattle.leaves.specs.Text.Field.{places, most_number, digit_zero, digit, last_place, front, field, past_spaces, read_digits, read_number, read_field}
 use Rattle.leaves.specs.declared.text.field.Column.{Column}
 use Rattle.leaves.specs.declared.text.field.Column.TheVariants.{Number, Malformed}
 
 -- ---- `past_spaces`
 module _ (s : List ℕ) where
-  pub spaces-start : At (pastSpaces s) pastSpaces s 0
+  pub spaces-start : At (past_spaces s) past_spaces s 0
   spaces-start = record { within = omega arith; same = refl }
 
-module _ {s : List ℕ} {i : ℕ} (at : At (pastSpaces s) pastSpaces s i) where
-  pub spaces-next : i < length s → get_or s i 0 ≡ space → At (pastSpaces s) pastSpaces s (i + 1)
-  unfolding pastSpaces
+module _ {s : List ℕ} {i : ℕ} (at : At (past_spaces s) past_spaces s i) where
+  pub spaces-next : i < length s → get_or s i 0 ≡ space → At (past_spaces s) past_spaces s (i + 1)
+  unfolding past_spaces
   spaces-next h e = turn h at (rw (eq-eqb _ _ e))
 
   -- what is left is handed back
   left : take (length s - i) (drop i s) ≡ drop i s
   left = take_all (length s - i) (drop i s) (simp length-drop (le_refl _))
 
-  pub spaces-stop : i < length s → (get_or s i 0 ≡ space → ⊥) → take (length s - i) (drop i s) ≡ pastSpaces s
-  unfolding pastSpaces
+  pub spaces-stop : i < length s → (get_or s i 0 ≡ space → ⊥) → take (length s - i) (drop i s) ≡ past_spaces s
+  unfolding past_spaces
   spaces-stop h e =
       let d : drop i s ≡ get_or s i 0 ∷ drop (i + 1) s = rw (add-one, drop-cons s i 0) in
       stop h at (left ∙ d ∙ rw (ne_eqb _ _ e))
 
-  pub spaces-end : length s ≤ i → take (length s - i) (drop i s) ≡ pastSpaces s
-  unfolding pastSpaces
+  pub spaces-end : length s ≤ i → take (length s - i) (drop i s) ≡ past_spaces s
+  unfolding past_spaces
   spaces-end h = end h at (left ∙ drop_of_length-le s {i = i} h)
 
 pub ruleset spaces = (spaces-start, spaces-next, spaces-stop, spaces-end, rules)
 
 -- ---- `read_digits`: n is the number of the digits passed
 pub record Digits (s : List ℕ) (n i : ℕ) : Type 0 where
-  pub at : At (readDigits 0 s) (readDigits n) s i
-  pub small : n ≤ mostNumber
+  pub at : At (read_digits 0 s) (read_digits n) s i
+  pub small : n ≤ most_number
 
 pub digits-start : (s : List ℕ) → Digits s 0 0
 digits-start s = record { at = record { within = omega arith; same = refl }; small = omega arith }
 
-module _ (b : ℕ) {r : Bool} (is : r ≡ isDigit b) (h : not r ≡ false) where
-  is_digit : isDigit b ≡ true
-  is_digit = sym is ∙ not-false r h
+module _ (b : ℕ) {r : Bool} (is : r ≡ is_digit b) (h : not r ≡ false) where
+  digit-is : is_digit b ≡ true
+  digit-is = sym is ∙ not-false r h
 
   pub digit_low : 48 ≤ b
-  digit_low = leb-true _ _ (and_left (leb 48 b) (leb b 57) is_digit)
+  digit_low = leb-true _ _ (and_left (leb 48 b) (leb b 57) digit-is)
 
   pub digit-high : b ≤ 57
-  digit-high = leb-true _ _ (and_right (leb 48 b) (leb b 57) is_digit)
+  digit-high = leb-true _ _ (and_right (leb 48 b) (leb b 57) digit-is)
 
 module _ {s : List ℕ} {n i : ℕ} (d : Digits s n i) (h : i < length s) where
-  pub digits-bad : {r : Bool} → r ≡ isDigit (get_or s i 0) → not r ≡ true → Malformed ≡ readDigits 0 s
-  unfolding readDigits
-  digits-bad {r} is f = let g : isDigit (get_or s i 0) ≡ false = sym is ∙ not-true r f in stop h d.at (rw g)
+  pub digits-bad : {r : Bool} → r ≡ is_digit (get_or s i 0) → not r ≡ true → Malformed ≡ read_digits 0 s
+  unfolding read_digits
+  digits-bad {r} is f = let g : is_digit (get_or s i 0) ≡ false = sym is ∙ not-true r f in stop h d.at (rw g)
 
-  module _ {r : Bool} {k : ℕ} (is : r ≡ isDigit (get_or s i 0)) (f : not r ≡ false) (e : k ≡ get_or s i 0 - digitZero) where
-    pub digits-large : mostNumber < n * 10 + k → Malformed ≡ readDigits 0 s
-    unfolding readDigits
-    digits-large l = stop h d.at (rw (is_digit _ is f, ← e, lt-leb _ _ l))
+  module _ {r : Bool} {k : ℕ} (is : r ≡ is_digit (get_or s i 0)) (f : not r ≡ false) (e : k ≡ get_or s i 0 - digit_zero) where
+    pub digits-large : most_number < n * 10 + k → Malformed ≡ read_digits 0 s
+    unfolding read_digits
+    digits-large l = stop h d.at (rw (digit-is _ is f, ← e, lt-leb _ _ l))
 
-    pub digits-next : n * 10 + k ≤ mostNumber → Digits s (n * 10 + k) (i + 1)
-    unfolding readDigits
+    pub digits-next : n * 10 + k ≤ most_number → Digits s (n * 10 + k) (i + 1)
+    unfolding read_digits
     digits-next l = record { at = turn h d.at (rw (is_digit _ is f, ← e, le-leb _ _ l)); small = l }
 
-pub digits-end : {s : List ℕ} {n i : ℕ} → Digits s n i → length s ≤ i → Number n ≡ readDigits 0 s
-unfolding readDigits
+pub digits-end : {s : List ℕ} {n i : ℕ} → Digits s n i → length s ≤ i → Number n ≡ read_digits 0 s
+unfolding read_digits
 digits-end d h = end h d.at refl
 
 pub ruleset digits = (digits-start, digit_low, digit-high, digits-bad, digits-large, digits-next, digits-end, rules)
 
 -- ---- `read_number`, `read_field`
 module _ (s : List ℕ) where
-  pub number-none : length s ≡ 0 → Malformed ≡ readNumber s
-  unfolding readNumber
+  pub number-none : length s ≡ 0 → Malformed ≡ read_number s
+  unfolding read_number
   number-none e = rw (eq-eqb _ _ e)
 
   module _ (some : length s ≡ 0 → ⊥) where
-    pub number-zeros : eqb (get_or s 0 0) digitZero && ltb 1 (length s) ≡ true → Malformed ≡ readNumber s
-    unfolding readNumber
+    pub number-zeros : eqb (get_or s 0 0) digit_zero && ltb 1 (length s) ≡ true → Malformed ≡ read_number s
+    unfolding read_number
     number-zeros z = rw (ne_eqb _ _ some, z)
 
-    pub number_is : {r : Column} → eqb (get_or s 0 0) digitZero && ltb 1 (length s) ≡ false → r ≡ readDigits 0 s → r ≡ readNumber s
-    unfolding readNumber
+    pub number_is : {r : Column} → eqb (get_or s 0 0) digit_zero && ltb 1 (length s) ≡ false → r ≡ read_digits 0 s → r ≡ read_number s
+    unfolding read_number
     number_is z e = rw (ne_eqb _ _ some, z) e
 
-  pub field-short : (length s ≡ places → ⊥) → Malformed ≡ readField s
-  unfolding readField
+  pub field-short : (length s ≡ places → ⊥) → Malformed ≡ read_field s
+  unfolding read_field
   field-short h = rw (ne_eqb _ _ h)
 
-  pub field_is : {t : List ℕ} {r : Column} → length s ≡ places → t ≡ pastSpaces s → r ≡ readNumber t → r ≡ readField s
-  unfolding readField
+  pub field_is : {t : List ℕ} {r : Column} → length s ≡ places → t ≡ past_spaces s → r ≡ read_number t → r ≡ read_field s
+  unfolding read_field
   field_is h p e = rw (eq-eqb _ _ h, ← p) e
 
 pub ruleset reading = (number-none, number-zeros, number_is, field-short, field_is, rules)
 
 -- ---- `last_place`, `put_front`
-pub last_none : {n : ℕ} → n ≡ 0 → space ≡ lastPlace n
+pub last_none : {n : ℕ} → n ≡ 0 → space ≡ last_place n
 last_none e = rw (eq-eqb _ _ e)
 
-pub last_some : {n : ℕ} → (n ≡ 0 → ⊥) → digitZero + n % 10 ≡ lastPlace n
+pub last_some : {n : ℕ} → (n ≡ 0 → ⊥) → digit_zero + n % 10 ≡ last_place n
 last_some e = rw (ne_eqb _ _ e)
 
 -- the places from i on have been filled, and `rest` is left of the number n
@@ -127,14 +127,14 @@ pub fill_start : (old : List ℕ) (n : ℕ) → Filling old n old n (length old)
 fill_start old n = record { inside = le_refl _; long = refl; is = rw drop-length (sym (append-nil _)) }
 
 -- the last place that is left
-fill_is : (cells : List ℕ) (rest j : ℕ) → j < length cells → front (suc j) rest ++ drop (suc j) cells ≡ front j (rest / 10) ++ drop j (set cells j (lastPlace rest))
+fill_is : (cells : List ℕ) (rest j : ℕ) → j < length cells → front (suc j) rest ++ drop (suc j) cells ≡ front j (rest / 10) ++ drop j (set cells j (last_place rest))
 unfolding front
 fill_is cells rest j h =
-    let more : j < length (set cells j (lastPlace rest)) = simp length-set h in
-    let d : drop j (set cells j (lastPlace rest)) ≡ lastPlace rest ∷ drop (suc j) cells = rw (drop-cons (set cells j (lastPlace rest)) j 0 more, get_or-set_same cells j (lastPlace rest) 0 h, drop-set-lt (suc j) cells j (lastPlace rest) (omega arith)) in
-    append_assoc (front j (rest / 10)) (lastPlace rest ∷ []) (drop (suc j) cells) ∙ rw d
+    let more : j < length (set cells j (last_place rest)) = simp length-set h in
+    let d : drop j (set cells j (last_place rest)) ≡ last_place rest ∷ drop (suc j) cells = rw (drop-cons (set cells j (last_place rest)) j 0 more, get_or-set_same cells j (last_place rest) 0 h, drop-set-lt (suc j) cells j (last_place rest) (omega arith)) in
+    append_assoc (front j (rest / 10)) (last_place rest ∷ []) (drop (suc j) cells) ∙ rw d
 
-pub fill-next : {old cells : List ℕ} {n rest i p : ℕ} → Filling old n cells rest i → 0 < i → p ≡ lastPlace rest → Filling old n (set cells (i - 1) p) (rest / 10) (i - 1)
+pub fill-next : {old cells : List ℕ} {n rest i p : ℕ} → Filling old n cells rest i → 0 < i → p ≡ last_place rest → Filling old n (set cells (i - 1) p) (rest / 10) (i - 1)
 fill-next {i = zero} f h e = absurd (omega arith)
 fill-next {old = old} {cells = cells} {n = n} {rest = rest} {i = suc j} f h e =
     let z : suc j - 1 ≡ j = omega arith in
@@ -152,13 +152,13 @@ pub ruleset writing = (last_none, last_some, fill_start, fill-next, fill_end, ru
 pub front_long : (k n : ℕ) → length (front k n) ≡ k
 unfolding front
 front_long zero n = refl
-front_long (suc k) n = length-append (front k (n / 10)) (lastPlace n ∷ []) ∙ omega (arith, front_long k (n / 10))
+front_long (suc k) n = length-append (front k (n / 10)) (last_place n ∷ []) ∙ omega (arith, front_long k (n / 10))
 
 pub field-long : (n : ℕ) → length (field n) ≡ places
 unfolding field
 field-long n = length-append (front 10 (n / 10)) (digit (n % 10) ∷ []) ∙ omega (arith, front_long 10 (n / 10))
 
-pub field_put : (x y : List ℕ) (at n : ℕ) → at + places ≤ length x → y ≡ front (length (take (at + 10 - at) (drop at x))) (n / 10) → set (put_mid at (at + 10 - at) x y) (at + 10) (digitZero + n % 10) ≡ over x at (field n)
+pub field_put : (x y : List ℕ) (at n : ℕ) → at + places ≤ length x → y ≡ front (length (take (at + 10 - at) (drop at x))) (n / 10) → set (put_mid at (at + 10 - at) x y) (at + 10) (digit_zero + n % 10) ≡ over x at (field n)
 unfolding field
 field_put x y at n room e =
     let ten : at + 10 - at ≡ 10 = omega arith in

@@ -5,7 +5,7 @@ use mathlib.Core.List.{List, ◌∷◌}
 use Prim.Native.Nat.{ℕ}
 use Rattle.leaves.specs.Text.Lists.{any, all}
 use Rattle.leaves.proofs.text.ScanLaws.{At, scan}
-use Rattle.leaves.specs.Text.Chunk.{isNeither, Past}
+use Rattle.leaves.specs.Text.Chunk.{is_neither, Past}
 use Rattle.leaves.proofs.text.ChunkLaws.{leap-to}
 
 module _ (test : ℕ → Bool) (b : ℕ) {r : Bool} (e : r ≡ test b) where
@@ -26,7 +26,7 @@ module _ (test : ℕ → Bool) (b : ℕ) {r : Bool} (e : r ≡ test b) where
   all-no n s = rw (← e, n)
 
 -- bytes that are neither of two, where a test asks for no other
-pub any-leap : {whole : Bool} (test : ℕ → Bool) (x y : ℕ) {s : List ℕ} {i j : ℕ} → ((b : ℕ) → isNeither x y b ≡ true → test b ≡ false) → At whole (any test) s i → Past (isNeither x y) s i j → At whole (any test) s j
-any-leap test x y n inv p = leap-to (isNeither x y) (λ b t q. any-no test b refl (n b q) t) inv p
+pub any-leap : {whole : Bool} (test : ℕ → Bool) (x y : ℕ) {s : List ℕ} {i j : ℕ} → ((b : ℕ) → is_neither x y b ≡ true → test b ≡ false) → At whole (any test) s i → Past (is_neither x y) s i j → At whole (any test) s j
+any-leap test x y n inv p = leap-to (is_neither x y) (λ b t q. any-no test b refl (n b q) t) inv p
 
 pub ruleset tests = (any-no, any-yes, all_yes, all-no, scan)

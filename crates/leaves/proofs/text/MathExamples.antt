@@ -3,9 +3,9 @@ use mathlib.Core.Path.{◌≡◌, refl}
 use mathlib.Core.Bool.{true, false}
 use mathlib.Core.List.{[], ◌∷◌}
 use Rattle.leaves.specs.Text.Lines.{starts_with}
-use Rattle.leaves.specs.Text.Math.{holdsBacktickDollar}
+use Rattle.leaves.specs.Text.Math.{holds_backtick_dollar}
 
 -- rule 48: a backtick with a dollar behind it, and not the other way round
-ticks : (holdsBacktickDollar (97 ∷ 96 ∷ 36 ∷ []) ≡ true) × (holdsBacktickDollar (36 ∷ 96 ∷ []) ≡ false)
-unfolding holdsBacktickDollar starts_with
+ticks : (holds_backtick_dollar (97 ∷ 96 ∷ 36 ∷ []) ≡ true) × (holds_backtick_dollar (36 ∷ 96 ∷ []) ≡ false)
+unfolding holds_backtick_dollar starts_with
 ticks = (refl, refl)

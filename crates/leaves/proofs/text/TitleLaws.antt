@@ -7,77 +7,77 @@ use native.Mathlib.Omega.{arith}
 use lib.Dec.{eqb}
 use borrow.Author.Tests.{eq-eqb}
 use lib.ListN.{length, get_or}
-use Rattle.leaves.specs.Text.Bytes.{isBlankByte}
+use Rattle.leaves.specs.Text.Bytes.{is_blank_byte}
 use Rattle.leaves.specs.Text.Lists.{last_or, none}
-use Rattle.leaves.specs.Text.Same.{sameBytes}
-use Rattle.leaves.specs.Text.Title.{isAlertTitle}
-use Rattle.leaves.specs.Text.Trim.{trimCons, trimEnd, trimStart, trim}
+use Rattle.leaves.specs.Text.Same.{same_bytes}
+use Rattle.leaves.specs.Text.Title.{is_alert_title}
+use Rattle.leaves.specs.Text.Trim.{trim_cons, trim_end, trim_start, trim}
 use Rattle.leaves.proofs.text.ScanLaws.{scan}
 
-same_self : (s : List ℕ) → sameBytes s s ≡ true
-unfolding sameBytes
+same_self : (s : List ℕ) → same_bytes s s ≡ true
+unfolding same_bytes
 same_self [] = refl
 same_self (b ∷ s) = rw (eq-eqb b b refl) (same_self s)
 
 -- a shorter list is another
-shorter : (s t : List ℕ) → length s < length t → sameBytes s t ≡ false
-unfolding sameBytes
+shorter : (s t : List ℕ) → length s < length t → same_bytes s t ≡ false
+unfolding same_bytes
 shorter [] [] h = absurd (omega arith)
 shorter [] (y ∷ t) h = refl
 shorter (x ∷ s) [] h = absurd (omega arith)
 shorter (x ∷ s) (y ∷ t) h = rw (shorter s t (omega arith)) (and-false (eqb x y))
 
-cons-length : (b : ℕ) (s : List ℕ) → length (trimCons b s) ≤ suc (length s)
-unfolding trimCons
-cons-length b [] = go (isBlankByte b) refl
+cons-length : (b : ℕ) (s : List ℕ) → length (trim_cons b s) ≤ suc (length s)
+unfolding trim_cons
+cons-length b [] = go (is_blank_byte b) refl
   where
-    go : (t : Bool) → isBlankByte b ≡ t → length (trimCons b []) ≤ 1
+    go : (t : Bool) → is_blank_byte b ≡ t → length (trim_cons b []) ≤ 1
     go true e = rw e (omega arith)
     go false e = rw e (omega arith)
 cons-length b (x ∷ s) = omega arith
 
-start-length : (s : List ℕ) → length (trimStart s) ≤ length s
-unfolding trimStart
+start-length : (s : List ℕ) → length (trim_start s) ≤ length s
+unfolding trim_start
 start-length [] = omega arith
-start-length (b ∷ s) = go (isBlankByte b) refl (start-length s)
+start-length (b ∷ s) = go (is_blank_byte b) refl (start-length s)
   where
-    go : (t : Bool) → isBlankByte b ≡ t → length (trimStart s) ≤ length s → length (trimStart (b ∷ s)) ≤ suc (length s)
+    go : (t : Bool) → is_blank_byte b ≡ t → length (trim_start s) ≤ length s → length (trim_start (b ∷ s)) ≤ suc (length s)
     go true e h = rw e (omega arith)
     go false e h = rw e (omega arith)
 
-end_kept : (b : ℕ) (s : List ℕ) → isBlankByte (last_or b s) ≡ false → trimEnd (b ∷ s) ≡ b ∷ s
-unfolding trimEnd trimCons last_or
+end_kept : (b : ℕ) (s : List ℕ) → is_blank_byte (last_or b s) ≡ false → trim_end (b ∷ s) ≡ b ∷ s
+unfolding trim_end trim_cons last_or
 end_kept b [] e = rw e
 end_kept b (x ∷ s) e = rw (end_kept x s e)
 
-end-cut : (b : ℕ) (s : List ℕ) → isBlankByte (last_or b s) ≡ true → length (trimEnd (b ∷ s)) < length (b ∷ s)
-unfolding trimEnd trimCons last_or
+end-cut : (b : ℕ) (s : List ℕ) → is_blank_byte (last_or b s) ≡ true → length (trim_end (b ∷ s)) < length (b ∷ s)
+unfolding trim_end trim_cons last_or
 end-cut b [] e = rw e (omega arith)
-end-cut b (x ∷ s) e = omega (arith, cons-length b (trimEnd (x ∷ s)), end-cut x s e)
+end-cut b (x ∷ s) e = omega (arith, cons-length b (trim_end (x ∷ s)), end-cut x s e)
 
 last-at : (b : ℕ) (s : List ℕ) → get_or (b ∷ s) (length s) 0 ≡ last_or b s
 unfolding last_or
 last-at b [] = refl
 last-at b (x ∷ s) = last-at x s
 
-title : (b : ℕ) (s : List ℕ) → sameBytes (trim (b ∷ s)) (b ∷ s) ≡ (not (isBlankByte b) && not (isBlankByte (last_or b s)))
-unfolding trim trimStart
-title b s = go (isBlankByte b) (isBlankByte (last_or b s)) refl refl
+title : (b : ℕ) (s : List ℕ) → same_bytes (trim (b ∷ s)) (b ∷ s) ≡ (not (is_blank_byte b) && not (is_blank_byte (last_or b s)))
+unfolding trim trim_start
+title b s = go (is_blank_byte b) (is_blank_byte (last_or b s)) refl refl
   where
-    go : (t u : Bool) → isBlankByte b ≡ t → isBlankByte (last_or b s) ≡ u → sameBytes (trimStart (trimEnd (b ∷ s))) (b ∷ s) ≡ (not t && not u)
+    go : (t u : Bool) → is_blank_byte b ≡ t → is_blank_byte (last_or b s) ≡ u → same_bytes (trim_start (trim_end (b ∷ s))) (b ∷ s) ≡ (not t && not u)
     go false false e f = rw (end_kept b s f, e) (same_self (b ∷ s))
-    go true false e f = rw (end_kept b s f, e) (shorter (trimStart s) (b ∷ s) (omega (arith, start-length s)))
-    go false true e f = shorter _ _ (omega (arith, start-length (trimEnd (b ∷ s)), end-cut b s f))
-    go true true e f = shorter _ _ (omega (arith, start-length (trimEnd (b ∷ s)), end-cut b s f))
+    go true false e f = rw (end_kept b s f, e) (shorter (trim_start s) (b ∷ s) (omega (arith, start-length s)))
+    go false true e f = shorter _ _ (omega (arith, start-length (trim_end (b ∷ s)), end-cut b s f))
+    go true true e f = shorter _ _ (omega (arith, start-length (trim_end (b ∷ s)), end-cut b s f))
 
-pub title-none : (s : List ℕ) → length s ≡ 0 → false ≡ isAlertTitle s
-unfolding isAlertTitle none
+pub title-none : (s : List ℕ) → length s ≡ 0 → false ≡ is_alert_title s
+unfolding is_alert_title none
 title-none [] e = refl
 title-none (b ∷ s) e = absurd (omega arith)
 
 -- p and q are what was answered of the first and the last byte
-pub title-some : (s : List ℕ) {p q : Bool} → (length s ≡ 0 → ⊥) → p ≡ isBlankByte (get_or s 0 0) → q ≡ isBlankByte (get_or s (length s - 1) 0) → (not p && not q) ≡ isAlertTitle s
-unfolding isAlertTitle none
+pub title-some : (s : List ℕ) {p q : Bool} → (length s ≡ 0 → ⊥) → p ≡ is_blank_byte (get_or s 0 0) → q ≡ is_blank_byte (get_or s (length s - 1) 0) → (not p && not q) ≡ is_alert_title s
+unfolding is_alert_title none
 title-some [] h e f = absurd (h refl)
 title-some (b ∷ s) h e f = rw (e, f, at-end) (sym (title b s))
   where

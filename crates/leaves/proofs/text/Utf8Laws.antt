@@ -9,13 +9,13 @@ use lib.ListN.{replicate, length-replicate}
 use borrow.Author.Tests.{lt-leb, lt-ltb, le-ltb, le-leb, ltb-true, leb-true, leb-false, ne_eqb, eqb-true, not-true, not-false}
 use Rattle.leaves.specs.Text.Bytes.{between}
 use Rattle.leaves.specs.Text.Lists.{none}
-use Rattle.leaves.specs.Text.Utf8.{Range, ◌to◌, within, trail, nothing, table, follow, wellFormed}
-use Rattle.leaves.specs.Text.Utf8Scans.{breaks, expectedAfter}
-use Rattle.leaves.specs.Text.Utf8Expected.{columns, expectedOf, expecting, Expects}
+use Rattle.leaves.specs.Text.Utf8.{Range, ◌to◌, within, trail, nothing, table, follow, well_formed}
+use Rattle.leaves.specs.Text.Utf8Scans.{breaks, expected_after}
+use Rattle.leaves.specs.Text.Utf8Expected.{columns, expected_of, expecting, Expects}
 use Rattle.leaves.specs.declared.text.utf8.Expected.{Expected}
 use Rattle.leaves.proofs.text.ScanLaws.{At, scan}
 use Rattle.leaves.proofs.text.TestLaws.{all_below, and_left, and_right, each}
-use Rattle.leaves.specs.Text.Chunk.{isAscii, Past}
+use Rattle.leaves.specs.Text.Chunk.{is_ascii, Past}
 use Rattle.leaves.proofs.text.ChunkLaws.{leap-to}
 
 -- ---- what follows a first byte
@@ -49,7 +49,7 @@ unfolding row-test
 followed these cs e b h p = ranges cs (follow table b) (rw p at (each (row-test these cs) 256 e b h))
 
 -- and so the code's struct of these columns is that of the row
-follows : (these : ℕ → Bool) (cs : List Range) → all_below (row-test these cs) 256 ≡ true → (b : ℕ) → b < 256 → these b ≡ true → {o : Expected} → o ≡ expecting cs → expectedOf o ≡ cs → Expects (follow table b) o
+follows : (these : ℕ → Bool) (cs : List Range) → all_below (row-test these cs) 256 ≡ true → (b : ℕ) → b < 256 → these b ≡ true → {o : Expected} → o ≡ expecting cs → expected_of o ≡ cs → Expects (follow table b) o
 follows these cs e b h p i a = let f = followed these cs e b h p in record { is = i ∙ ap expecting f; all = a ∙ f }
 
 module _ (b : ℕ) where
@@ -137,23 +137,23 @@ module _ (more low high b : ℕ) where
       go zero h = absurd (h refl)
       go (suc m) h = outside low high b
 
-  pub expected-whole : {o : Expected} → more ≡ 0 → Expects (follow table b) o → Expects (expectedAfter (columns more low high) b) o
-  unfolding expectedAfter
+  pub expected-whole : {o : Expected} → more ≡ 0 → Expects (follow table b) o → Expects (expected_after (columns more low high) b) o
+  unfolding expected_after
   expected-whole e f = rw e f
 
-  pub expected-broken : {o : Expected} → (more ≡ 0 → ⊥) → (ltb b low || ltb high b) ≡ true → Expects (follow table b) o → Expects (expectedAfter (columns more low high) b) o
-  unfolding expectedAfter
+  pub expected-broken : {o : Expected} → (more ≡ 0 → ⊥) → (ltb b low || ltb high b) ≡ true → Expects (follow table b) o → Expects (expected_after (columns more low high) b) o
+  unfolding expected_after
   expected-broken {o} h y f = go more h
     where
-      go : (m : ℕ) → (m ≡ 0 → ⊥) → Expects (expectedAfter (columns m low high) b) o
+      go : (m : ℕ) → (m ≡ 0 → ⊥) → Expects (expected_after (columns m low high) b) o
       go zero h = absurd (h refl)
       go (suc m) h = rw (not-true (between low high b) (sym (outside low high b) ∙ y)) f
 
-  pub expected-next : (more ≡ 0 → ⊥) → (ltb b low || ltb high b) ≡ false → Expects (expectedAfter (columns more low high) b) (expects (more - 1) 0x80 0xBF)
-  unfolding expectedAfter
+  pub expected-next : (more ≡ 0 → ⊥) → (ltb b low || ltb high b) ≡ false → Expects (expected_after (columns more low high) b) (expects (more - 1) 0x80 0xBF)
+  unfolding expected_after
   expected-next h n = go more h
     where
-      go : (m : ℕ) → (m ≡ 0 → ⊥) → Expects (expectedAfter (columns m low high) b) (expects (m - 1) 0x80 0xBF)
+      go : (m : ℕ) → (m ≡ 0 → ⊥) → Expects (expected_after (columns m low high) b) (expects (m - 1) 0x80 0xBF)
       go zero h = absurd (h refl)
       go (suc m) h =
           let d : suc m - 1 ≡ m = omega arith in
@@ -169,37 +169,37 @@ module _ (more low high b : ℕ) where
 
 -- ---- well-formed bytes
 module _ (o : List Range) (b : ℕ) (s : List ℕ) {r : Bool} (e : r ≡ breaks o b) where
-  pub utf8-no : r ≡ true → false ≡ wellFormed o (b ∷ s)
-  unfolding breaks wellFormed
+  pub utf8-no : r ≡ true → false ≡ well_formed o (b ∷ s)
+  unfolding breaks well_formed
   utf8-no y = go o (sym e ∙ y)
     where
-      go : (p : List Range) → breaks p b ≡ true → false ≡ wellFormed p (b ∷ s)
+      go : (p : List Range) → breaks p b ≡ true → false ≡ well_formed p (b ∷ s)
       go [] h = absurd (false≢true h)
       go (x ∷ p) h = rw (not-true (within x b) h)
 
-  pub utf8-yes : {o' : List Range} → r ≡ false → o' ≡ expectedAfter o b → wellFormed o (b ∷ s) ≡ wellFormed o' s
-  unfolding breaks wellFormed expectedAfter
+  pub utf8-yes : {o' : List Range} → r ≡ false → o' ≡ expected_after o b → well_formed o (b ∷ s) ≡ well_formed o' s
+  unfolding breaks well_formed expected_after
   utf8-yes n f = rw f (go o (sym e ∙ n))
     where
-      go : (p : List Range) → breaks p b ≡ false → wellFormed p (b ∷ s) ≡ wellFormed (expectedAfter p b) s
+      go : (p : List Range) → breaks p b ≡ false → well_formed p (b ∷ s) ≡ well_formed (expected_after p b) s
       go [] h = refl
       go (x ∷ p) h = rw (not-false (within x b) h)
 
-pub utf8-ascii : (b : ℕ) (s : List ℕ) → b < 0x80 → wellFormed [] (b ∷ s) ≡ wellFormed [] s
-unfolding wellFormed
+pub utf8-ascii : (b : ℕ) (s : List ℕ) → b < 0x80 → well_formed [] (b ∷ s) ≡ well_formed [] s
+unfolding well_formed
 utf8-ascii b s h = rw (sym (ascii-alone b h))
 
 -- bytes of ASCII where nothing is expected
-pub utf8-leap : {whole : Bool} (more low high : ℕ) {s : List ℕ} {i j : ℕ} → more ≡ 0 → At whole (wellFormed (columns more low high)) s i → Past isAscii s i j → At whole (wellFormed (columns more low high)) s j
+pub utf8-leap : {whole : Bool} (more low high : ℕ) {s : List ℕ} {i j : ℕ} → more ≡ 0 → At whole (well_formed (columns more low high)) s i → Past is_ascii s i j → At whole (well_formed (columns more low high)) s j
 utf8-leap {whole} more low high {s} {i} {j} e inv p = go more e inv
   where
-    go : (m : ℕ) → m ≡ 0 → At whole (wellFormed (columns m low high)) s i → At whole (wellFormed (columns m low high)) s j
-    go zero e inv = leap-to isAscii (λ b t q. utf8-ascii b t (ltb-true b 0x80 q)) inv p
+    go : (m : ℕ) → m ≡ 0 → At whole (well_formed (columns m low high)) s i → At whole (well_formed (columns m low high)) s j
+    go zero e inv = leap-to is_ascii (λ b t q. utf8-ascii b t (ltb-true b 0x80 q)) inv p
     go (suc m) e inv = absurd (omega (arith, e))
 
 -- what follows a byte that begins nothing: no text is well-formed after it
-pub utf8-never : (s : List ℕ) → wellFormed (follow table 0xFF) s ≡ false
-unfolding wellFormed follow table
+pub utf8-never : (s : List ℕ) → well_formed (follow table 0xFF) s ≡ false
+unfolding well_formed follow table
 utf8-never [] = refl
 utf8-never (b ∷ s) = rw (never (leb 0xBF b) refl)
   where
@@ -207,8 +207,8 @@ utf8-never (b ∷ s) = rw (never (leb 0xBF b) refl)
     never true e = rw (e, lt-leb b 0x80 (omega (arith, leb-true 0xBF b e)))
     never false e = rw e
 
-pub utf8-end : (more low high : ℕ) → eqb more 0 ≡ wellFormed (columns more low high) []
-unfolding wellFormed
+pub utf8-end : (more low high : ℕ) → eqb more 0 ≡ well_formed (columns more low high) []
+unfolding well_formed
 utf8-end zero low high = refl
 utf8-end (suc n) low high = eqb-suc-zero n
 

@@ -11,11 +11,11 @@ use borrow.Author.Tests.{lt-ltb, le-ltb, ltb-true, leb-true, not-true, not-false
 use Rattle.leaves.specs.Text.Bytes.{between}
 use Rattle.leaves.specs.Text.Lists.{if◌then◌else◌, none, first_or, last_or}
 use Rattle.leaves.specs.Text.Utf8.{Range, within, trail, table, follow}
-use Rattle.leaves.specs.Text.Scalars.{replacement, leadBits, trailBits, emit, decode, scalars}
-use Rattle.leaves.specs.Text.Utf8Scans.{breaks, expectedAfter}
-use Rattle.leaves.specs.Text.WhiteScans.{valueAfter, room, Valued, Begins}
+use Rattle.leaves.specs.Text.Scalars.{replacement, lead_bits, trail_bits, emit, decode, scalars}
+use Rattle.leaves.specs.Text.Utf8Scans.{breaks, expected_after}
+use Rattle.leaves.specs.Text.WhiteScans.{value_after, room, Valued, Begins}
 use Rattle.leaves.specs.Text.Utf8Expected.{columns}
-use Rattle.leaves.specs.Text.White.{isWhite, endsWithWhite}
+use Rattle.leaves.specs.Text.White.{is_white, ends_with_white}
 use Rattle.leaves.proofs.text.ScanLaws.{next}
 use Rattle.leaves.proofs.text.TestLaws.{all_below, each, and_left, and_right}
 use Rattle.leaves.proofs.text.Utf8Laws.{whole, outside, from-to}
@@ -23,43 +23,43 @@ use Rattle.leaves.proofs.text.ScanLaws.{scan}
 
 -- ---- the value of the bits
 module _ (b : ℕ) where
-  pub lead-one : b < 0x80 → b ≡ leadBits b
-  unfolding leadBits
+  pub lead-one : b < 0x80 → b ≡ lead_bits b
+  unfolding lead_bits
   lead-one h = rw (lt-ltb b 0x80 h)
 
-  pub lead-two : 0x80 ≤ b → b < 0xE0 → b % 0x20 ≡ leadBits b
-  unfolding leadBits
+  pub lead-two : 0x80 ≤ b → b < 0xE0 → b % 0x20 ≡ lead_bits b
+  unfolding lead_bits
   lead-two g h = rw (le-ltb b 0x80 g, lt-ltb b 0xE0 h)
 
-  pub lead-three : 0x80 ≤ b → 0xE0 ≤ b → b < 0xF0 → b % 0x10 ≡ leadBits b
-  unfolding leadBits
+  pub lead-three : 0x80 ≤ b → 0xE0 ≤ b → b < 0xF0 → b % 0x10 ≡ lead_bits b
+  unfolding lead_bits
   lead-three f g h = rw (le-ltb b 0x80 f, le-ltb b 0xE0 g, lt-ltb b 0xF0 h)
 
-  pub lead-four : 0x80 ≤ b → 0xE0 ≤ b → 0xF0 ≤ b → b % 0x08 ≡ leadBits b
-  unfolding leadBits
+  pub lead-four : 0x80 ≤ b → 0xE0 ≤ b → 0xF0 ≤ b → b % 0x08 ≡ lead_bits b
+  unfolding lead_bits
   lead-four f g h = rw (le-ltb b 0x80 f, le-ltb b 0xE0 g, le-ltb b 0xF0 h)
 
 -- a value stays within its room
-room_falls : (m value b : ℕ) → value < room (suc m) → trailBits value b < room m
-unfolding trailBits
+room_falls : (m value b : ℕ) → value < room (suc m) → trail_bits value b < room m
+unfolding trail_bits
 room_falls zero value b h = omega arith
 room_falls (suc zero) value b h = omega arith
 room_falls (suc (suc zero)) value b h = omega arith
 room_falls (suc (suc (suc m))) value b h = absurd (omega arith)
 
 lead-test : ℕ → Bool
-lead-test b = ltb (leadBits b) (room (length (follow table b)))
+lead-test b = ltb (lead_bits b) (room (length (follow table b)))
 
-lead-fits : (b : ℕ) → b < 256 → leadBits b < room (length (follow table b))
-unfolding all_below lead-test leadBits follow table
+lead-fits : (b : ℕ) → b < 256 → lead_bits b < room (length (follow table b))
+unfolding all_below lead-test lead_bits follow table
 lead-fits b h = ltb-true _ _ (each lead-test 256 refl b h)
 
-fits_after : (o : List Range) (value b : ℕ) → b < 256 → value < room (length o) → valueAfter o value b < room (length (expectedAfter o b))
-unfolding valueAfter expectedAfter
+fits_after : (o : List Range) (value b : ℕ) → b < 256 → value < room (length o) → value_after o value b < room (length (expected_after o b))
+unfolding value_after expected_after
 fits_after [] value b h k = lead-fits b h
 fits_after (r ∷ o) value b h k = go (within r b) refl
   where
-    go : (t : Bool) → within r b ≡ t → valueAfter (r ∷ o) value b < room (length (expectedAfter (r ∷ o) b))
+    go : (t : Bool) → within r b ≡ t → value_after (r ∷ o) value b < room (length (expected_after (r ∷ o) b))
     go true e = rw e (room_falls (length o) value b k)
     go false e = rw e (lead-fits b h)
 
@@ -71,44 +71,44 @@ long (suc n) low high = ap suc (length-trails n)
     length-trails n = lib.ListN.length-replicate n trail
 
 module _ (more low high value b : ℕ) where
-  value-whole : {v : ℕ} → more ≡ 0 → v ≡ leadBits b → v ≡ valueAfter (columns more low high) value b
-  unfolding valueAfter
+  value-whole : {v : ℕ} → more ≡ 0 → v ≡ lead_bits b → v ≡ value_after (columns more low high) value b
+  unfolding value_after
   value-whole e f = f ∙ rw e
 
-  value-broken : {v : ℕ} → (more ≡ 0 → ⊥) → (ltb b low || ltb high b) ≡ true → v ≡ leadBits b → v ≡ valueAfter (columns more low high) value b
-  unfolding valueAfter
+  value-broken : {v : ℕ} → (more ≡ 0 → ⊥) → (ltb b low || ltb high b) ≡ true → v ≡ lead_bits b → v ≡ value_after (columns more low high) value b
+  unfolding value_after
   value-broken {v} h y f = go more h
     where
-      go : (m : ℕ) → (m ≡ 0 → ⊥) → v ≡ valueAfter (columns m low high) value b
+      go : (m : ℕ) → (m ≡ 0 → ⊥) → v ≡ value_after (columns m low high) value b
       go zero h = absurd (h refl)
       go (suc m) h = f ∙ rw (not-true (between low high b) (sym (outside low high b) ∙ y))
 
-  value-next : (more ≡ 0 → ⊥) → (ltb b low || ltb high b) ≡ false → value * 0x40 + b % 0x40 ≡ valueAfter (columns more low high) value b
-  unfolding valueAfter trailBits
+  value-next : (more ≡ 0 → ⊥) → (ltb b low || ltb high b) ≡ false → value * 0x40 + b % 0x40 ≡ value_after (columns more low high) value b
+  unfolding value_after trail_bits
   value-next h n = go more h
     where
-      go : (m : ℕ) → (m ≡ 0 → ⊥) → value * 0x40 + b % 0x40 ≡ valueAfter (columns m low high) value b
+      go : (m : ℕ) → (m ≡ 0 → ⊥) → value * 0x40 + b % 0x40 ≡ value_after (columns m low high) value b
       go zero h = absurd (h refl)
       go (suc m) h = rw (not-false (between low high b) (sym (outside low high b) ∙ n))
 
 -- what was answered of the value, where b is a byte
 module _ (more low high value b : ℕ) (h : value < room more) (k : b < 256) where
-  kept : {v : ℕ} → v ≡ valueAfter (columns more low high) value b → Valued (columns more low high) value b v
+  kept : {v : ℕ} → v ≡ value_after (columns more low high) value b → Valued (columns more low high) value b v
   kept e =
       let g : value < room (length (columns more low high)) = rw (long more low high) h in
       record { is = e; small = rw e (fits_after (columns more low high) value b k g) }
 
-  pub valued-whole : {v : ℕ} → more ≡ 0 → v ≡ leadBits b → Valued (columns more low high) value b v
+  pub valued-whole : {v : ℕ} → more ≡ 0 → v ≡ lead_bits b → Valued (columns more low high) value b v
   valued-whole e f = kept (value-whole more low high value b e f)
 
-  pub valued-broken : {v : ℕ} → (more ≡ 0 → ⊥) → (ltb b low || ltb high b) ≡ true → v ≡ leadBits b → Valued (columns more low high) value b v
+  pub valued-broken : {v : ℕ} → (more ≡ 0 → ⊥) → (ltb b low || ltb high b) ≡ true → v ≡ lead_bits b → Valued (columns more low high) value b v
   valued-broken e y f = kept (value-broken more low high value b e y f)
 
   pub valued-next : (more ≡ 0 → ⊥) → (ltb b low || ltb high b) ≡ false → Valued (columns more low high) value b (value * 0x40 + b % 0x40)
   valued-next e n = kept (value-next more low high value b e n)
 
 -- the columns of `more` bytes are what is expected after b
-pub room-kept : (more low high : ℕ) (o : List Range) (value b v : ℕ) → Valued o value b v → columns more low high ≡ expectedAfter o b → v < room more
+pub room-kept : (more low high : ℕ) (o : List Range) (value b v : ℕ) → Valued o value b v → columns more low high ≡ expected_after o b → v < room more
 room-kept more low high o value b v d e = rw (← long more low high, e) d.small
 
 -- ---- one byte more
@@ -117,14 +117,14 @@ unfolding emit last_or none
 last-emit [] v d s = refl
 last-emit (r ∷ o) v d s = refl
 
-last_step : (o : List Range) (v d b : ℕ) (s : List ℕ) → last_or d (decode o v (b ∷ s)) ≡ last_or (if none (expectedAfter o b) then valueAfter o v b else if breaks o b then replacement else d) (decode (expectedAfter o b) (valueAfter o v b) s)
-unfolding decode expectedAfter valueAfter breaks last_or
-last_step [] v d b s = last-emit (follow table b) (leadBits b) d (decode (follow table b) (leadBits b) s)
+last_step : (o : List Range) (v d b : ℕ) (s : List ℕ) → last_or d (decode o v (b ∷ s)) ≡ last_or (if none (expected_after o b) then value_after o v b else if breaks o b then replacement else d) (decode (expected_after o b) (value_after o v b) s)
+unfolding decode expected_after value_after breaks last_or
+last_step [] v d b s = last-emit (follow table b) (lead_bits b) d (decode (follow table b) (lead_bits b) s)
 last_step (r ∷ o) v d b s = go (within r b) refl
   where
-    go : (t : Bool) → within r b ≡ t → last_or d (decode (r ∷ o) v (b ∷ s)) ≡ last_or (if none (expectedAfter (r ∷ o) b) then valueAfter (r ∷ o) v b else if breaks (r ∷ o) b then replacement else d) (decode (expectedAfter (r ∷ o) b) (valueAfter (r ∷ o) v b) s)
-    go true e = rw e (last-emit o (trailBits v b) d (decode o (trailBits v b) s))
-    go false e = rw e (last-emit (follow table b) (leadBits b) replacement (decode (follow table b) (leadBits b) s))
+    go : (t : Bool) → within r b ≡ t → last_or d (decode (r ∷ o) v (b ∷ s)) ≡ last_or (if none (expected_after (r ∷ o) b) then value_after (r ∷ o) v b else if breaks (r ∷ o) b then replacement else d) (decode (expected_after (r ∷ o) b) (value_after (r ∷ o) v b) s)
+    go true e = rw e (last-emit o (trail_bits v b) d (decode o (trail_bits v b) s))
+    go false e = rw e (last-emit (follow table b) (lead_bits b) replacement (decode (follow table b) (lead_bits b) s))
 
 last-broken : (r : Range) (o : List Range) (v d b : ℕ) (s : List ℕ) → within r b ≡ false → last_or d (decode (r ∷ o) v (b ∷ s)) ≡ last_or replacement (decode [] 0 (b ∷ s))
 unfolding decode last_or
@@ -135,13 +135,13 @@ unfolding emit first_or none
 first-emit [] v d s = refl
 first-emit (r ∷ o) v d s = refl
 
-first_step : (o : List Range) (v b : ℕ) (s : List ℕ) → first_or replacement (decode o v (b ∷ s)) ≡ (if breaks o b then replacement else if none (expectedAfter o b) then valueAfter o v b else first_or replacement (decode (expectedAfter o b) (valueAfter o v b) s))
-unfolding decode expectedAfter valueAfter breaks first_or
-first_step [] v b s = first-emit (follow table b) (leadBits b) replacement (decode (follow table b) (leadBits b) s)
+first_step : (o : List Range) (v b : ℕ) (s : List ℕ) → first_or replacement (decode o v (b ∷ s)) ≡ (if breaks o b then replacement else if none (expected_after o b) then value_after o v b else first_or replacement (decode (expected_after o b) (value_after o v b) s))
+unfolding decode expected_after value_after breaks first_or
+first_step [] v b s = first-emit (follow table b) (lead_bits b) replacement (decode (follow table b) (lead_bits b) s)
 first_step (r ∷ o) v b s = go (within r b) refl
   where
-    go : (t : Bool) → within r b ≡ t → first_or replacement (decode (r ∷ o) v (b ∷ s)) ≡ (if breaks (r ∷ o) b then replacement else if none (expectedAfter (r ∷ o) b) then valueAfter (r ∷ o) v b else first_or replacement (decode (expectedAfter (r ∷ o) b) (valueAfter (r ∷ o) v b) s))
-    go true e = rw e (first-emit o (trailBits v b) replacement (decode o (trailBits v b) s))
+    go : (t : Bool) → within r b ≡ t → first_or replacement (decode (r ∷ o) v (b ∷ s)) ≡ (if breaks (r ∷ o) b then replacement else if none (expected_after (r ∷ o) b) then value_after (r ∷ o) v b else first_or replacement (decode (expected_after (r ∷ o) b) (value_after (r ∷ o) v b) s))
+    go true e = rw e (first-emit o (trail_bits v b) replacement (decode o (trail_bits v b) s))
     go false e = rw e
 
 -- ---- the last character, from where it begins
@@ -160,14 +160,14 @@ settled : (o : List Range) (v c d : ℕ) (s : List ℕ) → none o ≡ false →
 settled o v c d [] h = settled-end o v c d h
 settled o v c d (b ∷ s) h =
     last_step o v c b s
-    ∙ pick (expectedAfter o b) (valueAfter o v b) _ _ s (λ x y k. settled (expectedAfter o b) (valueAfter o v b) x y s k)
+    ∙ pick (expected_after o b) (value_after o v b) _ _ s (λ x y k. settled (expected_after o b) (value_after o v b) x y s k)
     ∙ sym (last_step o v d b s)
 
 fresh : (v w c d b : ℕ) (s : List ℕ) → last_or c (decode [] v (b ∷ s)) ≡ last_or d (decode [] w (b ∷ s))
-unfolding expectedAfter valueAfter breaks
+unfolding expected_after value_after breaks
 fresh v w c d b s =
     last_step [] v c b s
-    ∙ pick (follow table b) (leadBits b) c d s (λ x y k. settled (follow table b) (leadBits b) x y s k)
+    ∙ pick (follow table b) (lead_bits b) c d s (λ x y k. settled (follow table b) (lead_bits b) x y s k)
     ∙ sym (last_step [] w d b s)
 
 -- only bytes from 0x80 to 0xBF are ever expected
@@ -194,12 +194,12 @@ table-trails : (b : ℕ) → trails (follow table b) ≡ true
 unfolding table rows-trail trails
 table-trails b = follow-trails table b refl
 
-after-trails : (o : List Range) (b : ℕ) → trails o ≡ true → trails (expectedAfter o b) ≡ true
-unfolding trails expectedAfter
+after-trails : (o : List Range) (b : ℕ) → trails o ≡ true → trails (expected_after o b) ≡ true
+unfolding trails expected_after
 after-trails [] b h = table-trails b
 after-trails (r ∷ o) b h = go (within r b) refl
   where
-    go : (t : Bool) → within r b ≡ t → trails (expectedAfter (r ∷ o) b) ≡ true
+    go : (t : Bool) → within r b ≡ t → trails (expected_after (r ∷ o) b) ≡ true
     go true e = rw e (and_right (leb 0x80 r.low && leb r.high 0xBF) (trails o) h)
     go false e = rw e (table-trails b)
 
@@ -224,47 +224,47 @@ resync [] (r ∷ o) v c d b s h f = broken
   where
     broken : last_or c (decode (r ∷ o) v (b ∷ s)) ≡ last_or d (decode [] 0 (b ∷ s))
     broken = last-broken r o v c b s (no-trail r o b h f) ∙ fresh 0 0 replacement d b s
-resync (x ∷ xs) o v c d b s h f = last_step o v c x (xs ++ b ∷ s) ∙ resync xs (expectedAfter o x) (valueAfter o v x) _ d b s (after-trails o x h) f
+resync (x ∷ xs) o v c d b s h f = last_step o v c x (xs ++ b ∷ s) ∙ resync xs (expected_after o x) (value_after o v x) _ d b s (after-trails o x h) f
 
-pub ends-from : (s : List ℕ) (at : ℕ) → Begins s at → endsWithWhite (drop at s) ≡ endsWithWhite s
-unfolding endsWithWhite scalars trails
+pub ends-from : (s : List ℕ) (at : ℕ) → Begins s at → ends_with_white (drop at s) ≡ ends_with_white s
+unfolding ends_with_white scalars trails
 ends-from s zero g = refl
 ends-from s (suc n) g =
     let (h, f) = g.fresh (omega arith) in
     let e : drop (suc n) s ≡ get_or s (suc n) 0 ∷ drop (suc n + 1) s = next s (suc n) h in
     let whole-text : take (suc n) s ++ (get_or s (suc n) 0 ∷ drop (suc n + 1) s) ≡ s = rw (← e) (take-append-drop (suc n) s) in
     let both : last_or replacement (decode [] 0 (take (suc n) s ++ (get_or s (suc n) 0 ∷ drop (suc n + 1) s))) ≡ last_or replacement (decode [] 0 (get_or s (suc n) 0 ∷ drop (suc n + 1) s)) = resync (take (suc n) s) [] 0 replacement replacement (get_or s (suc n) 0) (drop (suc n + 1) s) refl f in
-    rw e (ap isWhite (sym (rw whole-text at both)))
+    rw e (ap is_white (sym (rw whole-text at both)))
 
 -- r is what was answered of the part from there on
-pub ends-part : (s : List ℕ) (at : ℕ) {r : Bool} → r ≡ endsWithWhite (take (length s - at) (drop at s)) → Begins s at → r ≡ endsWithWhite s
+pub ends-part : (s : List ℕ) (at : ℕ) {r : Bool} → r ≡ ends_with_white (take (length s - at) (drop at s)) → Begins s at → r ≡ ends_with_white s
 ends-part s at e g =
     let l : length (drop at s) ≤ length s - at = simp length-drop (omega arith) in
     e ∙ rw (take_all (length s - at) (drop at s) l) (ends-from s at g)
 
 -- ---- the loops
-unfoldable pub startFrom : List Range → ℕ → List ℕ → Bool
-startFrom o v s = isWhite (first_or replacement (decode o v s))
+unfoldable pub start_from : List Range → ℕ → List ℕ → Bool
+start_from o v s = is_white (first_or replacement (decode o v s))
 
-unfoldable pub endFrom : ℕ → List Range → ℕ → List ℕ → Bool
-endFrom d o v s = isWhite (last_or d (decode o v s))
+unfoldable pub end_from : ℕ → List Range → ℕ → List ℕ → Bool
+end_from d o v s = is_white (last_or d (decode o v s))
 
-no-white : isWhite replacement ≡ false
-unfolding isWhite
+no-white : is_white replacement ≡ false
+unfolding is_white
 no-white = refl
 
 module _ (o : List Range) (v b : ℕ) (s : List ℕ) {r : Bool} (e : r ≡ breaks o b) where
-  pub start-broken : r ≡ true → false ≡ startFrom o v (b ∷ s)
-  unfolding startFrom
+  pub start-broken : r ≡ true → false ≡ start_from o v (b ∷ s)
+  unfolding start_from
   start-broken y = rw (first_step o v b s, ← e, y) (sym no-white)
 
-  module _ (more low high : ℕ) {v' : ℕ} (n : r ≡ false) (f : columns more low high ≡ expectedAfter o b) (g : Valued o v b v') where
-    pub start-whole : {w : Bool} → more ≡ 0 → w ≡ isWhite v' → w ≡ startFrom o v (b ∷ s)
-    unfolding startFrom
+  module _ (more low high : ℕ) {v' : ℕ} (n : r ≡ false) (f : columns more low high ≡ expected_after o b) (g : Valued o v b v') where
+    pub start-whole : {w : Bool} → more ≡ 0 → w ≡ is_white v' → w ≡ start_from o v (b ∷ s)
+    unfolding start_from
     start-whole z h = h ∙ rw (first_step o v b s, ← e, n, ← f, whole more low high 0, eq-eqb more 0 z, ← g.is)
 
-    pub start-more : (more ≡ 0 → ⊥) → startFrom o v (b ∷ s) ≡ startFrom (columns more low high) v' s
-    unfolding startFrom
+    pub start-more : (more ≡ 0 → ⊥) → start_from o v (b ∷ s) ≡ start_from (columns more low high) v' s
+    unfolding start_from
     start-more z = rw (first_step o v b s, ← e, n, ← f, whole more low high 0, ne_eqb more 0 z, ← g.is)
 
 start-expected : (o : List Range) (v : ℕ) → first_or replacement (decode o v []) ≡ replacement
@@ -272,16 +272,16 @@ unfolding first_or decode
 start-expected [] v = refl
 start-expected (r ∷ o) v = refl
 
-pub start_none : (o : List Range) (v : ℕ) → false ≡ startFrom o v []
-unfolding startFrom
+pub start_none : (o : List Range) (v : ℕ) → false ≡ start_from o v []
+unfolding start_from
 start_none o v = rw start-expected (sym no-white)
 
-pub end-turn : (d : ℕ) (o : List Range) (v b : ℕ) (s : List ℕ) (more low high : ℕ) {r : Bool} {v' d' : ℕ} → d' ≡ (if eqb more 0 then v' else if r then replacement else d) → r ≡ breaks o b → Valued o v b v' → columns more low high ≡ expectedAfter o b → endFrom d o v (b ∷ s) ≡ endFrom d' (columns more low high) v' s
-unfolding endFrom
+pub end-turn : (d : ℕ) (o : List Range) (v b : ℕ) (s : List ℕ) (more low high : ℕ) {r : Bool} {v' d' : ℕ} → d' ≡ (if eqb more 0 then v' else if r then replacement else d) → r ≡ breaks o b → Valued o v b v' → columns more low high ≡ expected_after o b → end_from d o v (b ∷ s) ≡ end_from d' (columns more low high) v' s
+unfolding end_from
 end-turn d o v b s more low high e f g h = rw (last_step o v d b s, e, f, ← h, whole more low high 0, ← g.is)
 
-pub end-done : (d more low high v : ℕ) {w : Bool} → w ≡ isWhite d → (eqb more 0 && w) ≡ endFrom d (columns more low high) v []
-unfolding endFrom decode last_or
+pub end-done : (d more low high v : ℕ) {w : Bool} → w ≡ is_white d → (eqb more 0 && w) ≡ end_from d (columns more low high) v []
+unfolding end_from decode last_or
 end-done d zero low high v e = e
 end-done d (suc n) low high v e = rw (eqb-suc-zero n) (sym no-white)
 

@@ -4,118 +4,118 @@
 -- inlines, then (container only) blocks. HTML container: opening tag, closing tag, content of its sort."
 use Rattle.std.specs.Prelude.{ℕ, [], ◌∷◌, eqb}
 use Rattle.leaves.specs.Text.Lists.{if◌then◌else◌}
-use Rattle.leaves.specs.Sheet.Kinds.{among, isBlock, isInline}
-use Rattle.leaves.specs.Sheet.Kinds.{paragraph, heading, blockQuote, alert, list, htmlContainer}
-use Rattle.leaves.specs.Sheet.Kinds.{footnoteDefinition, table, leafDirective, containerDirective}
-use Rattle.leaves.specs.Sheet.Kinds.{item, row, cell, htmlTag, attribute}
-use Rattle.leaves.specs.Sheet.Kinds.{emphasis, strong, delete, mark, link, image, linkReference, imageReference}
-use Rattle.leaves.specs.Sheet.Kinds.{inlineFootnote, textDirective}
+use Rattle.leaves.specs.Sheet.Kinds.{among, is_block, is_inline}
+use Rattle.leaves.specs.Sheet.Kinds.{paragraph, heading, block_quote, alert, list, html_container}
+use Rattle.leaves.specs.Sheet.Kinds.{footnote_definition, table, leaf_directive, container_directive}
+use Rattle.leaves.specs.Sheet.Kinds.{item, row, cell, html_tag, attribute}
+use Rattle.leaves.specs.Sheet.Kinds.{emphasis, strong, delete, mark, link, image, link_reference, image_reference}
+use Rattle.leaves.specs.Sheet.Kinds.{inline_footnote, text_directive}
 
 -- ---- groups of parents: what a record may hold
-abbrev pub holdsBlocks : ℕ
-holdsBlocks = 0
+abbrev pub holds_blocks : ℕ
+holds_blocks = 0
 
-abbrev pub holdsItems : ℕ
-holdsItems = 1
+abbrev pub holds_items : ℕ
+holds_items = 1
 
-abbrev pub holdsRows : ℕ
-holdsRows = 2
+abbrev pub holds_rows : ℕ
+holds_rows = 2
 
-abbrev pub holdsCells : ℕ
-holdsCells = 3
+abbrev pub holds_cells : ℕ
+holds_cells = 3
 
-abbrev pub holdsInlines : ℕ
-holdsInlines = 4
+abbrev pub holds_inlines : ℕ
+holds_inlines = 4
 
 -- attributes, inlines
-abbrev pub holdsLabel : ℕ
-holdsLabel = 5
+abbrev pub holds_label : ℕ
+holds_label = 5
 
 -- attributes, inlines, blocks
-abbrev pub holdsLabelAndBlocks : ℕ
-holdsLabelAndBlocks = 6
+abbrev pub holds_label_and_blocks : ℕ
+holds_label_and_blocks = 6
 
 -- two tags, blocks
-abbrev pub holdsTagsAndBlocks : ℕ
-holdsTagsAndBlocks = 7
+abbrev pub holds_tags_and_blocks : ℕ
+holds_tags_and_blocks = 7
 
 -- two tags, inlines
-abbrev pub holdsTagsAndInlines : ℕ
-holdsTagsAndInlines = 8
+abbrev pub holds_tags_and_inlines : ℕ
+holds_tags_and_inlines = 8
 
-abbrev pub holdsNothing : ℕ
-holdsNothing = 9
+abbrev pub holds_nothing : ℕ
+holds_nothing = 9
 
 -- directives, and an HTML container by its A ("HTML container 0 blocks, 1 inlines")
-unfoldable pub otherGroup : ℕ → ℕ → ℕ
-otherGroup kind a =
-    if among kind (leafDirective ∷ textDirective ∷ [])
-    then holdsLabel
-    else if eqb kind containerDirective
-    then holdsLabelAndBlocks
-    else if eqb kind htmlContainer
-    then (if eqb a 0 then holdsTagsAndBlocks else holdsTagsAndInlines)
-    else holdsNothing
+unfoldable pub other_group : ℕ → ℕ → ℕ
+other_group kind a =
+    if among kind (leaf_directive ∷ text_directive ∷ [])
+    then holds_label
+    else if eqb kind container_directive
+    then holds_label_and_blocks
+    else if eqb kind html_container
+    then (if eqb a 0 then holds_tags_and_blocks else holds_tags_and_inlines)
+    else holds_nothing
 
 -- the group of a parent, by its kind and its A
-unfoldable pub parentGroup : ℕ → ℕ → ℕ
-parentGroup kind a =
-    if among kind (blockQuote ∷ alert ∷ footnoteDefinition ∷ item ∷ [])
-    then holdsBlocks
+unfoldable pub parent_group : ℕ → ℕ → ℕ
+parent_group kind a =
+    if among kind (block_quote ∷ alert ∷ footnote_definition ∷ item ∷ [])
+    then holds_blocks
     else if eqb kind list
-    then holdsItems
+    then holds_items
     else if eqb kind table
-    then holdsRows
+    then holds_rows
     else if eqb kind row
-    then holdsCells
+    then holds_cells
     else if among kind
     (paragraph ∷ heading ∷ cell ∷ emphasis ∷ strong ∷ delete ∷ mark
-    ∷ link ∷ image ∷ linkReference ∷ imageReference ∷ inlineFootnote ∷ [])
-    then holdsInlines
-    else otherGroup kind a
+    ∷ link ∷ image ∷ link_reference ∷ image_reference ∷ inline_footnote ∷ [])
+    then holds_inlines
+    else other_group kind a
 
 -- ---- groups of children: what a record is to its parent
-abbrev pub blockGroup : ℕ
-blockGroup = 0
+abbrev pub block_group : ℕ
+block_group = 0
 
-abbrev pub itemGroup : ℕ
-itemGroup = 1
+abbrev pub item_group : ℕ
+item_group = 1
 
-abbrev pub rowGroup : ℕ
-rowGroup = 2
+abbrev pub row_group : ℕ
+row_group = 2
 
-abbrev pub cellGroup : ℕ
-cellGroup = 3
+abbrev pub cell_group : ℕ
+cell_group = 3
 
 -- HTML tags
-abbrev pub tagGroup : ℕ
-tagGroup = 4
+abbrev pub tag_group : ℕ
+tag_group = 4
 
-abbrev pub attributeGroup : ℕ
-attributeGroup = 5
+abbrev pub attribute_group : ℕ
+attribute_group = 5
 
-abbrev pub inlineGroup : ℕ
-inlineGroup = 6
+abbrev pub inline_group : ℕ
+inline_group = 6
 
 -- of a kind that is not listed; no parent holds it
-abbrev pub noGroup : ℕ
-noGroup = 7
+abbrev pub no_group : ℕ
+no_group = 7
 
 -- the group of a child, by its kind
-unfoldable pub childGroup : ℕ → ℕ
-childGroup kind =
-    if isBlock kind
-    then blockGroup
+unfoldable pub child_group : ℕ → ℕ
+child_group kind =
+    if is_block kind
+    then block_group
     else if eqb kind item
-    then itemGroup
+    then item_group
     else if eqb kind row
-    then rowGroup
+    then row_group
     else if eqb kind cell
-    then cellGroup
-    else if eqb kind htmlTag
-    then tagGroup
+    then cell_group
+    else if eqb kind html_tag
+    then tag_group
     else if eqb kind attribute
-    then attributeGroup
-    else if isInline kind
-    then inlineGroup
-    else noGroup
+    then attribute_group
+    else if is_inline kind
+    then inline_group
+    else no_group

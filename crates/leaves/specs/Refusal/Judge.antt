@@ -2,41 +2,41 @@
 -- by record; then 10 over all records, giving the first such container".
 use Rattle.std.specs.Prelude.{ℕ, zero, suc, ◌%◌, ◌≡◌, not, List, eqb, ltb, length}
 use Rattle.leaves.specs.Text.Lists.{if◌then◌else◌}
-use Rattle.leaves.specs.Sheet.Records.{recordWords, recordsOf, recordAt}
+use Rattle.leaves.specs.Sheet.Records.{record_words, records_of, record_at}
 use Rattle.leaves.specs.Refusal.Places.{open_at}
-use Rattle.leaves.specs.Refusal.Verdict.{Answer, judgedAnswer, or_else}
-use Rattle.leaves.specs.Refusal.Limits.{mostRecords, mostBytes}
-use Rattle.leaves.specs.Refusal.Record.{levelBefore, judge}
-use Rattle.leaves.specs.Refusal.Tags.{tagsFrom}
+use Rattle.leaves.specs.Refusal.Verdict.{Answer, judged_answer, or_else}
+use Rattle.leaves.specs.Refusal.Limits.{most_records, most_bytes}
+use Rattle.leaves.specs.Refusal.Record.{level_before, judge}
+use Rattle.leaves.specs.Refusal.Tags.{tags_from}
 use Rattle.leaves.specs.declared.refusal.verdict.Judged.{Judged}
 use Rattle.leaves.specs.declared.refusal.verdict.Refusal.TheVariants.{OddSheet, LongSheet, LongText}
 use Rattle.leaves.specs.declared.refusal.verdict.Judged.TheVariants.{Accepted, Refused}
 
 -- the tests 4 to 9 of record i, where it stands
-unfoldable pub judgeAt : List ℕ → List ℕ → ℕ → Judged
-judgeAt w bytes i = judge bytes i (recordAt w i) (levelBefore w i) (open_at w (recordAt w i).level i)
+unfoldable pub judge_at : List ℕ → List ℕ → ℕ → Judged
+judge_at w bytes i = judge bytes i (record_at w i) (level_before w i) (open_at w (record_at w i).level i)
 
 -- of k records from record i on, the first that is refused by 4 to 9
-unfoldable pub judgeFrom : List ℕ → List ℕ → ℕ → ℕ → Judged
-judgeFrom w bytes zero i = Accepted
-judgeFrom w bytes (suc k) i = let later = judgeFrom w bytes k (suc i) in or_else (judgeAt w bytes i) later
+unfoldable pub judge_from : List ℕ → List ℕ → ℕ → ℕ → Judged
+judge_from w bytes zero i = Accepted
+judge_from w bytes (suc k) i = let later = judge_from w bytes k (suc i) in or_else (judge_at w bytes i) later
 
 -- The answer for a sheet and its text.
-unfoldable pub judgeSheet : List ℕ → List ℕ → Judged
-judgeSheet w bytes =
-    if not (eqb (length w % recordWords) 0)
+unfoldable pub judge_sheet : List ℕ → List ℕ → Judged
+judge_sheet w bytes =
+    if not (eqb (length w % record_words) 0)
     then Refused OddSheet
-    else if ltb mostRecords (recordsOf w)
+    else if ltb most_records (records_of w)
     then Refused LongSheet
-    else if ltb mostBytes (length bytes)
+    else if ltb most_bytes (length bytes)
     then Refused LongText
-    else or_else (judgeFrom w bytes (recordsOf w) 0) (tagsFrom w (recordsOf w) (recordsOf w) 0)
+    else or_else (judge_from w bytes (records_of w) 0) (tags_from w (records_of w) (records_of w) 0)
 
 -- The same by document 01's number and record; both are 0 where the sheet is accepted.
-abbrev pub sheetAnswer : List ℕ → List ℕ → Answer
-sheetAnswer w bytes = judgedAnswer (judgeSheet w bytes)
+abbrev pub sheet_answer : List ℕ → List ℕ → Answer
+sheet_answer w bytes = judged_answer (judge_sheet w bytes)
 
 -- What an answer for a sheet and its text has to be: by number and record, and as an enum.
 pub record Judges (w bytes : List ℕ) (j : Judged) : Type 0 where
-  pub answer : judgedAnswer j ≡ sheetAnswer w bytes
-  pub enum : j ≡ judgeSheet w bytes
+  pub answer : judged_answer j ≡ sheet_answer w bytes
+  pub enum : j ≡ judge_sheet w bytes

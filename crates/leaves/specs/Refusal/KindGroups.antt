@@ -1,9 +1,9 @@
 -- The table that the code reads: the two groups of each kind, from kind 0 on, as a parent whose A is 0 and as a child.
--- A reader need not believe it: the proofs equate it with `parentGroup` and `childGroup`.
+-- A reader need not believe it: the proofs equate it with `parent_group` and `child_group`.
 use Rattle.std.specs.Prelude.{ℕ, List, [], ◌∷◌}
 
-unfoldable pub kindGroups : List (List ℕ)
-kindGroups =
+unfoldable pub kind_groups : List (List ℕ)
+kind_groups =
     (9 ∷ 7 ∷ [])  -- 0: no kind
     ∷ (4 ∷ 0 ∷ [])  -- paragraph
     ∷ (4 ∷ 0 ∷ [])  -- heading

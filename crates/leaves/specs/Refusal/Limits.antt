@@ -2,11 +2,11 @@
 use Rattle.std.specs.Prelude.{ℕ}
 
 -- 2: "over 65,535 records"; 3: "over 16,777,216 bytes"; 5: a level "over 64"
-abbrev pub mostRecords : ℕ
-mostRecords = 65535
+abbrev pub most_records : ℕ
+most_records = 65535
 
-abbrev pub mostBytes : ℕ
-mostBytes = 16777216
+abbrev pub most_bytes : ℕ
+most_bytes = 16777216
 
-abbrev pub mostLevel : ℕ
-mostLevel = 64
+abbrev pub most_level : ℕ
+most_level = 64

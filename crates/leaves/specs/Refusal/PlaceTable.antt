@@ -4,8 +4,8 @@
 -- row, cell, HTML tag, attribute, inline. 0: not allowed there.
 use Rattle.std.specs.Prelude.{ℕ, List, [], ◌∷◌}
 
-unfoldable pub placeTable : List (List ℕ)
-placeTable =
+unfoldable pub place_table : List (List ℕ)
+place_table =
     -- blocks
     (1 ∷ 0 ∷ 0 ∷ 0 ∷ 0 ∷ 0 ∷ 0 ∷ [])
     -- items

@@ -4,45 +4,45 @@
 -- inlines, then (container only) blocks. HTML container: opening tag, closing tag, content of its sort."
 use Rattle.std.specs.Prelude.{ℕ, suc, ◌+◌, Bool, not, ◌&&◌, ◌||◌, List, [], ◌∷◌, eqb, ltb, leb}
 use Rattle.leaves.specs.Text.Lists.{if◌then◌else◌}
-use Rattle.leaves.specs.Sheet.Kinds.{htmlTag}
+use Rattle.leaves.specs.Sheet.Kinds.{html_tag}
 use Rattle.leaves.specs.Sheet.Siblings.{gather}
-use Rattle.leaves.specs.Refusal.Groups.{holdsBlocks, holdsItems, holdsRows, holdsCells, holdsInlines}
-use Rattle.leaves.specs.Refusal.Groups.{holdsLabel, holdsLabelAndBlocks}
-use Rattle.leaves.specs.Refusal.Groups.{holdsTagsAndBlocks, holdsTagsAndInlines}
-use Rattle.leaves.specs.Refusal.Groups.{blockGroup, itemGroup, rowGroup, cellGroup}
-use Rattle.leaves.specs.Refusal.Groups.{tagGroup, attributeGroup, inlineGroup, parentGroup, childGroup}
+use Rattle.leaves.specs.Refusal.Groups.{holds_blocks, holds_items, holds_rows, holds_cells, holds_inlines}
+use Rattle.leaves.specs.Refusal.Groups.{holds_label, holds_label_and_blocks}
+use Rattle.leaves.specs.Refusal.Groups.{holds_tags_and_blocks, holds_tags_and_inlines}
+use Rattle.leaves.specs.Refusal.Groups.{block_group, item_group, row_group, cell_group}
+use Rattle.leaves.specs.Refusal.Groups.{tag_group, attribute_group, inline_group, parent_group, child_group}
 use Rattle.leaves.specs.declared.refusal.places.Open.{Open}
 
 -- ---- what a parent holds: the groups of children, in the order in which they stand under it
 unfoldable pub holds : ℕ → List ℕ
 holds group =
     -- "blocks under the sheet, quote, alert, item and footnote definition"
-    if eqb group holdsBlocks
-    then blockGroup ∷ []
+    if eqb group holds_blocks
+    then block_group ∷ []
     -- "items under list"
-    else if eqb group holdsItems
-    then itemGroup ∷ []
+    else if eqb group holds_items
+    then item_group ∷ []
     -- "rows, then cells": rows under table
-    else if eqb group holdsRows
-    then rowGroup ∷ []
+    else if eqb group holds_rows
+    then row_group ∷ []
     -- and cells under row
-    else if eqb group holdsCells
-    then cellGroup ∷ []
+    else if eqb group holds_cells
+    then cell_group ∷ []
     -- "inlines under paragraph, heading, cell and what `Inline::children` lists"
-    else if eqb group holdsInlines
-    then inlineGroup ∷ []
+    else if eqb group holds_inlines
+    then inline_group ∷ []
     -- "Directives: attributes, then inlines"
-    else if eqb group holdsLabel
-    then attributeGroup ∷ inlineGroup ∷ []
+    else if eqb group holds_label
+    then attribute_group ∷ inline_group ∷ []
     -- "then (container only) blocks"
-    else if eqb group holdsLabelAndBlocks
-    then attributeGroup ∷ inlineGroup ∷ blockGroup ∷ []
+    else if eqb group holds_label_and_blocks
+    then attribute_group ∷ inline_group ∷ block_group ∷ []
     -- "HTML container: opening tag, closing tag, content of its sort": blocks
-    else if eqb group holdsTagsAndBlocks
-    then tagGroup ∷ blockGroup ∷ []
+    else if eqb group holds_tags_and_blocks
+    then tag_group ∷ block_group ∷ []
     -- or inlines
-    else if eqb group holdsTagsAndInlines
-    then tagGroup ∷ inlineGroup ∷ []
+    else if eqb group holds_tags_and_inlines
+    then tag_group ∷ inline_group ∷ []
     -- every other kind has no children
     else []
 
@@ -55,7 +55,7 @@ place_in first (group ∷ groups) child =
 
 -- the place of a kind under a group of parents, from 1 on; 0 where it is not allowed there
 unfoldable pub place_of : ℕ → ℕ → ℕ
-place_of group kind = place_in 1 (holds group) (childGroup kind)
+place_of group kind = place_in 1 (holds group) (child_group kind)
 
 -- ---- what stands before a record under its parent
 -- `Open` is the code's struct of three numbers: the parent's group, the place of the child before the record (0 where
@@ -71,7 +71,7 @@ joined o kind =
     record {
       group = o.group;
       stage = place_of o.group kind;
-      tags = if eqb kind htmlTag then o.tags + 1 else o.tags;
+      tags = if eqb kind html_tag then o.tags + 1 else o.tags;
     }
 
 -- Document 01, refusal 6: "not allowed under its parent, or out of order there; a third HTML tag, or content before the
@@ -79,17 +79,17 @@ joined o kind =
 unfoldable pub misplaced : Open → ℕ → Bool
 misplaced o kind =
     let place = place_of o.group kind in
-    let container = eqb o.group holdsTagsAndBlocks || eqb o.group holdsTagsAndInlines in
+    let container = eqb o.group holds_tags_and_blocks || eqb o.group holds_tags_and_inlines in
     eqb place 0
     || ltb place o.stage
-    || eqb kind htmlTag && leb 2 o.tags
-    || container && not (eqb kind htmlTag) && ltb o.tags 2
+    || eqb kind html_tag && leb 2 o.tags
+    || container && not (eqb kind html_tag) && ltb o.tags 2
 
 -- What stands before record i of the sheet, where its level is `level`. The sheet itself holds blocks.
 unfoldable pub open_at : List ℕ → ℕ → ℕ → Open
 open_at w level i =
     gather
-    (opened holdsBlocks)
-    (λ r. opened (parentGroup r.kind r.a))
+    (opened holds_blocks)
+    (λ r. opened (parent_group r.kind r.a))
     (λ o r. joined o r.kind)
     w level i

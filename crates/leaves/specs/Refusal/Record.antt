@@ -1,12 +1,12 @@
 -- The tests of one record. Document 01, 'The call': "then 4 to 9 record by record".
 use Rattle.std.specs.Prelude.{ℕ, zero, suc, ◌+◌, Bool, not, ◌||◌, List, eqb, ltb}
 use Rattle.leaves.specs.Text.Lists.{if◌then◌else◌}
-use Rattle.leaves.specs.Sheet.Kinds.{isKind}
-use Rattle.leaves.specs.Sheet.Records.{recordAt}
+use Rattle.leaves.specs.Sheet.Kinds.{is_kind}
+use Rattle.leaves.specs.Sheet.Records.{record_at}
 use Rattle.leaves.specs.Refusal.Places.{misplaced}
-use Rattle.leaves.specs.Refusal.Fields.{badField}
-use Rattle.leaves.specs.Sheet.Texts.{textOutside, textIllFormed}
-use Rattle.leaves.specs.Refusal.Limits.{mostLevel}
+use Rattle.leaves.specs.Refusal.Fields.{bad_field}
+use Rattle.leaves.specs.Sheet.Texts.{text_outside, text_ill_formed}
+use Rattle.leaves.specs.Refusal.Limits.{most_level}
 use Rattle.leaves.specs.declared.sheet.records.Rec.{Rec}
 use Rattle.leaves.specs.declared.refusal.places.Open.{Open}
 use Rattle.leaves.specs.declared.refusal.verdict.Judged.{Judged}
@@ -21,20 +21,20 @@ use Rattle.leaves.specs.declared.refusal.verdict.Refusal.TheVariants.{
 use Rattle.leaves.specs.declared.refusal.verdict.Judged.TheVariants.{Accepted, Refused}
 
 -- the level of the record before; 0 before the first
-unfoldable pub levelBefore : List ℕ → ℕ → ℕ
-levelBefore w zero = 0
-levelBefore w (suc i) = (recordAt w i).level
+unfoldable pub level_before : List ℕ → ℕ → ℕ
+level_before w zero = 0
+level_before w (suc i) = (record_at w i).level
 
 -- 5: "0, over 64, first record not 1, or over previous plus 1"
-unfoldable pub badLevel : ℕ → ℕ → Bool
-badLevel before level = eqb level 0 || ltb mostLevel level || ltb (before + 1) level
+unfoldable pub bad_level : ℕ → ℕ → Bool
+bad_level before level = eqb level 0 || ltb most_level level || ltb (before + 1) level
 
 -- the tests 8 and 9: test 8 is made of both texts before test 9
-unfoldable pub judgeTexts : List ℕ → ℕ → Rec → Judged
-judgeTexts bytes i r =
-    if textOutside bytes r.first || textOutside bytes r.second
+unfoldable pub judge_texts : List ℕ → ℕ → Rec → Judged
+judge_texts bytes i r =
+    if text_outside bytes r.first || text_outside bytes r.second
     then Refused (TextOutside i)
-    else if textIllFormed bytes r.first || textIllFormed bytes r.second
+    else if text_ill_formed bytes r.first || text_ill_formed bytes r.second
     then Refused (NotUtf8 i)
     else Accepted
 
@@ -42,12 +42,12 @@ judgeTexts bytes i r =
 -- it under its parent.
 unfoldable pub judge : List ℕ → ℕ → Rec → ℕ → Open → Judged
 judge bytes i r before o =
-    if not (isKind r.kind)
+    if not (is_kind r.kind)
     then Refused (UnknownKind i)
-    else if badLevel before r.level
+    else if bad_level before r.level
     then Refused (BadLevel i)
     else if misplaced o r.kind
     then Refused (Misplaced i)
-    else if badField r
+    else if bad_field r
     then Refused (BadField i)
-    else judgeTexts bytes i r
+    else judge_texts bytes i r

@@ -26,27 +26,27 @@ abbrev pub answer : ℕ → ℕ → Answer
 answer n v = record { number = n; value = v }
 
 -- The table of refusals: "A refusal returns number and record (from 0; 0 for 1–3 ..)".
-abbrev pub refusalAnswer : Refusal → Answer
-refusalAnswer OddSheet = answer 1 0
-refusalAnswer LongSheet = answer 2 0
-refusalAnswer LongText = answer 3 0
-refusalAnswer (UnknownKind i) = answer 4 i
-refusalAnswer (BadLevel i) = answer 5 i
-refusalAnswer (Misplaced i) = answer 6 i
-refusalAnswer (BadField i) = answer 7 i
-refusalAnswer (TextOutside i) = answer 8 i
-refusalAnswer (NotUtf8 i) = answer 9 i
-refusalAnswer (TagsMissing i) = answer 10 i
+abbrev pub refusal_answer : Refusal → Answer
+refusal_answer OddSheet = answer 1 0
+refusal_answer LongSheet = answer 2 0
+refusal_answer LongText = answer 3 0
+refusal_answer (UnknownKind i) = answer 4 i
+refusal_answer (BadLevel i) = answer 5 i
+refusal_answer (Misplaced i) = answer 6 i
+refusal_answer (BadField i) = answer 7 i
+refusal_answer (TextOutside i) = answer 8 i
+refusal_answer (NotUtf8 i) = answer 9 i
+refusal_answer (TagsMissing i) = answer 10 i
 
 -- number and record of the answer for a sheet; both are 0 where it is accepted
-abbrev pub judgedAnswer : Judged → Answer
-judgedAnswer Accepted = answer 0 0
-judgedAnswer (Refused refusal) = refusalAnswer refusal
+abbrev pub judged_answer : Judged → Answer
+judged_answer Accepted = answer 0 0
+judged_answer (Refused refusal) = refusal_answer refusal
 
-abbrev pub isAccepted : Judged → Bool
-isAccepted Accepted = true
-isAccepted (Refused refusal) = false
+abbrev pub is_accepted : Judged → Bool
+is_accepted Accepted = true
+is_accepted (Refused refusal) = false
 
 -- the first where it is a refusal, else the other
 unfoldable pub or_else : Judged → Judged → Judged
-or_else j other = if isAccepted j then other else j
+or_else j other = if is_accepted j then other else j

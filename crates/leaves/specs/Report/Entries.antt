@@ -19,8 +19,8 @@ unfoldable pub words : Entry → List ℕ
 words e = e.rule ∷ e.span.flag ∷ e.span.start ∷ e.span.end ∷ length e.path ∷ e.path
 
 -- how many words stand before the path
-abbrev pub headWords : ℕ
-headWords = 5
+abbrev pub head_words : ℕ
+head_words = 5
 
 -- the words of a list of entries, one entry behind the other
 unfoldable pub flat : List Entry → List ℕ
@@ -33,9 +33,9 @@ unfoldable pub ◌⊕◌ : List Entry → List Entry → List Entry
 es ⊕ fs = es ++ fs
 
 -- the entry where the fault holds, and nothing where it does not
-unfoldable pub listIf : Bool → ℕ → Span → List ℕ → List Entry
-listIf true rule span path = record { rule = rule; span = span; path = path } ∷ []
-listIf false rule span path = []
+unfoldable pub list_if : Bool → ℕ → Span → List ℕ → List Entry
+list_if true rule span path = record { rule = rule; span = span; path = path } ∷ []
+list_if false rule span path = []
 
 -- ---- the tally: how many words and entries the list has so far
 
@@ -83,23 +83,23 @@ fitting n (e ∷ es) =
 -- ---- reading back
 
 -- how long the path of the entry at the front of the words is
-abbrev pub pathLength : List ℕ → ℕ
-pathLength w = get_or w 4 0
+abbrev pub path_length : List ℕ → ℕ
+path_length w = get_or w 4 0
 
 -- the entry at the front of the words
-abbrev pub firstEntry : List ℕ → Entry
-firstEntry w =
+abbrev pub first_entry : List ℕ → Entry
+first_entry w =
     record {
       rule = get_or w 0 0;
       span = record { flag = get_or w 1 0; start = get_or w 2 0; end = get_or w 3 0 };
-      path = take (pathLength w) (drop headWords w);
+      path = take (path_length w) (drop head_words w);
     }
 
 -- the words behind it
-abbrev pub pastFirst : List ℕ → List ℕ
-pastFirst w = drop (pathLength w) (drop headWords w)
+abbrev pub past_first : List ℕ → List ℕ
+past_first w = drop (path_length w) (drop head_words w)
 
 -- n entries read back from the front of the words
-unfoldable pub entriesIn : ℕ → List ℕ → List Entry
-entriesIn zero w = []
-entriesIn (suc n) w = firstEntry w ∷ entriesIn n (pastFirst w)
+unfoldable pub entries_in : ℕ → List ℕ → List Entry
+entries_in zero w = []
+entries_in (suc n) w = first_entry w ∷ entries_in n (past_first w)

@@ -10,8 +10,8 @@ abbrev pub is_empty : Text → Bool
 is_empty t = eqb t.len 0
 
 -- `is_empty_text` of validate.rs
-abbrev pub isEmptyText : Rec → Bool
-isEmptyText r = eqb r.kind text && is_empty r.first
+abbrev pub is_empty_text : Rec → Bool
+is_empty_text r = eqb r.kind text && is_empty r.first
 
 -- the text where `counts` holds, else a text of no bytes
 abbrev pub only_if : Bool → Text → Text

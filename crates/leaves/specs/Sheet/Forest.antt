@@ -3,7 +3,7 @@
 use Rattle.std.specs.Prelude.{List, [], ◌∷◌, ◌++◌, ℕ, zero, suc, ◌+◌, ◌-◌, ltb, eqb}
 use Rattle.leaves.specs.Text.Lists.{if◌then◌else◌}
 use Rattle.leaves.specs.declared.sheet.records.Rec.{Rec}
-use Rattle.leaves.specs.Sheet.Records.{recordAt, recordsOf}
+use Rattle.leaves.specs.Sheet.Records.{record_at, records_of}
 
 pub data Forest : Type 0 where
   none : Forest
@@ -24,17 +24,17 @@ unfoldable pub grow : Rec → Forest → Forest
 grow r f = tree r (deeper r.level f) (past r.level f)
 
 -- the trees of k records from record i on
-unfoldable pub forestAt : List ℕ → ℕ → ℕ → Forest
-forestAt w zero i = none
-forestAt w (suc k) i = grow (recordAt w i) (forestAt w k (suc i))
+unfoldable pub forest_at : List ℕ → ℕ → ℕ → Forest
+forest_at w zero i = none
+forest_at w (suc k) i = grow (record_at w i) (forest_at w k (suc i))
 
 -- of n records, the trees from record `from` on that are deeper than a level
 abbrev pub under : List ℕ → ℕ → ℕ → ℕ → Forest
-under w n from level = deeper level (forestAt w (n - from) from)
+under w n from level = deeper level (forest_at w (n - from) from)
 
 -- the trees of a sheet
-unfoldable pub forestOf : List ℕ → Forest
-forestOf w = forestAt w (recordsOf w) 0
+unfoldable pub forest_of : List ℕ → Forest
+forest_of w = forest_at w (records_of w) 0
 
 -- how many records a forest holds
 unfoldable pub size : Forest → ℕ
@@ -47,16 +47,16 @@ count none = 0
 count (tree r kids rest) = suc (count rest)
 
 -- how many trees side by side have a record of a kind at their top
-unfoldable pub countKind : ℕ → Forest → ℕ
-countKind k none = 0
-countKind k (tree r kids rest) = if eqb r.kind k then suc (countKind k rest) else countKind k rest
+unfoldable pub count_kind : ℕ → Forest → ℕ
+count_kind k none = 0
+count_kind k (tree r kids rest) = if eqb r.kind k then suc (count_kind k rest) else count_kind k rest
 
 -- the records of a forest, in their order
-unfoldable pub recordsIn : Forest → List Rec
-recordsIn none = []
-recordsIn (tree r kids rest) = r ∷ recordsIn kids ++ recordsIn rest
+unfoldable pub records_in : Forest → List Rec
+records_in none = []
+records_in (tree r kids rest) = r ∷ records_in kids ++ records_in rest
 
 -- k records from record i on
-unfoldable pub recordsFrom : List ℕ → ℕ → ℕ → List Rec
-recordsFrom w zero i = []
-recordsFrom w (suc k) i = recordAt w i ∷ recordsFrom w k (suc i)
+unfoldable pub records_from : List ℕ → ℕ → ℕ → List Rec
+records_from w zero i = []
+records_from w (suc k) i = record_at w i ∷ records_from w k (suc i)

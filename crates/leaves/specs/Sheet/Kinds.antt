@@ -10,11 +10,11 @@ paragraph = 1
 abbrev pub heading : ℕ
 heading = 2
 
-abbrev pub thematicBreak : ℕ
-thematicBreak = 3
+abbrev pub thematic_break : ℕ
+thematic_break = 3
 
-abbrev pub blockQuote : ℕ
-blockQuote = 4
+abbrev pub block_quote : ℕ
+block_quote = 4
 
 abbrev pub alert : ℕ
 alert = 5
@@ -22,38 +22,38 @@ alert = 5
 abbrev pub list : ℕ
 list = 6
 
-abbrev pub codeBlock : ℕ
-codeBlock = 7
+abbrev pub code_block : ℕ
+code_block = 7
 
-abbrev pub htmlBlock : ℕ
-htmlBlock = 8
+abbrev pub html_block : ℕ
+html_block = 8
 
-abbrev pub htmlContainer : ℕ
-htmlContainer = 9
+abbrev pub html_container : ℕ
+html_container = 9
 
 abbrev pub definition : ℕ
 definition = 10
 
-abbrev pub footnoteDefinition : ℕ
-footnoteDefinition = 11
+abbrev pub footnote_definition : ℕ
+footnote_definition = 11
 
 abbrev pub table : ℕ
 table = 12
 
-abbrev pub mathBlock : ℕ
-mathBlock = 13
+abbrev pub math_block : ℕ
+math_block = 13
 
 abbrev pub frontmatter : ℕ
 frontmatter = 14
 
-abbrev pub leafDirective : ℕ
-leafDirective = 15
+abbrev pub leaf_directive : ℕ
+leaf_directive = 15
 
-abbrev pub containerDirective : ℕ
-containerDirective = 16
+abbrev pub container_directive : ℕ
+container_directive = 16
 
-abbrev pub blankLine : ℕ
-blankLine = 17
+abbrev pub blank_line : ℕ
+blank_line = 17
 
 -- parts of blocks
 abbrev pub item : ℕ
@@ -65,8 +65,8 @@ row = 21
 abbrev pub cell : ℕ
 cell = 22
 
-abbrev pub htmlTag : ℕ
-htmlTag = 23
+abbrev pub html_tag : ℕ
+html_tag = 23
 
 abbrev pub attribute : ℕ
 attribute = 24
@@ -78,8 +78,8 @@ text = 31
 abbrev pub escape : ℕ
 escape = 32
 
-abbrev pub characterReference : ℕ
-characterReference = 33
+abbrev pub character_reference : ℕ
+character_reference = 33
 
 abbrev pub emphasis : ℕ
 emphasis = 34
@@ -108,54 +108,54 @@ autolink = 41
 abbrev pub image : ℕ
 image = 42
 
-abbrev pub linkReference : ℕ
-linkReference = 43
+abbrev pub link_reference : ℕ
+link_reference = 43
 
-abbrev pub imageReference : ℕ
-imageReference = 44
+abbrev pub image_reference : ℕ
+image_reference = 44
 
 abbrev pub html : ℕ
 html = 45
 
-abbrev pub softBreak : ℕ
-softBreak = 46
+abbrev pub soft_break : ℕ
+soft_break = 46
 
-abbrev pub lineBreak : ℕ
-lineBreak = 47
+abbrev pub line_break : ℕ
+line_break = 47
 
 abbrev pub math : ℕ
 math = 48
 
-abbrev pub footnoteReference : ℕ
-footnoteReference = 49
+abbrev pub footnote_reference : ℕ
+footnote_reference = 49
 
-abbrev pub inlineFootnote : ℕ
-inlineFootnote = 50
+abbrev pub inline_footnote : ℕ
+inline_footnote = 50
 
-abbrev pub wikiLink : ℕ
-wikiLink = 51
+abbrev pub wiki_link : ℕ
+wiki_link = 51
 
-abbrev pub textDirective : ℕ
-textDirective = 52
+abbrev pub text_directive : ℕ
+text_directive = 52
 
 abbrev pub tag : ℕ
 tag = 53
 
 -- whether k is one of the kinds listed
-abbrev pub orAmong : Bool → ℕ → List ℕ → Bool
-orAmong found k [] = found
-orAmong found k (n ∷ ns) = orAmong (found || eqb k n) k ns
+abbrev pub or_among : Bool → ℕ → List ℕ → Bool
+or_among found k [] = found
+or_among found k (n ∷ ns) = or_among (found || eqb k n) k ns
 
 abbrev pub among : ℕ → List ℕ → Bool
 among k [] = false
-among k (n ∷ ns) = orAmong (eqb k n) k ns
+among k (n ∷ ns) = or_among (eqb k n) k ns
 
-abbrev pub isBlock : ℕ → Bool
-isBlock k = between 1 17 k
+abbrev pub is_block : ℕ → Bool
+is_block k = between 1 17 k
 
-abbrev pub isInline : ℕ → Bool
-isInline k = between 31 53 k
+abbrev pub is_inline : ℕ → Bool
+is_inline k = between 31 53 k
 
 -- a kind that is listed (refusal 4)
-abbrev pub isKind : ℕ → Bool
-isKind k = isBlock k || between 20 24 k || isInline k
+abbrev pub is_kind : ℕ → Bool
+is_kind k = is_block k || between 20 24 k || is_inline k

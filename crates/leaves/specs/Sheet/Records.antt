@@ -5,24 +5,24 @@ use Rattle.leaves.specs.declared.sheet.records.Rec.{Rec}
 use Rattle.leaves.specs.declared.sheet.records.Text.{Text}
 
 -- how many words a record has (refusal 1: "words not a multiple of 12")
-abbrev pub recordWords : ℕ
-recordWords = 12
+abbrev pub record_words : ℕ
+record_words = 12
 
 -- how many records a sheet has
-abbrev pub recordsOf : List ℕ → ℕ
-recordsOf w = length w / recordWords
+abbrev pub records_of : List ℕ → ℕ
+records_of w = length w / record_words
 
 -- word k of record i
 abbrev pub word_at : List ℕ → ℕ → ℕ → ℕ
-word_at w i k = get_or w (i * recordWords + k) 0
+word_at w i k = get_or w (i * record_words + k) 0
 
 -- the text whose start is word k
-abbrev pub textAt : List ℕ → ℕ → ℕ → Text
-textAt w i k = record { start = word_at w i k; len = word_at w i (k + 1) }
+abbrev pub text_at : List ℕ → ℕ → ℕ → Text
+text_at w i k = record { start = word_at w i k; len = word_at w i (k + 1) }
 
 -- record i, counted from 0
-unfoldable pub recordAt : List ℕ → ℕ → Rec
-recordAt w i =
+unfoldable pub record_at : List ℕ → ℕ → Rec
+record_at w i =
     record {
       kind = word_at w i 0;
       level = word_at w i 1;
@@ -30,6 +30,6 @@ recordAt w i =
       a = word_at w i 5;
       b = word_at w i 6;
       c = word_at w i 7;
-      first = textAt w i 8;
-      second = textAt w i 10;
+      first = text_at w i 8;
+      second = text_at w i 10;
     }

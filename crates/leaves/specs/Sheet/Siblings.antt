@@ -1,7 +1,7 @@
 -- What stands before a record under its parent.
 use Rattle.std.specs.Prelude.{List, ℕ, zero, suc, ◌+◌, eqb}
 use Rattle.leaves.specs.Text.Lists.{if◌then◌else◌}
-use Rattle.leaves.specs.Sheet.Records.{recordAt}
+use Rattle.leaves.specs.Sheet.Records.{record_at}
 use Rattle.leaves.specs.declared.sheet.records.Rec.{Rec}
 
 -- Of the records before record i, the parent is the nearest that is one level above `level` (document 01: "Parent:
@@ -12,7 +12,7 @@ unfoldable pub gather : {A : Type 0} → A → (Rec → A) → (A → Rec → A)
 gather sheet first next w level zero = sheet
 gather sheet first next w level (suc i) =
     let before = gather sheet first next w level i in
-    let r = recordAt w i in
+    let r = record_at w i in
     if eqb (r.level + 1) level
     then first r
     else if eqb r.level level

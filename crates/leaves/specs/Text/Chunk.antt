@@ -12,12 +12,12 @@ passes test (suc n) [] = false
 passes test (suc n) (b ∷ s) = test b && passes test n s
 
 -- a byte of ASCII
-abbrev pub isAscii : ℕ → Bool
-isAscii b = ltb b 0x80
+abbrev pub is_ascii : ℕ → Bool
+is_ascii b = ltb b 0x80
 
 -- a byte that is neither of two
-abbrev pub isNeither : ℕ → ℕ → ℕ → Bool
-isNeither x y b = not (eqb b x) && not (eqb b y)
+abbrev pub is_neither : ℕ → ℕ → ℕ → Bool
+is_neither x y b = not (eqb b x) && not (eqb b y)
 
 -- from `from` to `to` every byte is there and passes the test
 pub record Past (test : ℕ → Bool) (s : List ℕ) (from to : ℕ) : Type 0 where

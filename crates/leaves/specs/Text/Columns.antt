@@ -3,7 +3,7 @@
 use Rattle.std.specs.Prelude.{ℕ, zero, suc, ◌+◌, ◌*◌, ◌≡◌, Bool, true, ◌&&◌, List, [], ◌∷◌, ◌++◌, eqb, length, get_or, take, drop}
 use Rattle.leaves.specs.Text.Bytes.{lf}
 use Rattle.leaves.specs.Text.Lists.{over}
-use Rattle.leaves.specs.Text.Field.{places, field, readField, number_of, is_number}
+use Rattle.leaves.specs.Text.Field.{places, field, read_field, number_of, is_number}
 
 -- ---- a line as it is written
 
@@ -23,19 +23,19 @@ pub record Writes (old : List ℕ) (at : ℕ) (bytes new : List ℕ) (next : ℕ
 -- ---- a line as it is read, from the front of s
 
 -- how many bytes a line of k fields has
-abbrev pub lineBytes : ℕ → ℕ
-lineBytes k = k * places + 1
+abbrev pub line_bytes : ℕ → ℕ
+line_bytes k = k * places + 1
 
 -- the first k fields are well-formed
-unfoldable pub areFields : ℕ → List ℕ → Bool
-areFields zero s = true
-areFields (suc k) s = is_number (readField (take places s)) && areFields k (drop places s)
+unfoldable pub are_fields : ℕ → List ℕ → Bool
+are_fields zero s = true
+are_fields (suc k) s = is_number (read_field (take places s)) && are_fields k (drop places s)
 
 -- a line of k fields and no more stands at the front: LF follows the last field
 unfoldable pub is_line : ℕ → List ℕ → Bool
-is_line k s = areFields k s && eqb (get_or s (k * places) 0) lf
+is_line k s = are_fields k s && eqb (get_or s (k * places) 0) lf
 
 -- the numbers of the first k fields
 unfoldable pub numbers : ℕ → List ℕ → List ℕ
 numbers zero s = []
-numbers (suc k) s = number_of (readField (take places s)) ∷ numbers k (drop places s)
+numbers (suc k) s = number_of (read_field (take places s)) ∷ numbers k (drop places s)

@@ -1,9 +1,9 @@
 -- The first and the last line of a value. Rule 27.
 use Rattle.std.specs.Prelude.{ℕ, Bool, ◌||◌, List, []}
 use Rattle.leaves.specs.Text.Lists.{first_or, last_or}
-use Rattle.leaves.specs.Text.Lines.{isBlank, lines}
+use Rattle.leaves.specs.Text.Lines.{is_blank, lines}
 
 -- Rule 27 on a value, `validate_code_block` of validate.rs: its first or its last line is blank. A value with no line
 -- counts as one blank line.
-unfoldable pub hasBlankEdgeLine : List ℕ → Bool
-hasBlankEdgeLine s = isBlank (first_or [] (lines s)) || isBlank (last_or [] (lines s))
+unfoldable pub has_blank_edge_line : List ℕ → Bool
+has_blank_edge_line s = is_blank (first_or [] (lines s)) || is_blank (last_or [] (lines s))

@@ -4,7 +4,7 @@
 -- that are read as a number are that number written (`read-written`), and no number is written as malformed bytes
 -- (`malformed-unwritten`).
 use Rattle.std.specs.Prelude.{ℕ, zero, suc, ◌+◌, ◌-◌, ◌*◌, ◌/◌, ◌%◌, Bool, true, false, ◌&&◌, ◌||◌, List, [], ◌∷◌, ◌++◌, eqb, ltb, leb, length, get_or}
-use Rattle.leaves.specs.Text.Bytes.{space, isDigit}
+use Rattle.leaves.specs.Text.Bytes.{space, is_digit}
 use Rattle.leaves.specs.Text.Lists.{if◌then◌else◌}
 use Rattle.leaves.specs.declared.text.field.Column.{Column}
 use Rattle.leaves.specs.declared.text.field.Column.TheVariants.{Number, Malformed}
@@ -14,26 +14,26 @@ abbrev pub places : ℕ
 places = 11
 
 -- "at most 4,294,967,295"
-abbrev pub mostNumber : ℕ
-mostNumber = 4294967295
+abbrev pub most_number : ℕ
+most_number = 4294967295
 
 -- the byte `0`, and the byte of each digit
-abbrev pub digitZero : ℕ
-digitZero = 48
+abbrev pub digit_zero : ℕ
+digit_zero = 48
 
 abbrev pub digit : ℕ → ℕ
-digit d = digitZero + d
+digit d = digit_zero + d
 
 -- ---- a field as it is written
 
 -- the byte of a number's last digit; a space where nothing is left of the number
-abbrev pub lastPlace : ℕ → ℕ
-lastPlace n = if eqb n 0 then space else digit (n % 10)
+abbrev pub last_place : ℕ → ℕ
+last_place n = if eqb n 0 then space else digit (n % 10)
 
 -- k places with what is left of a number, its last digit in the last of them
 unfoldable pub front : ℕ → ℕ → List ℕ
 front zero n = []
-front (suc k) n = front k (n / 10) ++ lastPlace n ∷ []
+front (suc k) n = front k (n / 10) ++ last_place n ∷ []
 
 -- the last place always has a digit, so 0 is `0`
 unfoldable pub field : ℕ → List ℕ
@@ -42,27 +42,27 @@ field n = front 10 (n / 10) ++ digit (n % 10) ∷ []
 -- ---- a field as it is read
 
 -- the bytes without their leading spaces
-unfoldable pub pastSpaces : List ℕ → List ℕ
-pastSpaces [] = []
-pastSpaces (b ∷ s) = if eqb b space then pastSpaces s else b ∷ s
+unfoldable pub past_spaces : List ℕ → List ℕ
+past_spaces [] = []
+past_spaces (b ∷ s) = if eqb b space then past_spaces s else b ∷ s
 
 -- the number that has the digits of n and then these: "decimal, at most 4,294,967,295"
-unfoldable pub readDigits : ℕ → List ℕ → Column
-readDigits n [] = Number n
-readDigits n (b ∷ s) =
-    let more = n * 10 + (b - digitZero) in
-    if isDigit b && leb more mostNumber then readDigits more s else Malformed
+unfoldable pub read_digits : ℕ → List ℕ → Column
+read_digits n [] = Number n
+read_digits n (b ∷ s) =
+    let more = n * 10 + (b - digit_zero) in
+    if is_digit b && leb more most_number then read_digits more s else Malformed
 
 -- at least one digit, and no 0 in front of other digits: "no leading zeros"
-unfoldable pub readNumber : List ℕ → Column
-readNumber s =
-    if eqb (length s) 0 || (eqb (get_or s 0 0) digitZero && ltb 1 (length s))
+unfoldable pub read_number : List ℕ → Column
+read_number s =
+    if eqb (length s) 0 || (eqb (get_or s 0 0) digit_zero && ltb 1 (length s))
     then Malformed
-    else readDigits 0 s
+    else read_digits 0 s
 
 -- "right-justified in 11 places": spaces, and then the number up to the last place
-unfoldable pub readField : List ℕ → Column
-readField s = if eqb (length s) places then readNumber (pastSpaces s) else Malformed
+unfoldable pub read_field : List ℕ → Column
+read_field s = if eqb (length s) places then read_number (past_spaces s) else Malformed
 
 -- the number of a field; 0 where it is malformed
 abbrev pub number_of : Column → ℕ

@@ -1,16 +1,16 @@
 -- Lines and line endings. Rules 27, 29, 31 and 45.
 use Rattle.std.specs.Prelude.{ℕ, Bool, false, ◌&&◌, List, [], ◌∷◌, eqb}
-use Rattle.leaves.specs.Text.Bytes.{cr, lf, isBlankByte, isLineEndingByte}
+use Rattle.leaves.specs.Text.Bytes.{cr, lf, is_blank_byte, is_line_ending_byte}
 use Rattle.leaves.specs.Text.Lists.{if◌then◌else◌, all, any}
 
 -- Document 01: "A line ending is held where there is a CR or LF."
-unfoldable pub holdsLineEnding : List ℕ → Bool
-holdsLineEnding s = any isLineEndingByte s
+unfoldable pub holds_line_ending : List ℕ → Bool
+holds_line_ending s = any is_line_ending_byte s
 
 -- Document 01: "Blank is spaces and tabs only." (CommonMark 0.31.2, 2.1: "A line containing no characters, or a line
 -- containing only spaces (U+0020) or tabs (U+0009), is called a blank line.")
-unfoldable pub isBlank : List ℕ → Bool
-isBlank s = all isBlankByte s
+unfoldable pub is_blank : List ℕ → Bool
+is_blank s = all is_blank_byte s
 
 -- whether the first byte is b
 unfoldable pub starts_with : ℕ → List ℕ → Bool
@@ -23,8 +23,8 @@ longer b [] = (b ∷ []) ∷ []
 longer b (l ∷ ls) = (b ∷ l) ∷ ls
 
 -- a CR whose LF comes next: the two are one line ending
-unfoldable pub isCrOfCrlf : ℕ → List ℕ → Bool
-isCrOfCrlf b s = eqb b cr && starts_with lf s
+unfoldable pub is_cr_of_crlf : ℕ → List ℕ → Bool
+is_cr_of_crlf b s = eqb b cr && starts_with lf s
 
 -- CommonMark 0.31.2, 2.1: "A line is a sequence of zero or more characters other than line feed (U+000A) or carriage
 -- return (U+000D), followed by a line ending or by the end of file. A line ending is a line feed (U+000A), a carriage
@@ -34,4 +34,4 @@ unfoldable pub lines : List ℕ → List (List ℕ)
 lines [] = []
 lines (b ∷ s) =
     let later = lines s in
-    if isCrOfCrlf b s then later else if isLineEndingByte b then [] ∷ later else longer b later
+    if is_cr_of_crlf b s then later else if is_line_ending_byte b then [] ∷ later else longer b later

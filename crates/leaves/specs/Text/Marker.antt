@@ -4,8 +4,8 @@ use Rattle.leaves.specs.Text.Lists.{if◌then◌else◌}
 
 -- Document 01: "written marker `*` or `+` for such bullets, `-` for other bullets, `)` for ordered paren, `.` for other
 -- ordered."
-unfoldable pub writtenMarker : ℕ → ℕ → ℕ
-writtenMarker ordered delimiter =
+unfoldable pub written_marker : ℕ → ℕ → ℕ
+written_marker ordered delimiter =
     if eqb ordered 1
     then (if eqb delimiter 4 then 0x29 else 0x2E)
     else if eqb delimiter 1

@@ -3,6 +3,6 @@ use Rattle.std.specs.Prelude.{ℕ, Bool, false, ◌&&◌, ◌||◌, List, [], �
 use Rattle.leaves.specs.Text.Bytes.{backtick, dollar}
 use Rattle.leaves.specs.Text.Lines.{starts_with}
 
-unfoldable pub holdsBacktickDollar : List ℕ → Bool
-holdsBacktickDollar [] = false
-holdsBacktickDollar (b ∷ s) = eqb b backtick && starts_with dollar s || holdsBacktickDollar s
+unfoldable pub holds_backtick_dollar : List ℕ → Bool
+holds_backtick_dollar [] = false
+holds_backtick_dollar (b ∷ s) = eqb b backtick && starts_with dollar s || holds_backtick_dollar s

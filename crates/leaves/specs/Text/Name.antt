@@ -1,6 +1,6 @@
 -- Rules 24, 54 and 55: names and identifiers.
 use Rattle.std.specs.Prelude.{ℕ, Bool, false, ◌&&◌, ◌||◌, List, [], ◌∷◌, eqb}
-use Rattle.leaves.specs.Text.Bytes.{isLetter, isDigit, isBlankByte, isLineEndingByte, hyphen, underscore, colon}
+use Rattle.leaves.specs.Text.Bytes.{is_letter, is_digit, is_blank_byte, is_line_ending_byte, hyphen, underscore, colon}
 use Rattle.leaves.specs.Text.Lists.{if◌then◌else◌, all}
 use Rattle.leaves.specs.Text.Lines.{longer}
 
@@ -12,37 +12,37 @@ runs (b ∷ s) =
     if eqb b hyphen then [] ∷ later else longer b later
 
 -- what a run of a directive's name begins with, and what it goes on with
-abbrev pub beginsRun : ℕ → Bool
-beginsRun b = isLetter b
+abbrev pub begins_run : ℕ → Bool
+begins_run b = is_letter b
 
-abbrev pub continuesRun : ℕ → Bool
-continuesRun b = isLetter b
+abbrev pub continues_run : ℕ → Bool
+continues_run b = is_letter b
 
 -- a run is not empty
-unfoldable pub isRun : List ℕ → Bool
-isRun [] = false
-isRun (b ∷ s) = beginsRun b && all continuesRun s
+unfoldable pub is_run : List ℕ → Bool
+is_run [] = false
+is_run (b ∷ s) = begins_run b && all continues_run s
 
 -- Rule 54, `is_directive_name` of validate.rs: "one or more runs of ASCII letters joined by single `-`"
-unfoldable pub isDirectiveName : List ℕ → Bool
-isDirectiveName s = all isRun (runs s)
+unfoldable pub is_directive_name : List ℕ → Bool
+is_directive_name s = all is_run (runs s)
 
 -- Rule 55, `is_attribute_name` of validate.rs: `first.is_ascii_alphabetic() || first == '_' || first == '-'`
-abbrev pub beginsAttribute : ℕ → Bool
-beginsAttribute b = isLetter b || eqb b underscore || eqb b hyphen
+abbrev pub begins_attribute : ℕ → Bool
+begins_attribute b = is_letter b || eqb b underscore || eqb b hyphen
 
 -- and for each later character: `char.is_ascii_alphanumeric() || char == '_' || char == '-' || char == ':'`
-abbrev pub continuesAttribute : ℕ → Bool
-continuesAttribute b = isLetter b || isDigit b || eqb b underscore || eqb b hyphen || eqb b colon
+abbrev pub continues_attribute : ℕ → Bool
+continues_attribute b = is_letter b || is_digit b || eqb b underscore || eqb b hyphen || eqb b colon
 
-unfoldable pub isAttributeName : List ℕ → Bool
-isAttributeName [] = false
-isAttributeName (b ∷ s) = beginsAttribute b && all continuesAttribute s
+unfoldable pub is_attribute_name : List ℕ → Bool
+is_attribute_name [] = false
+is_attribute_name (b ∷ s) = begins_attribute b && all continues_attribute s
 
 -- a byte that `trim_matches([' ', '\t', '\n', '\r'])` takes away
-abbrev pub isTrimmedByte : ℕ → Bool
-isTrimmedByte b = isBlankByte b || isLineEndingByte b
+abbrev pub is_trimmed_byte : ℕ → Bool
+is_trimmed_byte b = is_blank_byte b || is_line_ending_byte b
 
 -- Rule 24, `validate_definition` of validate.rs: nothing is left of the identifier once it is trimmed
-unfoldable pub isBlankIdentifier : List ℕ → Bool
-isBlankIdentifier s = all isTrimmedByte s
+unfoldable pub is_blank_identifier : List ℕ → Bool
+is_blank_identifier s = all is_trimmed_byte s

@@ -3,11 +3,11 @@
 use Rattle.std.specs.Prelude.{ℕ, Bool, not, ◌&&◌, List, [], ◌∷◌, eqb}
 use Rattle.leaves.specs.Text.Bytes.{hyphen}
 use Rattle.leaves.specs.Text.Lists.{if◌then◌else◌}
-use Rattle.leaves.specs.Text.Name.{beginsRun, continuesRun}
+use Rattle.leaves.specs.Text.Name.{begins_run, continues_run}
 
 -- Whether these bytes can end a directive's name. `start`: a run has to start here; else one has begun.
-unfoldable pub nameFrom : Bool → List ℕ → Bool
-nameFrom start [] = not start
-nameFrom start (b ∷ s) =
-    (if eqb b hyphen then not start else if start then beginsRun b else continuesRun b)
-    && nameFrom (eqb b hyphen) s
+unfoldable pub name_from : Bool → List ℕ → Bool
+name_from start [] = not start
+name_from start (b ∷ s) =
+    (if eqb b hyphen then not start else if start then begins_run b else continues_run b)
+    && name_from (eqb b hyphen) s

@@ -4,5 +4,5 @@
 use Rattle.std.specs.Prelude.{ℕ, Bool, ◌||◌}
 use Rattle.leaves.specs.Text.Bytes.{between}
 
-abbrev pub isAsciiPunctuation : ℕ → Bool
-isAsciiPunctuation c = between 0x21 0x2F c || between 0x3A 0x40 c || between 0x5B 0x60 c || between 0x7B 0x7E c
+abbrev pub is_ascii_punctuation : ℕ → Bool
+is_ascii_punctuation c = between 0x21 0x2F c || between 0x3A 0x40 c || between 0x5B 0x60 c || between 0x7B 0x7E c

@@ -10,12 +10,12 @@ abbrev pub replacement : ℕ
 replacement = 0xFFFD
 
 -- the bits of a first byte that belong to the scalar value
-unfoldable pub leadBits : ℕ → ℕ
-leadBits b = if ltb b 0x80 then b else if ltb b 0xE0 then b % 0x20 else if ltb b 0xF0 then b % 0x10 else b % 0x08
+unfoldable pub lead_bits : ℕ → ℕ
+lead_bits b = if ltb b 0x80 then b else if ltb b 0xE0 then b % 0x20 else if ltb b 0xF0 then b % 0x10 else b % 0x08
 
 -- the value with the six bits of one more byte
-unfoldable pub trailBits : ℕ → ℕ → ℕ
-trailBits value b = value * 0x40 + b % 0x40
+unfoldable pub trail_bits : ℕ → ℕ → ℕ
+trail_bits value b = value * 0x40 + b % 0x40
 
 -- a sequence that expects no more bytes is whole, and its value comes first
 unfoldable pub emit : List Range → ℕ → List ℕ → List ℕ
@@ -26,10 +26,10 @@ emit (r ∷ expected) value rest = rest
 unfoldable pub decode : List Range → ℕ → List ℕ → List ℕ
 decode [] value [] = []
 decode (r ∷ expected) value [] = replacement ∷ []
-decode [] value (b ∷ s) = emit (follow table b) (leadBits b) (decode (follow table b) (leadBits b) s)
+decode [] value (b ∷ s) = emit (follow table b) (lead_bits b) (decode (follow table b) (lead_bits b) s)
 decode (r ∷ expected) value (b ∷ s) =
-    let goes_on = emit expected (trailBits value b) (decode expected (trailBits value b) s) in
-    let begins = emit (follow table b) (leadBits b) (decode (follow table b) (leadBits b) s) in
+    let goes_on = emit expected (trail_bits value b) (decode expected (trail_bits value b) s) in
+    let begins = emit (follow table b) (lead_bits b) (decode (follow table b) (lead_bits b) s) in
     if within r b then goes_on else replacement ∷ begins
 
 unfoldable pub scalars : List ℕ → List ℕ

@@ -1,9 +1,9 @@
 -- Rule 11: an alert's title.
 use Rattle.std.specs.Prelude.{ℕ, Bool, not, ◌&&◌, List}
 use Rattle.leaves.specs.Text.Lists.{none}
-use Rattle.leaves.specs.Text.Same.{sameBytes}
+use Rattle.leaves.specs.Text.Same.{same_bytes}
 use Rattle.leaves.specs.Text.Trim.{trim}
 
 -- Document 01: "A title must not be empty and must equal itself trimmed of spaces and tabs."
-unfoldable pub isAlertTitle : List ℕ → Bool
-isAlertTitle s = not (none s) && sameBytes (trim s) s
+unfoldable pub is_alert_title : List ℕ → Bool
+is_alert_title s = not (none s) && same_bytes (trim s) s

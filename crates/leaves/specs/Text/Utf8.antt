@@ -45,12 +45,12 @@ follow ([] ∷ rows) b = follow rows b
 follow ((first ∷ others) ∷ rows) b = if within first b then others else follow rows b
 
 -- Whether bytes are well-formed where the columns `expected` of a row are still to come.
-unfoldable pub wellFormed : List Range → List ℕ → Bool
-wellFormed [] [] = true
-wellFormed [] (b ∷ s) = wellFormed (follow table b) s
-wellFormed (r ∷ expected) [] = false
-wellFormed (r ∷ expected) (b ∷ s) = within r b && wellFormed expected s
+unfoldable pub well_formed : List Range → List ℕ → Bool
+well_formed [] [] = true
+well_formed [] (b ∷ s) = well_formed (follow table b) s
+well_formed (r ∷ expected) [] = false
+well_formed (r ∷ expected) (b ∷ s) = within r b && well_formed expected s
 
 -- Whether a text is well-formed by itself.
-unfoldable pub isUtf8 : List ℕ → Bool
-isUtf8 s = wellFormed [] s
+unfoldable pub is_utf8 : List ℕ → Bool
+is_utf8 s = well_formed [] s

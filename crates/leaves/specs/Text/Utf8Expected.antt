@@ -7,8 +7,8 @@ abbrev pub columns : ℕ → ℕ → ℕ → List Range
 columns zero low high = []
 columns (suc more) low high = low to high ∷ replicate more trail
 
-abbrev pub expectedOf : Expected → List Range
-expectedOf o = columns o.more o.low o.high
+abbrev pub expected_of : Expected → List Range
+expected_of o = columns o.more o.low o.high
 
 -- The code's struct for the expected columns: how many they are, and the range of the first. Where none is expected,
 -- the range is that of most columns.
@@ -16,7 +16,7 @@ unfoldable pub expecting : List Range → Expected
 expecting [] = record { more = 0; low = trail.low; high = trail.high }
 expecting (r ∷ expected) = record { more = suc (length expected); low = r.low; high = r.high }
 
--- o is that struct, and `expectedOf` gives all the columns back
+-- o is that struct, and `expected_of` gives all the columns back
 pub record Expects (expected : List Range) (o : Expected) : Type 0 where
   pub is : o ≡ expecting expected
-  pub all : expectedOf o ≡ expected
+  pub all : expected_of o ≡ expected

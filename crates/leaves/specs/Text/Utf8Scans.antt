@@ -10,9 +10,9 @@ breaks [] b = false
 breaks (r ∷ expected) b = not (within r b)
 
 -- What is expected after b: the columns after the first where b fits the first, else what follows b as a first byte.
-unfoldable pub expectedAfter : List Range → ℕ → List Range
-expectedAfter [] b = follow table b
-expectedAfter (r ∷ expected) b = if within r b then expected else follow table b
+unfoldable pub expected_after : List Range → ℕ → List Range
+expected_after [] b = follow table b
+expected_after (r ∷ expected) b = if within r b then expected else follow table b
 
 -- how many bytes the code reads one at a time before it looks for chunks of ASCII again
 abbrev pub stretch : ℕ

@@ -6,8 +6,8 @@ use Rattle.leaves.specs.Text.Scalars.{scalars, replacement}
 
 -- Document 01: "White space (rule 40) is U+0009–000D, 0020, 0085, 00A0, 1680, 2000–200A, 2028, 2029, 202F, 205F,
 -- 3000 (hexadecimal)."
-unfoldable pub isWhite : ℕ → Bool
-isWhite c =
+unfoldable pub is_white : ℕ → Bool
+is_white c =
     between 0x0009 0x000D c
     || eqb c 0x0020
     || eqb c 0x0085
@@ -22,9 +22,9 @@ isWhite c =
 
 -- validate.rs: `text.value.starts_with(char::is_whitespace)`. An empty text has no first character; U+FFFD stands for
 -- it here, which is not white.
-unfoldable pub startsWithWhite : List ℕ → Bool
-startsWithWhite s = isWhite (first_or replacement (scalars s))
+unfoldable pub starts_with_white : List ℕ → Bool
+starts_with_white s = is_white (first_or replacement (scalars s))
 
 -- validate.rs: `text.value.ends_with(char::is_whitespace)`
-unfoldable pub endsWithWhite : List ℕ → Bool
-endsWithWhite s = isWhite (last_or replacement (scalars s))
+unfoldable pub ends_with_white : List ℕ → Bool
+ends_with_white s = is_white (last_or replacement (scalars s))

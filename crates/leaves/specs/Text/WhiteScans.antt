@@ -3,13 +3,13 @@
 use Rattle.std.specs.Prelude.{◌≡◌, ℕ, zero, suc, ◌<◌, ◌≤◌, false, List, [], ◌∷◌, length, get_or}
 use Rattle.leaves.specs.Text.Lists.{if◌then◌else◌}
 use Rattle.leaves.specs.Text.Utf8.{Range, within, trail}
-use Rattle.leaves.specs.Text.Utf8Scans.{expectedAfter}
-use Rattle.leaves.specs.Text.Scalars.{leadBits, trailBits}
+use Rattle.leaves.specs.Text.Utf8Scans.{expected_after}
+use Rattle.leaves.specs.Text.Scalars.{lead_bits, trail_bits}
 
 -- the value of a character's bits so far, with those of b
-unfoldable pub valueAfter : List Range → ℕ → ℕ → ℕ
-valueAfter [] value b = leadBits b
-valueAfter (r ∷ expected) value b = if within r b then trailBits value b else leadBits b
+unfoldable pub value_after : List Range → ℕ → ℕ → ℕ
+value_after [] value b = lead_bits b
+value_after (r ∷ expected) value b = if within r b then trail_bits value b else lead_bits b
 
 -- what a value stays below while so many more bytes are expected
 abbrev pub room : ℕ → ℕ
@@ -21,8 +21,8 @@ room (suc (suc (suc (suc n)))) = 0
 
 -- v is the value after b, and stays within its room
 pub record Valued (expected : List Range) (value b v : ℕ) : Type 0 where
-  pub is : v ≡ valueAfter expected value b
-  pub small : v < room (length (expectedAfter expected b))
+  pub is : v ≡ value_after expected value b
+  pub small : v < room (length (expected_after expected b))
 
 -- `at` is the start, or the byte at it is none of 0x80 to 0xBF: it begins a sequence, or no sequence can have it
 pub record Begins (s : List ℕ) (at : ℕ) : Type 0 where

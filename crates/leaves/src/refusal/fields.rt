@@ -2,30 +2,30 @@
 ghost use Rattle.std.specs.Prelude.{◌≡◌, ◌&&◌, [], ◌∷◌, eqb};
 ghost use Rattle.leaves.specs.Sheet.Kinds.{
   among,
-  codeBlock,
+  code_block,
   definition,
-  footnoteDefinition,
+  footnote_definition,
   frontmatter,
-  leafDirective,
-  containerDirective,
-  htmlTag,
+  leaf_directive,
+  container_directive,
+  html_tag,
   attribute,
   text,
   code,
   link,
   autolink,
   image,
-  linkReference,
-  imageReference,
+  link_reference,
+  image_reference,
   html,
   math,
-  footnoteReference,
-  wikiLink,
-  textDirective,
+  footnote_reference,
+  wiki_link,
+  text_directive,
   tag,
 };
-ghost use Rattle.leaves.specs.Refusal.Fields.{mostA, mostB, mostC, hasFirst, hasSecond};
-ghost use Rattle.leaves.specs.Refusal.Fields.{badText, badSpan, isSurrogate, badNumber, badField};
+ghost use Rattle.leaves.specs.Refusal.Fields.{most_a, most_b, most_c, has_first, has_second};
+ghost use Rattle.leaves.specs.Refusal.Fields.{bad_text, bad_span, is_surrogate, bad_number, bad_field};
 
 use crate::sheet::kinds;
 use crate::sheet::records::{Rec, Span, Text};
@@ -33,7 +33,7 @@ use crate::text::bytes::{between, pick};
 
 // The most that A may be; 0 where it is not used.
 fn most_a(kind: u32) -> u32
-    ensures { result ≡ mostA kind }
+    ensures { result ≡ most_a kind }
 {
     let flagged = (kind == kinds::ALERT)
         | (kind == kinds::LIST)
@@ -56,7 +56,7 @@ fn most_a(kind: u32) -> u32
 }
 
 fn most_b(kind: u32, a: u32) -> u32
-    ensures { result ≡ mostB kind a }
+    ensures { result ≡ most_b kind a }
 {
     let most = pick((kind == kinds::MATH) & (a == 0), 255, 0);
     let most = pick((kind == kinds::CODE_BLOCK) | (kind == kinds::ITEM), 1, most);
@@ -64,14 +64,14 @@ fn most_b(kind: u32, a: u32) -> u32
 }
 
 fn most_c(kind: u32, b: u32) -> u32
-    ensures { result ≡ mostC kind b }
+    ensures { result ≡ most_c kind b }
 {
     let most = pick((kind == kinds::ITEM) & (b == 1), 0xFFFF_FFFF, 0);
     pick(kind == kinds::LIST, 1, most)
 }
 
 fn names_value(kind: u32) -> bool
-    ensures { result ≡ among kind (codeBlock ∷ frontmatter ∷ text ∷ code ∷ html ∷ math ∷ []) }
+    ensures { result ≡ among kind (code_block ∷ frontmatter ∷ text ∷ code ∷ html ∷ math ∷ []) }
 {
     (kind == kinds::CODE_BLOCK)
         | (kind == kinds::FRONTMATTER)
@@ -83,7 +83,7 @@ fn names_value(kind: u32) -> bool
 
 fn names_identifier(kind: u32) -> bool
     ensures { result ≡ among kind
-        (definition ∷ footnoteDefinition ∷ linkReference ∷ imageReference ∷ footnoteReference ∷ []) }
+        (definition ∷ footnote_definition ∷ link_reference ∷ image_reference ∷ footnote_reference ∷ []) }
 {
     (kind == kinds::DEFINITION)
         | (kind == kinds::FOOTNOTE_DEFINITION)
@@ -94,7 +94,7 @@ fn names_identifier(kind: u32) -> bool
 
 fn names_name(kind: u32) -> bool
     ensures { result ≡ among kind
-        (leafDirective ∷ containerDirective ∷ textDirective ∷ htmlTag ∷ attribute ∷ tag ∷ []) }
+        (leaf_directive ∷ container_directive ∷ text_directive ∷ html_tag ∷ attribute ∷ tag ∷ []) }
 {
     (kind == kinds::LEAF_DIRECTIVE)
         | (kind == kinds::CONTAINER_DIRECTIVE)
@@ -105,7 +105,7 @@ fn names_name(kind: u32) -> bool
 }
 
 fn names_link(kind: u32) -> bool
-    ensures { result ≡ among kind (link ∷ image ∷ autolink ∷ wikiLink ∷ []) }
+    ensures { result ≡ among kind (link ∷ image ∷ autolink ∷ wiki_link ∷ []) }
 {
     (kind == kinds::LINK)
         | (kind == kinds::IMAGE)
@@ -115,7 +115,7 @@ fn names_link(kind: u32) -> bool
 
 // Whether the record has a first text; an alert has one where its A is 1.
 fn has_first(kind: u32, a: u32) -> bool
-    ensures { result ≡ hasFirst kind a }
+    ensures { result ≡ has_first kind a }
 {
     ((kind == kinds::ALERT) & (a == 1))
         | names_value(kind)
@@ -126,7 +126,7 @@ fn has_first(kind: u32, a: u32) -> bool
 
 fn names_second(kind: u32) -> bool
     ensures { result ≡ among kind
-        (definition ∷ htmlTag ∷ linkReference ∷ imageReference ∷ footnoteReference ∷ wikiLink ∷ []) }
+        (definition ∷ html_tag ∷ link_reference ∷ image_reference ∷ footnote_reference ∷ wiki_link ∷ []) }
 {
     (kind == kinds::DEFINITION)
         | (kind == kinds::HTML_TAG)
@@ -138,7 +138,7 @@ fn names_second(kind: u32) -> bool
 
 // Whether the record has a second text; a code block has one where its B is 1.
 fn has_second(kind: u32, b: u32) -> bool
-    ensures { result ≡ hasSecond kind b }
+    ensures { result ≡ has_second kind b }
 {
     ((kind == kinds::CODE_BLOCK) & (b == 1)) | names_second(kind)
 }
@@ -151,7 +151,7 @@ fn is_absent(t: Text) -> bool
 
 // Every kind may have the text 0, 0, so the kind is tested only for other texts.
 fn bad_first(kind: u32, a: u32, t: Text) -> bool
-    ensures { result ≡ badText (hasFirst kind a) t }
+    ensures { result ≡ bad_text (has_first kind a) t }
 {
     if is_absent(t) {
         return false;
@@ -160,7 +160,7 @@ fn bad_first(kind: u32, a: u32, t: Text) -> bool
 }
 
 fn bad_second(kind: u32, b: u32, t: Text) -> bool
-    ensures { result ≡ badText (hasSecond kind b) t }
+    ensures { result ≡ bad_text (has_second kind b) t }
 {
     if is_absent(t) {
         return false;
@@ -169,7 +169,7 @@ fn bad_second(kind: u32, b: u32, t: Text) -> bool
 }
 
 fn bad_span(kind: u32, s: Span) -> bool
-    ensures { result ≡ badSpan kind s }
+    ensures { result ≡ bad_span kind s }
 {
     (1 < s.flag)
         | ((s.flag == 0) & !((s.start == 0) & (s.end == 0)))
@@ -177,14 +177,14 @@ fn bad_span(kind: u32, s: Span) -> bool
 }
 
 fn is_surrogate(kind: u32, a: u32) -> bool
-    ensures { result ≡ isSurrogate kind a }
+    ensures { result ≡ is_surrogate kind a }
 {
     (kind == kinds::ESCAPE) & between(0xD800, 0xDFFF, a)
 }
 
 // Three zeros are in range for every kind, so the kind is tested only for other numbers.
 fn bad_number(r: Rec) -> bool
-    ensures { result ≡ badNumber r }
+    ensures { result ≡ bad_number r }
 {
     let unused = (r.a == 0) & (r.b == 0) & (r.c == 0);
     if unused {
@@ -198,7 +198,7 @@ fn bad_number(r: Rec) -> bool
 
 // Whether a value is out of range or an unused word is not 0.
 pub(crate) fn bad_field(r: Rec) -> bool
-    ensures { result ≡ badField r }
+    ensures { result ≡ bad_field r }
 {
     bad_number(r)
         | bad_span(r.kind, r.span)

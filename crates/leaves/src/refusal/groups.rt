@@ -1,8 +1,8 @@
 // The groups of kinds: as parents, and as children.
 ghost use Rattle.std.specs.Prelude.{◌≡◌, true};
-ghost use Rattle.leaves.specs.Sheet.Kinds.{isKind};
-ghost use Rattle.leaves.specs.Refusal.Groups.{parentGroup, childGroup};
-ghost use Rattle.leaves.specs.Refusal.KindGroups.{kindGroups};
+ghost use Rattle.leaves.specs.Sheet.Kinds.{is_kind};
+ghost use Rattle.leaves.specs.Refusal.Groups.{parent_group, child_group};
+ghost use Rattle.leaves.specs.Refusal.KindGroups.{kind_groups};
 
 use crate::sheet::kinds;
 use crate::text::bytes::pick;
@@ -74,15 +74,15 @@ const GROUPS: [[u32; 2]; 54] = [
 // The table of groups. A constant array is copied at each mention, so `judge_records` makes it once and lends it to the
 // functions that read it. All that they ask of their parameter `groups` is that it is this table.
 pub(crate) fn groups() -> [[u32; 2]; 54]
-    ensures { result ≡ kindGroups }
+    ensures { result ≡ kind_groups }
 {
     GROUPS
 }
 
 // What a record of the kind may hold. An HTML container holds inlines where its A is not 0.
 pub(crate) fn parent_group(groups: &[[u32; 2]; 54], kind: u32, a: u32) -> u32
-    requires { (groups.now ≡ kindGroups) × (isKind kind ≡ true) }
-    ensures { result ≡ parentGroup kind a }
+    requires { (groups.now ≡ kind_groups) × (is_kind kind ≡ true) }
+    ensures { result ≡ parent_group kind a }
 {
     let k = kind as usize;
     let inlines = (kind == kinds::HTML_CONTAINER) & (a != 0);
@@ -90,8 +90,8 @@ pub(crate) fn parent_group(groups: &[[u32; 2]; 54], kind: u32, a: u32) -> u32
 }
 
 pub(crate) fn child_group(groups: &[[u32; 2]; 54], kind: u32) -> u32
-    requires { (groups.now ≡ kindGroups) × (isKind kind ≡ true) }
-    ensures { result ≡ childGroup kind }
+    requires { (groups.now ≡ kind_groups) × (is_kind kind ≡ true) }
+    ensures { result ≡ child_group kind }
 {
     let k = kind as usize;
     groups[k][1]

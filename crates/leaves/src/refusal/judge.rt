@@ -1,8 +1,8 @@
 // Which sheets are refused, with which number and record.
 ghost use Rattle.std.specs.Prelude.{◌≡◌, ◌≤◌, ◌*◌, length};
-ghost use Rattle.leaves.specs.Sheet.Records.{recordWords};
-ghost use Rattle.leaves.specs.Refusal.Limits.{mostRecords};
-ghost use Rattle.leaves.specs.Refusal.Judge.{judgeFrom, Judges};
+ghost use Rattle.leaves.specs.Sheet.Records.{record_words};
+ghost use Rattle.leaves.specs.Refusal.Limits.{most_records};
+ghost use Rattle.leaves.specs.Refusal.Judge.{judge_from, Judges};
 ghost use Rattle.leaves.specs.Refusal.Judging.{Slot};
 
 use crate::refusal::groups::HOLDS_BLOCKS;
@@ -31,8 +31,8 @@ fn slot_of(level: u32) -> usize
 // Makes the tests 4 to 9, record by record, and answers the first refusal. `open` has, for each level that the next
 // record could have, what stands before it under its parent.
 fn judge_records(sheet: &[u32], bytes: &[u8], n: usize) -> Judged
-    requires { (n * recordWords ≤ length sheet.now) × (n ≤ mostRecords) }
-    ensures { result ≡ judgeFrom sheet.now bytes.now n 0 }
+    requires { (n * record_words ≤ length sheet.now) × (n ≤ most_records) }
+    ensures { result ≡ judge_from sheet.now bytes.now n 0 }
 {
     let table = places::table();
     let groups = groups::groups();

@@ -1,8 +1,8 @@
 // Where a record may stand under its parent.
 ghost use Rattle.std.specs.Prelude.{◌≡◌, true, false};
-ghost use Rattle.leaves.specs.Sheet.Kinds.{isKind};
-ghost use Rattle.leaves.specs.Refusal.KindGroups.{kindGroups};
-ghost use Rattle.leaves.specs.Refusal.PlaceTable.{placeTable};
+ghost use Rattle.leaves.specs.Sheet.Kinds.{is_kind};
+ghost use Rattle.leaves.specs.Refusal.KindGroups.{kind_groups};
+ghost use Rattle.leaves.specs.Refusal.PlaceTable.{place_table};
 ghost use Rattle.leaves.specs.Refusal.Places.{holds, place_in, place_of, opened, joined, misplaced};
 
 use crate::refusal::groups::{HOLDS_TAGS_AND_BLOCKS, HOLDS_TAGS_AND_INLINES, child_group};
@@ -45,13 +45,13 @@ pub struct Open {
 // The table of places. A constant array is copied at each mention, so `judge_records` makes it once and lends it to the
 // functions that read it. All that they ask of their parameter `table` is that it is this table.
 pub(crate) fn table() -> [[u32; 7]; 10]
-    ensures { result ≡ placeTable }
+    ensures { result ≡ place_table }
 {
     PLACES
 }
 
 fn place_at(table: &[[u32; 7]; 10], group: u32, column: u32) -> u32
-    requires { table.now ≡ placeTable }
+    requires { table.now ≡ place_table }
     ensures { result ≡ place_in 1 (holds group) column }
 {
     if 10 <= group {
@@ -66,7 +66,7 @@ fn place_at(table: &[[u32; 7]; 10], group: u32, column: u32) -> u32
 }
 
 fn place_of(table: &[[u32; 7]; 10], groups: &[[u32; 2]; 54], group: u32, kind: u32) -> u32
-    requires { (table.now ≡ placeTable) × (groups.now ≡ kindGroups) × (isKind kind ≡ true) }
+    requires { (table.now ≡ place_table) × (groups.now ≡ kind_groups) × (is_kind kind ≡ true) }
     ensures { result ≡ place_of group kind }
 {
     place_at(table, group, child_group(groups, kind))
@@ -85,8 +85,8 @@ pub(crate) fn opened(group: u32) -> Open
 
 // The same after one more child, of the kind.
 pub(crate) fn joined(table: &[[u32; 7]; 10], groups: &[[u32; 2]; 54], o: Open, kind: u32) -> Open
-    requires table_value { (table.now ≡ placeTable) × (groups.now ≡ kindGroups) }
-    requires kind_value { (isKind kind ≡ true) × (misplaced o kind ≡ false) }
+    requires table_value { (table.now ≡ place_table) × (groups.now ≡ kind_groups) }
+    requires kind_value { (is_kind kind ≡ true) × (misplaced o kind ≡ false) }
     ensures { result ≡ joined o kind }
 {
     let stage = place_of(table, groups, o.group, kind);
@@ -107,7 +107,7 @@ pub(crate) fn joined(table: &[[u32; 7]; 10], groups: &[[u32; 2]; 54], o: Open, k
 
 // Whether the kind is not allowed there or is out of order, is a third HTML tag, or is content before the second.
 pub(crate) fn misplaced(table: &[[u32; 7]; 10], groups: &[[u32; 2]; 54], o: Open, kind: u32) -> bool
-    requires { (table.now ≡ placeTable) × (groups.now ≡ kindGroups) × (isKind kind ≡ true) }
+    requires { (table.now ≡ place_table) × (groups.now ≡ kind_groups) × (is_kind kind ≡ true) }
     ensures { result ≡ misplaced o kind }
 {
     let place = place_of(table, groups, o.group, kind);

@@ -1,9 +1,9 @@
 // The tests of one record: refusals 4 to 9.
 ghost use Rattle.std.specs.Prelude.{◌≡◌, ◌≤◌};
-ghost use Rattle.leaves.specs.Refusal.PlaceTable.{placeTable};
-ghost use Rattle.leaves.specs.Refusal.KindGroups.{kindGroups};
-ghost use Rattle.leaves.specs.Refusal.Limits.{mostLevel};
-ghost use Rattle.leaves.specs.Refusal.Record.{badLevel, judgeTexts, judge};
+ghost use Rattle.leaves.specs.Refusal.PlaceTable.{place_table};
+ghost use Rattle.leaves.specs.Refusal.KindGroups.{kind_groups};
+ghost use Rattle.leaves.specs.Refusal.Limits.{most_level};
+ghost use Rattle.leaves.specs.Refusal.Record.{bad_level, judge_texts, judge};
 
 use crate::refusal::limits::MOST_LEVEL;
 use crate::refusal::places::Open;
@@ -14,15 +14,15 @@ use crate::sheet::{kinds, texts};
 
 // Whether a level is 0, over `MOST_LEVEL`, or over the level before plus 1.
 fn bad_level(before: u32, level: u32) -> bool
-    requires { before ≤ mostLevel }
-    ensures { result ≡ badLevel before level }
+    requires { before ≤ most_level }
+    ensures { result ≡ bad_level before level }
 {
     (level == 0) | (MOST_LEVEL < level) | (before + 1 < level)
 }
 
 // The tests 8 and 9.
 fn judge_texts(bytes: &[u8], i: usize, r: Rec) -> Judged
-    ensures { result ≡ judgeTexts bytes.now i r }
+    ensures { result ≡ judge_texts bytes.now i r }
 {
     let first = r.first;
     let second = r.second;
@@ -45,7 +45,7 @@ pub(crate) fn judge(
     before: u32,
     o: Open,
 ) -> Judged
-    requires { (table.now ≡ placeTable) × (groups.now ≡ kindGroups) × (before ≤ mostLevel) }
+    requires { (table.now ≡ place_table) × (groups.now ≡ kind_groups) × (before ≤ most_level) }
     ensures { result ≡ judge bytes.now i r before o }
 {
     if !kinds::is_kind(r.kind) {

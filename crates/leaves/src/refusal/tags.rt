@@ -1,16 +1,16 @@
 // Refusal 10: an HTML container with fewer than two tags.
 ghost use Rattle.std.specs.Prelude.{◌≡◌, ◌<◌, ◌≤◌, ◌*◌, length};
-ghost use Rattle.leaves.specs.Sheet.Records.{recordWords};
-ghost use Rattle.leaves.specs.Refusal.Tags.{lacksTags, tagsFrom};
-ghost use Rattle.leaves.specs.Refusal.TagsPlaced.{Containers, tagUnder};
+ghost use Rattle.leaves.specs.Sheet.Records.{record_words};
+ghost use Rattle.leaves.specs.Refusal.Tags.{lacks_tags, tags_from};
+ghost use Rattle.leaves.specs.Refusal.TagsPlaced.{Containers, tag_under};
 
 use crate::refusal::verdict::{Judged, Refusal};
 use crate::sheet::{kinds, records};
 
 // Whether record `i` is there, is an HTML tag, and is deeper than `level`.
 fn tag_under(sheet: &[u32], n: usize, i: usize, level: u32) -> bool
-    requires { n * recordWords ≤ length sheet.now }
-    ensures { result ≡ tagUnder sheet.now n i level }
+    requires { n * record_words ≤ length sheet.now }
+    ensures { result ≡ tag_under sheet.now n i level }
 {
     if n <= i {
         return false;
@@ -22,7 +22,7 @@ fn tag_under(sheet: &[u32], n: usize, i: usize, level: u32) -> bool
 // content stands before the second tag, and nothing stands under a tag.
 fn lacks_tags(sheet: &[u32], n: usize, i: usize) -> bool
     requires { Containers sheet.now n × (i < n) }
-    ensures { result ≡ lacksTags sheet.now n i }
+    ensures { result ≡ lacks_tags sheet.now n i }
 {
     let level = records::level_at(sheet, i);
     let first = tag_under(sheet, n, i + 1, level);
@@ -33,7 +33,7 @@ fn lacks_tags(sheet: &[u32], n: usize, i: usize) -> bool
 // Makes test 10, and answers the first container that lacks a tag.
 pub(crate) fn judge_tags(sheet: &[u32], n: usize) -> Judged
     requires { Containers sheet.now n }
-    ensures { result ≡ tagsFrom sheet.now n n 0 }
+    ensures { result ≡ tags_from sheet.now n n 0 }
 {
     let mut i: usize = 0;
     while i < n {

@@ -1,6 +1,6 @@
 // The answer for a sheet, with its number and record.
 ghost use Rattle.std.specs.Prelude.{◌≡◌};
-ghost use Rattle.leaves.specs.Refusal.Verdict.{refusalAnswer, judgedAnswer, isAccepted};
+ghost use Rattle.leaves.specs.Refusal.Verdict.{refusal_answer, judged_answer, is_accepted};
 
 // A refusal, by the name that document 01 gives it; from 4 on with the record that it names.
 #[derive(Drop)]
@@ -26,7 +26,7 @@ pub enum Judged {
 
 // Document 01's number of a refusal.
 pub fn refusal_number(refusal: Refusal) -> u32
-    ensures { result ≡ (refusalAnswer refusal).number }
+    ensures { result ≡ (refusal_answer refusal).number }
 {
     match refusal {
         Refusal::OddSheet => 1,
@@ -44,7 +44,7 @@ pub fn refusal_number(refusal: Refusal) -> u32
 
 // The record that a refusal names; 0 where it names none.
 pub fn refusal_record(refusal: Refusal) -> usize
-    ensures { result ≡ (refusalAnswer refusal).value }
+    ensures { result ≡ (refusal_answer refusal).value }
 {
     match refusal {
         Refusal::OddSheet => 0,
@@ -62,7 +62,7 @@ pub fn refusal_record(refusal: Refusal) -> usize
 
 // The number of the answer; 0 where the sheet is accepted.
 pub fn number_of(j: Judged) -> u32
-    ensures { result ≡ (judgedAnswer j).number }
+    ensures { result ≡ (judged_answer j).number }
 {
     match j {
         Judged::Accepted => 0,
@@ -72,7 +72,7 @@ pub fn number_of(j: Judged) -> u32
 
 // The record of the answer; 0 where the sheet is accepted.
 pub fn record_of(j: Judged) -> usize
-    ensures { result ≡ (judgedAnswer j).value }
+    ensures { result ≡ (judged_answer j).value }
 {
     match j {
         Judged::Accepted => 0,
@@ -81,7 +81,7 @@ pub fn record_of(j: Judged) -> usize
 }
 
 pub fn is_accepted(j: Judged) -> bool
-    ensures { result ≡ isAccepted j }
+    ensures { result ≡ is_accepted j }
 {
     match j {
         Judged::Accepted => true,

@@ -1,8 +1,8 @@
 // Counts the report's entries, and writes those that fit.
 ghost use Rattle.std.specs.Prelude.{◌≡◌, cond, ◌+◌, ◌≤◌, length};
-ghost use Rattle.leaves.specs.Report.Entries.{words, headWords, listIf, capped, start, counted, Lists};
+ghost use Rattle.leaves.specs.Report.Entries.{words, head_words, list_if, capped, start, counted, Lists};
 ghost use Rattle.leaves.specs.Text.Lists.{over};
-ghost use Rattle.leaves.specs.Refusal.Limits.{mostLevel};
+ghost use Rattle.leaves.specs.Refusal.Limits.{most_level};
 
 use crate::sheet::records::Span;
 
@@ -56,7 +56,7 @@ fn copy_at(dst: &mut [u32], at: usize, src: &[u32])
 
 // Writes an entry at the front of the tail, if the whole entry fits.
 fn write_entry(tail: &mut [u32], rule: u32, span: Span, path: &[u32])
-    requires { length path.now ≤ mostLevel }
+    requires { length path.now ≤ most_level }
     ensures { tail.new
         ≡ over tail.old 0 (words (record { rule = rule; span = span; path = path.now })) }
 {
@@ -71,7 +71,7 @@ fn write_entry(tail: &mut [u32], rule: u32, span: Span, path: &[u32])
 
 // Where `fault` holds, lends the report's tail from word `at` on to the entry writer.
 fn write_if(fault: bool, report: &mut [u32], at: usize, rule: u32, span: Span, path: &[u32])
-    requires { length path.now ≤ mostLevel }
+    requires { length path.now ≤ most_level }
     ensures { report.new
         ≡ cond fault
         (over report.old at (words (record { rule = rule; span = span; path = path.now })))
@@ -88,8 +88,8 @@ fn write_if(fault: bool, report: &mut [u32], at: usize, rule: u32, span: Span, p
 
 // Where `fault` holds, counts an entry whose path has n words.
 fn count_if(fault: bool, tally: Tally, n: usize) -> Tally
-    requires { n ≤ mostLevel }
-    ensures { result ≡ cond fault (counted tally (headWords + n)) tally }
+    requires { n ≤ most_level }
+    ensures { result ≡ cond fault (counted tally (head_words + n)) tally }
 {
     if !fault {
         return tally;
@@ -109,9 +109,9 @@ pub fn list_if(
     path: &[u32],
     tally: Tally,
 ) -> Tally
-    requires { length path.now ≤ mostLevel }
+    requires { length path.now ≤ most_level }
     ensures { Lists tally result report.old report.new
-        (listIf fault rule span path.now) }
+        (list_if fault rule span path.now) }
 {
     write_if(fault, report, tally.words, rule, span, path);
     count_if(fault, tally, path.len())

@@ -1,6 +1,6 @@
 // Texts of no bytes.
 ghost use Rattle.std.specs.Prelude.{◌≡◌};
-ghost use Rattle.leaves.specs.Sheet.Empty.{is_empty, isEmptyText, only_if};
+ghost use Rattle.leaves.specs.Sheet.Empty.{is_empty, is_empty_text, only_if};
 
 use crate::sheet::kinds;
 use crate::sheet::records::{Rec, Text};
@@ -12,7 +12,7 @@ pub fn is_empty(t: Text) -> bool
 }
 
 pub fn is_empty_text(r: Rec) -> bool
-    ensures { result ≡ isEmptyText r }
+    ensures { result ≡ is_empty_text r }
 {
     (r.kind == kinds::TEXT) & is_empty(r.first)
 }

@@ -1,6 +1,6 @@
 // Kinds of records, as document 01 numbers them.
 ghost use Rattle.std.specs.Prelude.{◌≡◌};
-ghost use Rattle.leaves.specs.Sheet.Kinds.{isBlock, isInline, isKind};
+ghost use Rattle.leaves.specs.Sheet.Kinds.{is_block, is_inline, is_kind};
 
 use crate::text::bytes::between;
 
@@ -95,20 +95,20 @@ pub const TEXT_DIRECTIVE: u32 = 52;
 pub const TAG: u32 = 53;
 
 pub fn is_block(kind: u32) -> bool
-    ensures { result ≡ isBlock kind }
+    ensures { result ≡ is_block kind }
 {
     between(1, 17, kind)
 }
 
 pub fn is_inline(kind: u32) -> bool
-    ensures { result ≡ isInline kind }
+    ensures { result ≡ is_inline kind }
 {
     between(31, 53, kind)
 }
 
 // Whether document 01 lists the kind.
 pub(crate) fn is_kind(kind: u32) -> bool
-    ensures { result ≡ isKind kind }
+    ensures { result ≡ is_kind kind }
 {
     is_block(kind) | between(20, 24, kind) | is_inline(kind)
 }

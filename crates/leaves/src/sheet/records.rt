@@ -1,6 +1,6 @@
 // The records of a sheet.
 ghost use Rattle.std.specs.Prelude.{◌≡◌, ◌+◌, ◌*◌, ◌<◌, ◌≤◌, length};
-ghost use Rattle.leaves.specs.Sheet.Records.{recordWords, word_at, textAt, recordAt};
+ghost use Rattle.leaves.specs.Sheet.Records.{record_words, word_at, text_at, record_at};
 
 pub const RECORD_WORDS: usize = 12;
 
@@ -32,29 +32,29 @@ pub struct Rec {
 
 // Word `k` of record `i`.
 fn word(sheet: &[u32], i: usize, k: usize) -> u32
-    requires { i * recordWords + k < length sheet.now }
+    requires { i * record_words + k < length sheet.now }
     ensures { result ≡ word_at sheet.now i k }
 {
     sheet[i * RECORD_WORDS + k]
 }
 
 pub(crate) fn kind_at(sheet: &[u32], i: usize) -> u32
-    requires { i * recordWords + recordWords ≤ length sheet.now }
-    ensures { result ≡ (recordAt sheet.now i).kind }
+    requires { i * record_words + record_words ≤ length sheet.now }
+    ensures { result ≡ (record_at sheet.now i).kind }
 {
     word(sheet, i, 0)
 }
 
 pub fn level_at(sheet: &[u32], i: usize) -> u32
-    requires { i * recordWords + recordWords ≤ length sheet.now }
-    ensures { result ≡ (recordAt sheet.now i).level }
+    requires { i * record_words + record_words ≤ length sheet.now }
+    ensures { result ≡ (record_at sheet.now i).level }
 {
     word(sheet, i, 1)
 }
 
 pub fn record_at(sheet: &[u32], i: usize) -> Rec
-    requires { i * recordWords + recordWords ≤ length sheet.now }
-    ensures { result ≡ recordAt sheet.now i }
+    requires { i * record_words + record_words ≤ length sheet.now }
+    ensures { result ≡ record_at sheet.now i }
 {
     let span = span_at(sheet, i);
     let first = text_at(sheet, i, 8);
@@ -72,8 +72,8 @@ pub fn record_at(sheet: &[u32], i: usize) -> Rec
 }
 
 fn span_at(sheet: &[u32], i: usize) -> Span
-    requires { i * recordWords + recordWords ≤ length sheet.now }
-    ensures { result ≡ (recordAt sheet.now i).span }
+    requires { i * record_words + record_words ≤ length sheet.now }
+    ensures { result ≡ (record_at sheet.now i).span }
 {
     Span {
         flag: word(sheet, i, 2),
@@ -84,8 +84,8 @@ fn span_at(sheet: &[u32], i: usize) -> Span
 
 // The text whose start is word `k` of record `i`.
 fn text_at(sheet: &[u32], i: usize, k: usize) -> Text
-    requires { (i * recordWords + recordWords ≤ length sheet.now) × (k < 11) }
-    ensures { result ≡ textAt sheet.now i k }
+    requires { (i * record_words + record_words ≤ length sheet.now) × (k < 11) }
+    ensures { result ≡ text_at sheet.now i k }
 {
     Text {
         start: word(sheet, i, k),

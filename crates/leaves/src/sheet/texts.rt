@@ -1,6 +1,6 @@
 // The texts that a record names.
 ghost use Rattle.std.specs.Prelude.{◌≡◌};
-ghost use Rattle.leaves.specs.Sheet.Texts.{text_of, textOutside, textIllFormed};
+ghost use Rattle.leaves.specs.Sheet.Texts.{text_of, text_outside, text_ill_formed};
 
 use crate::sheet::records::Text;
 use crate::text::part::part;
@@ -14,7 +14,7 @@ pub fn text_of(bytes: &[u8], t: Text) -> &[u8]
 }
 
 pub(crate) fn text_outside(bytes: &[u8], t: Text) -> bool
-    ensures { result ≡ textOutside bytes.now t }
+    ensures { result ≡ text_outside bytes.now t }
 {
     let start = t.start as usize;
     let len = t.len as usize;
@@ -23,7 +23,7 @@ pub(crate) fn text_outside(bytes: &[u8], t: Text) -> bool
 
 // Most texts have no bytes, and such a text is well-formed.
 pub(crate) fn text_ill_formed(bytes: &[u8], t: Text) -> bool
-    ensures { result ≡ textIllFormed bytes.now t }
+    ensures { result ≡ text_ill_formed bytes.now t }
 {
     if t.len == 0 {
         return false;

@@ -1,6 +1,6 @@
 // Bytes by name, and classes of bytes.
 ghost use Rattle.std.specs.Prelude.{◌≡◌};
-ghost use Rattle.leaves.specs.Text.Bytes.{between, isBlankByte, isLineEndingByte, isLetter, isDigit};
+ghost use Rattle.leaves.specs.Text.Bytes.{between, is_blank_byte, is_line_ending_byte, is_letter, is_digit};
 ghost use Rattle.leaves.specs.Text.Lists.{if◌then◌else◌};
 
 pub(crate) const TAB: u8 = 9;
@@ -46,25 +46,25 @@ pub fn between(low: u32, high: u32, n: u32) -> bool
 }
 
 pub(crate) fn is_blank_byte(b: u8) -> bool
-    ensures { result ≡ isBlankByte b }
+    ensures { result ≡ is_blank_byte b }
 {
     (b == SPACE) | (b == TAB)
 }
 
 pub(crate) fn is_line_ending_byte(b: u8) -> bool
-    ensures { result ≡ isLineEndingByte b }
+    ensures { result ≡ is_line_ending_byte b }
 {
     (b == LF) | (b == CR)
 }
 
 pub(crate) fn is_letter(b: u8) -> bool
-    ensures { result ≡ isLetter b }
+    ensures { result ≡ is_letter b }
 {
     between(65, 90, b as u32) | between(97, 122, b as u32)
 }
 
 pub(crate) fn is_digit(b: u8) -> bool
-    ensures { result ≡ isDigit b }
+    ensures { result ≡ is_digit b }
 {
     between(48, 57, b as u32)
 }

@@ -1,20 +1,20 @@
 // Passes over bytes, a chunk of sixteen at a time. The tests of one chunk are joined without a branch, so that the
 // compiler makes them one test of sixteen bytes.
 ghost use Rattle.std.specs.Prelude.{◌≡◌, ◌+◌, ◌≤◌, length, drop};
-ghost use Rattle.leaves.specs.Text.Chunk.{isAscii, isNeither, passes, chunk, Past};
+ghost use Rattle.leaves.specs.Text.Chunk.{is_ascii, is_neither, passes, chunk, Past};
 
 pub(crate) const CHUNK: usize = 16;
 
 fn four_ascii(s: &[u8], i: usize) -> bool
     requires { i + 4 ≤ length s.now }
-    ensures { result ≡ passes isAscii 4 (drop i s.now) }
+    ensures { result ≡ passes is_ascii 4 (drop i s.now) }
 {
     (s[i] < 0x80) & (s[i + 1] < 0x80) & (s[i + 2] < 0x80) & (s[i + 3] < 0x80)
 }
 
 // Whether sixteen bytes stand from `i` on, and each is ASCII.
 fn is_ascii(s: &[u8], i: usize) -> bool
-    ensures { result ≡ passes isAscii chunk (drop i s.now) }
+    ensures { result ≡ passes is_ascii chunk (drop i s.now) }
 {
     if s.len() < CHUNK {
         return false;
@@ -30,7 +30,7 @@ fn is_ascii(s: &[u8], i: usize) -> bool
 // passed over is ASCII.
 pub(crate) fn past_ascii(s: &[u8], from: usize) -> usize
     requires { from ≤ length s.now }
-    ensures { Past isAscii s.now from result }
+    ensures { Past is_ascii s.now from result }
 {
     let mut i = from;
     while is_ascii(s, i) {
@@ -40,14 +40,14 @@ pub(crate) fn past_ascii(s: &[u8], from: usize) -> usize
 }
 
 fn is_neither(a: u8, b: u8, x: u8) -> bool
-    ensures { result ≡ isNeither a b x }
+    ensures { result ≡ is_neither a b x }
 {
     (x != a) & (x != b)
 }
 
 fn four_lack(s: &[u8], i: usize, a: u8, b: u8) -> bool
     requires { i + 4 ≤ length s.now }
-    ensures { result ≡ passes (isNeither a b) 4 (drop i s.now) }
+    ensures { result ≡ passes (is_neither a b) 4 (drop i s.now) }
 {
     is_neither(a, b, s[i])
         & is_neither(a, b, s[i + 1])
@@ -57,7 +57,7 @@ fn four_lack(s: &[u8], i: usize, a: u8, b: u8) -> bool
 
 // Whether sixteen bytes stand from `i` on, and none is `a` or `b`.
 fn lacks(s: &[u8], i: usize, a: u8, b: u8) -> bool
-    ensures { result ≡ passes (isNeither a b) chunk (drop i s.now) }
+    ensures { result ≡ passes (is_neither a b) chunk (drop i s.now) }
 {
     if s.len() < CHUNK {
         return false;
@@ -76,7 +76,7 @@ fn lacks(s: &[u8], i: usize, a: u8, b: u8) -> bool
 // passed over is `a` or `b`.
 pub(crate) fn past(s: &[u8], from: usize, a: u8, b: u8) -> usize
     requires { from ≤ length s.now }
-    ensures { Past (isNeither a b) s.now from result }
+    ensures { Past (is_neither a b) s.now from result }
 {
     let mut i = from;
     while lacks(s, i, a, b) {

@@ -2,7 +2,7 @@
 ghost use Rattle.std.specs.Prelude.{◌≡◌, ◌+◌, ◌≤◌, eqb, length, get_or};
 ghost use Rattle.leaves.specs.Text.Bytes.{lf};
 ghost use Rattle.leaves.specs.Text.Field.{number_of, is_number};
-ghost use Rattle.leaves.specs.Text.Columns.{line, lineBytes, is_line, numbers, Writes};
+ghost use Rattle.leaves.specs.Text.Columns.{line, line_bytes, is_line, numbers, Writes};
 
 use crate::text::bytes::LF;
 use crate::text::field::{Column, PLACES, read_field, write_field};
@@ -60,7 +60,7 @@ pub fn read_line(s: &[u8], words: &mut [u32]) -> bool
 
 // Writes a line of these numbers from `at` on, and answers where it ends.
 pub fn write_line(out: &mut [u8], at: usize, words: &[u32]) -> usize
-    requires { at + lineBytes (length words.now) ≤ length out.old }
+    requires { at + line_bytes (length words.now) ≤ length out.old }
     ensures { Writes out.old at (line words.now) out.new result }
 {
     let mut end = at;

@@ -1,7 +1,7 @@
 // Whether the first or the last line is blank.
 ghost use Rattle.std.specs.Prelude.{◌≡◌, true, ◌<◌, ◌≤◌, length, drop};
-ghost use Rattle.leaves.specs.Text.Edges.{hasBlankEdgeLine};
-ghost use Rattle.leaves.specs.Text.EdgeScans.{lastBlank, Led, Ended};
+ghost use Rattle.leaves.specs.Text.Edges.{has_blank_edge_line};
+ghost use Rattle.leaves.specs.Text.EdgeScans.{last_blank, Led, Ended};
 
 use crate::text::bytes;
 use crate::text::lines::is_cr_of_crlf;
@@ -24,7 +24,7 @@ fn leading_blanks(s: &[u8]) -> usize
 // `blank`: the line being read is blank so far. `last`: the last line that has a byte or an ending is blank.
 fn last_line_is_blank(s: &[u8], from: usize) -> bool
     requires { from ≤ length s.now }
-    ensures { result ≡ lastBlank true true (drop from s.now) }
+    ensures { result ≡ last_blank true true (drop from s.now) }
 {
     let mut last = true;
     let mut blank = true;
@@ -62,7 +62,7 @@ fn last_solid(s: &[u8], at: usize) -> usize
 // Whether the first or the last line is blank; a text with no line counts as one blank line. The lines between are
 // not read.
 pub fn has_blank_edge_line(s: &[u8]) -> bool
-    ensures { result ≡ hasBlankEdgeLine s.now }
+    ensures { result ≡ has_blank_edge_line s.now }
 {
     let at = leading_blanks(s);
     if s.len() <= at {

@@ -1,8 +1,8 @@
 // Frontmatter's fence lines.
 ghost use Rattle.std.specs.Prelude.{◌≡◌};
-ghost use Rattle.leaves.specs.Text.Fence.{fenceByte, holdsFenceLine};
+ghost use Rattle.leaves.specs.Text.Fence.{fence_byte, holds_fence_line};
 ghost use Rattle.leaves.specs.Text.Lists.{if◌then◌else◌};
-ghost use Rattle.leaves.specs.Text.FenceScans.{fenceFrom, fenceLeft};
+ghost use Rattle.leaves.specs.Text.FenceScans.{fence_from, fence_left};
 
 use crate::text::bytes::{HYPHEN, PLUS};
 use crate::text::{bytes, lines};
@@ -14,7 +14,7 @@ pub enum FrontmatterKind {
 }
 
 fn fence_byte(kind: FrontmatterKind) -> u8
-    ensures { result ≡ fenceByte kind }
+    ensures { result ≡ fence_byte kind }
 {
     match kind {
         FrontmatterKind::Yaml => HYPHEN,
@@ -24,7 +24,7 @@ fn fence_byte(kind: FrontmatterKind) -> u8
 
 // How many bytes of a fence are still to come in the line, after `b`; 4 where the line is no fence.
 fn fence_left(c: u8, left: u8, b: u8) -> u8
-    ensures { result ≡ fenceLeft c left b }
+    ensures { result ≡ fence_left c left b }
 {
     if left == 0 {
         if bytes::is_blank_byte(b) {
@@ -41,7 +41,7 @@ fn fence_left(c: u8, left: u8, b: u8) -> u8
 // The same for any byte of a text. `skips`: `b` is the CR of a CRLF, which changes nothing. `ends`: `b` ends the line,
 // so the three bytes of a fence are still to come.
 fn left_after(c: u8, left: u8, b: u8, skips: bool, ends: bool) -> u8
-    ensures { result ≡ (if skips then left else if ends then 3 else fenceLeft c left b) }
+    ensures { result ≡ (if skips then left else if ends then 3 else fence_left c left b) }
 {
     if skips {
         return left;
@@ -55,7 +55,7 @@ fn left_after(c: u8, left: u8, b: u8, skips: bool, ends: bool) -> u8
 // Whether some line is a fence of the byte `c`. `left`: how many bytes of a fence are still to come in the line being
 // read.
 fn holds_fence_of(s: &[u8], c: u8) -> bool
-    ensures { result ≡ fenceFrom c 3 s.now }
+    ensures { result ≡ fence_from c 3 s.now }
 {
     let mut left: u8 = 3;
     let mut i: usize = 0;
@@ -74,7 +74,7 @@ fn holds_fence_of(s: &[u8], c: u8) -> bool
 
 // Whether some line is the fence of the kind; spaces and tabs may follow it.
 pub fn holds_fence_line(s: &[u8], kind: FrontmatterKind) -> bool
-    ensures { result ≡ holdsFenceLine kind s.now }
+    ensures { result ≡ holds_fence_line kind s.now }
 {
     holds_fence_of(s, fence_byte(kind))
 }

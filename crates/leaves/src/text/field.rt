@@ -1,8 +1,8 @@
 // Reads and writes a field of 11 places.
 ghost use Rattle.std.specs.Prelude.{◌≡◌, ◌+◌, ◌≤◌, length};
 ghost use Rattle.leaves.specs.Text.Lists.{over};
-ghost use Rattle.leaves.specs.Text.Field.{places, field, lastPlace, front};
-ghost use Rattle.leaves.specs.Text.Field.{pastSpaces, readDigits, readNumber, readField};
+ghost use Rattle.leaves.specs.Text.Field.{places, field, last_place, front};
+ghost use Rattle.leaves.specs.Text.Field.{past_spaces, read_digits, read_number, read_field};
 
 use crate::text::bytes::{SPACE, is_digit};
 
@@ -24,7 +24,7 @@ pub(crate) enum Column {
 
 // The slice without its leading spaces.
 fn past_spaces(s: &[u8]) -> &[u8]
-    ensures { result.now ≡ pastSpaces s.now }
+    ensures { result.now ≡ past_spaces s.now }
 {
     let mut i: usize = 0;
     while i < s.len() {
@@ -44,7 +44,7 @@ fn wide(b: u8) -> u64
 
 // The number that the bytes make as digits; malformed where one is no digit or the number is over `MOST`.
 fn read_digits(s: &[u8]) -> Column
-    ensures { result ≡ readDigits 0 s.now }
+    ensures { result ≡ read_digits 0 s.now }
 {
     let mut n: u64 = 0;
     let mut i: usize = 0;
@@ -65,7 +65,7 @@ fn read_digits(s: &[u8]) -> Column
 
 // The number of one or more digits; malformed where a 0 stands in front of other digits.
 fn read_number(s: &[u8]) -> Column
-    ensures { result ≡ readNumber s.now }
+    ensures { result ≡ read_number s.now }
 {
     if s.len() == 0 {
         return Column::Malformed;
@@ -78,7 +78,7 @@ fn read_number(s: &[u8]) -> Column
 
 // The number of a field that fills the slice.
 pub(crate) fn read_field(s: &[u8]) -> Column
-    ensures { result ≡ readField s.now }
+    ensures { result ≡ read_field s.now }
 {
     if s.len() != PLACES {
         return Column::Malformed;
@@ -88,7 +88,7 @@ pub(crate) fn read_field(s: &[u8]) -> Column
 
 // The last digit of what is left of a number; a space where nothing is left.
 fn last_place(n: u32) -> u8
-    ensures { result ≡ lastPlace n }
+    ensures { result ≡ last_place n }
 {
     if n == 0 {
         return SPACE;

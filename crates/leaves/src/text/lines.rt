@@ -1,12 +1,12 @@
 // Lines and line endings.
 ghost use Rattle.std.specs.Prelude.{◌≡◌, ◌+◌, ◌<◌, length, get_or, drop};
-ghost use Rattle.leaves.specs.Text.Lines.{holdsLineEnding, isBlank, isCrOfCrlf};
+ghost use Rattle.leaves.specs.Text.Lines.{holds_line_ending, is_blank, is_cr_of_crlf};
 
 use crate::text::bytes::{CR, LF};
 use crate::text::{bytes, chunk};
 
 pub fn holds_line_ending(s: &[u8]) -> bool
-    ensures { result ≡ holdsLineEnding s.now }
+    ensures { result ≡ holds_line_ending s.now }
 {
     let mut i = chunk::past(s, 0, LF, CR);
     while i < s.len() {
@@ -19,7 +19,7 @@ pub fn holds_line_ending(s: &[u8]) -> bool
 }
 
 pub fn is_blank(s: &[u8]) -> bool
-    ensures { result ≡ isBlank s.now }
+    ensures { result ≡ is_blank s.now }
 {
     let mut i: usize = 0;
     while i < s.len() {
@@ -34,7 +34,7 @@ pub fn is_blank(s: &[u8]) -> bool
 // Whether the byte at `i` is a CR with its LF after it.
 pub(crate) fn is_cr_of_crlf(s: &[u8], i: usize) -> bool
     requires { i < length s.now }
-    ensures { result ≡ isCrOfCrlf (get_or s.now i 0) (drop (i + 1) s.now) }
+    ensures { result ≡ is_cr_of_crlf (get_or s.now i 0) (drop (i + 1) s.now) }
 {
     let next = i + 1;
     if s.len() <= next {

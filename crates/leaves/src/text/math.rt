@@ -1,13 +1,13 @@
 // Inline math in its code form.
 ghost use Rattle.std.specs.Prelude.{◌≡◌};
-ghost use Rattle.leaves.specs.Text.Math.{holdsBacktickDollar};
+ghost use Rattle.leaves.specs.Text.Math.{holds_backtick_dollar};
 
 use crate::text::bytes::{BACKTICK, DOLLAR};
 use crate::text::chunk;
 
 // Whether a `$` stands right after a backtick.
 pub fn holds_backtick_dollar(s: &[u8]) -> bool
-    ensures { result ≡ holdsBacktickDollar s.now }
+    ensures { result ≡ holds_backtick_dollar s.now }
 {
     let mut i = chunk::past(s, 0, BACKTICK, BACKTICK);
     while i + 1 < s.len() {

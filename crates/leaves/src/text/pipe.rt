@@ -1,6 +1,6 @@
 // Pipes in the values of a table cell.
 ghost use Rattle.std.specs.Prelude.{◌≡◌};
-ghost use Rattle.leaves.specs.Text.Pipe.{hasOddEscapedPipe};
+ghost use Rattle.leaves.specs.Text.Pipe.{has_odd_escaped_pipe};
 
 use crate::text::bytes::{BACKSLASH, PIPE};
 use crate::text::chunk;
@@ -8,7 +8,7 @@ use crate::text::chunk::CHUNK;
 
 // Whether a `|` stands right after an odd run of backslashes. `odd`: the run before the byte being read is odd.
 pub fn has_odd_escaped_pipe(s: &[u8]) -> bool
-    ensures { result ≡ hasOddEscapedPipe s.now }
+    ensures { result ≡ has_odd_escaped_pipe s.now }
 {
     let mut odd = false;
     let mut i = chunk::past(s, 0, BACKSLASH, BACKSLASH);

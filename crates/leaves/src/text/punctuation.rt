@@ -1,11 +1,11 @@
 // ASCII punctuation.
 ghost use Rattle.std.specs.Prelude.{◌≡◌};
-ghost use Rattle.leaves.specs.Text.Punctuation.{isAsciiPunctuation};
+ghost use Rattle.leaves.specs.Text.Punctuation.{is_ascii_punctuation};
 
 use crate::text::bytes::between;
 
 pub fn is_ascii_punctuation(scalar: u32) -> bool
-    ensures { result ≡ isAsciiPunctuation scalar }
+    ensures { result ≡ is_ascii_punctuation scalar }
 {
     between(0x21, 0x2F, scalar)
         | between(0x3A, 0x40, scalar)

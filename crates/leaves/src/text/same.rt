@@ -1,9 +1,9 @@
 // Whether two texts are the same bytes.
 ghost use Rattle.std.specs.Prelude.{◌≡◌};
-ghost use Rattle.leaves.specs.Text.Same.{sameBytes};
+ghost use Rattle.leaves.specs.Text.Same.{same_bytes};
 
 pub fn same_bytes(a: &[u8], b: &[u8]) -> bool
-    ensures { result ≡ sameBytes a.now b.now }
+    ensures { result ≡ same_bytes a.now b.now }
 {
     if a.len() != b.len() {
         return false;

@@ -1,8 +1,8 @@
 // Well-formed UTF-8.
 ghost use Rattle.std.specs.Prelude.{◌≡◌, ◌+◌, ◌<◌, ◌≤◌, min, length, drop};
-ghost use Rattle.leaves.specs.Text.Utf8.{isUtf8, wellFormed, follow, table};
-ghost use Rattle.leaves.specs.Text.Utf8Scans.{breaks, expectedAfter, stretch};
-ghost use Rattle.leaves.specs.Text.Utf8Expected.{expectedOf, Expects};
+ghost use Rattle.leaves.specs.Text.Utf8.{is_utf8, well_formed, follow, table};
+ghost use Rattle.leaves.specs.Text.Utf8Scans.{breaks, expected_after, stretch};
+ghost use Rattle.leaves.specs.Text.Utf8Expected.{expected_of, Expects};
 
 use crate::text::chunk;
 
@@ -108,7 +108,7 @@ fn follow_of_four(b: u8) -> Expected
 
 // Whether a byte is expected and `b` does not fit.
 pub(crate) fn breaks(expected: Expected, b: u8) -> bool
-    ensures { result ≡ breaks (expectedOf expected) b }
+    ensures { result ≡ breaks (expected_of expected) b }
 {
     if expected.more == 0 {
         return false;
@@ -118,7 +118,7 @@ pub(crate) fn breaks(expected: Expected, b: u8) -> bool
 
 // What is expected after `b`.
 pub(crate) fn expected_after(expected: Expected, b: u8) -> Expected
-    ensures { Expects (expectedAfter (expectedOf expected) b) result }
+    ensures { Expects (expected_after (expected_of expected) b) result }
 {
     if expected.more == 0 {
         return follow(b);
@@ -138,8 +138,8 @@ pub(crate) fn expected_after(expected: Expected, b: u8) -> Expected
 // well-formed after it exactly where the bytes from `from` on are well-formed after `expected`.
 fn expected_at(s: &[u8], from: usize, end: usize, expected: Expected) -> Expected
     requires { (from ≤ end) × (end ≤ length s.now) }
-    ensures { wellFormed (expectedOf result) (drop end s.now)
-        ≡ wellFormed (expectedOf expected) (drop from s.now) }
+    ensures { well_formed (expected_of result) (drop end s.now)
+        ≡ well_formed (expected_of expected) (drop from s.now) }
 {
     let mut o = expected;
     let mut i = from;
@@ -172,8 +172,8 @@ fn past_ascii(s: &[u8], i: usize, expected: Expected) -> usize
     requires { i ≤ length s.now }
     ensures { (i ≤ result)
         × (result ≤ length s.now)
-        × (wellFormed (expectedOf expected) (drop i s.now)
-        ≡ wellFormed (expectedOf expected) (drop result s.now)) }
+        × (well_formed (expected_of expected) (drop i s.now)
+        ≡ well_formed (expected_of expected) (drop result s.now)) }
 {
     if expected.more == 0 {
         return chunk::past_ascii(s, i);
@@ -184,7 +184,7 @@ fn past_ascii(s: &[u8], i: usize, expected: Expected) -> usize
 // Passes over chunks of ASCII, then reads a stretch a byte at a time: among other characters a chunk is seldom all
 // ASCII.
 pub fn is_utf8(s: &[u8]) -> bool
-    ensures { result ≡ isUtf8 s.now }
+    ensures { result ≡ is_utf8 s.now }
 {
     let mut expected = Expected {
         more: 0,

@@ -1,10 +1,10 @@
 // White space at the ends of a text.
 ghost use Rattle.std.specs.Prelude.{◌≡◌, ◌<◌};
 ghost use Rattle.leaves.specs.Text.Lists.{if◌then◌else◌};
-ghost use Rattle.leaves.specs.Text.Utf8Expected.{expectedOf};
-ghost use Rattle.leaves.specs.Text.Scalars.{leadBits, replacement};
+ghost use Rattle.leaves.specs.Text.Utf8Expected.{expected_of};
+ghost use Rattle.leaves.specs.Text.Scalars.{lead_bits, replacement};
 ghost use Rattle.leaves.specs.Text.WhiteScans.{Valued, room, Begins};
-ghost use Rattle.leaves.specs.Text.White.{isWhite, startsWithWhite, endsWithWhite};
+ghost use Rattle.leaves.specs.Text.White.{is_white, starts_with_white, ends_with_white};
 
 use crate::text::bytes::between;
 use crate::text::utf8;
@@ -13,7 +13,7 @@ use crate::text::utf8::Expected;
 const REPLACEMENT: u32 = 0xFFFD;
 
 fn is_white(c: u32) -> bool
-    ensures { result ≡ isWhite c }
+    ensures { result ≡ is_white c }
 {
     between(0x0009, 0x000D, c)
         | (c == 0x0020)
@@ -30,7 +30,7 @@ fn is_white(c: u32) -> bool
 
 // The bits of a first byte that belong to the scalar value.
 fn lead_bits(b: u8) -> u32
-    ensures { result ≡ leadBits b }
+    ensures { result ≡ lead_bits b }
 {
     let wide = b as u32;
     if wide < 0x80 {
@@ -48,7 +48,7 @@ fn lead_bits(b: u8) -> u32
 // The value of a character's bits so far, with those of `b`.
 fn value_after(expected: Expected, value: u32, b: u8) -> u32
     requires { value < room expected.more }
-    ensures { Valued (expectedOf expected) value b result }
+    ensures { Valued (expected_of expected) value b result }
 {
     if expected.more == 0 {
         return lead_bits(b);
@@ -61,7 +61,7 @@ fn value_after(expected: Expected, value: u32, b: u8) -> u32
 }
 
 pub fn starts_with_white(s: &[u8]) -> bool
-    ensures { result ≡ startsWithWhite s.now }
+    ensures { result ≡ starts_with_white s.now }
 {
     let mut expected = Expected {
         more: 0,
@@ -120,7 +120,7 @@ fn last_after(whole: bool, broken: bool, value: u32, last: u32) -> u32
 
 // The same as `ends_with_white`, but reads every byte.
 fn last_is_white(s: &[u8]) -> bool
-    ensures { result ≡ endsWithWhite s.now }
+    ensures { result ≡ ends_with_white s.now }
 {
     let mut expected = Expected {
         more: 0,
@@ -143,7 +143,7 @@ fn last_is_white(s: &[u8]) -> bool
 
 // Reads the bytes of the last character only.
 pub fn ends_with_white(s: &[u8]) -> bool
-    ensures { result ≡ endsWithWhite s.now }
+    ensures { result ≡ ends_with_white s.now }
 {
     let at = last_start(s);
     last_is_white(&s[at..])

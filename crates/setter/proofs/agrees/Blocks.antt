@@ -9,32 +9,32 @@ use lib.Dec.{leb, ltb, eqb}
 use lib.ListN.{length}
 use borrow.Author.Tests.{leb-true, leb-false, lt-ltb, le-ltb, eq-eqb, ne_eqb}
 use Rattle.leaves.specs.Text.Lists.{if◌then◌else◌}
-use Rattle.leaves.specs.Sheet.Kinds.{isBlock, list, codeBlock, blankLine, frontmatter, leafDirective, containerDirective, htmlContainer, item}
+use Rattle.leaves.specs.Sheet.Kinds.{is_block, list, code_block, blank_line, frontmatter, leaf_directive, container_directive, html_container, item}
 use Rattle.leaves.specs.Sheet.Forest.{Forest, none, tree, size, count}
 use Rattle.leaves.specs.declared.sheet.records.Rec.{Rec}
 use Rattle.leaves.specs.declared.sheet.records.Span.{Span}
 use Rattle.leaves.specs.declared.sheet.records.Text.{Text}
-use Rattle.leaves.specs.Report.Entries.{Entry, listIf, ◌⊕◌}
-use Rattle.leaves.specs.Refusal.Groups.{holdsBlocks, holdsNothing, parentGroup, otherGroup}
-use Rattle.leaves.specs.Sheet.Classes.{isBreak}
-use Rattle.inlines.specs.Depth.{validateOneLine}
-use Rattle.inlines.specs.Nodes.{validateInlineNodesAfter, validateInlineNodes, validateInlines}
+use Rattle.leaves.specs.Report.Entries.{Entry, list_if, ◌⊕◌}
+use Rattle.leaves.specs.Refusal.Groups.{holds_blocks, holds_nothing, parent_group, other_group}
+use Rattle.leaves.specs.Sheet.Classes.{is_break}
+use Rattle.inlines.specs.Depth.{validate_one_line}
+use Rattle.inlines.specs.Nodes.{validate_inline_nodes_after, validate_inline_nodes, validate_inlines}
 use Rattle.blocks.specs.declared.before.Before.{Before}
-use Rattle.blocks.specs.Heads.{validateHeading}
-use Rattle.blocks.specs.Frontmatter.{validateFrontmatter}
-use Rattle.leaves.specs.Text.Marker.{writtenMarker}
-use Rattle.blocks.specs.Before.{takesIndentedCode, validateTakenBlock, first, beforeNext}
-use Rattle.blocks.specs.List.{validateList}
-use Rattle.blocks.specs.Number.{itemNumber, validateItemNumber}
-use Rattle.blocks.specs.Label.{beforeBlocks, validateDirective}
-use Rattle.blocks.specs.Paragraph.{validateParagraph}
+use Rattle.blocks.specs.Heads.{validate_heading}
+use Rattle.blocks.specs.Frontmatter.{validate_frontmatter}
+use Rattle.leaves.specs.Text.Marker.{written_marker}
+use Rattle.blocks.specs.Before.{takes_indented_code, validate_taken_block, first, before_next}
+use Rattle.blocks.specs.List.{validate_list}
+use Rattle.blocks.specs.Number.{item_number, validate_item_number}
+use Rattle.blocks.specs.Label.{before_blocks, validate_directive}
+use Rattle.blocks.specs.Paragraph.{validate_paragraph}
 use Rattle.blocks.specs.Holds
-use Rattle.blocks.specs.Block.{validateLeaf, validateHtml, validateContainer, validateOwn}
-use Rattle.blocks.specs.Walk.{validateBlock, validateItem, validateBlocks, validateListItems}
-use Rattle.setter.specs.Steps.{Frame, fresh, withKid, opens, closes}
-use Rattle.setter.specs.Machine.{pathOf, blockPath, position}
-use Rattle.setter.specs.Stops.{mostOwnNumber, stopOf, stop_at}
-use Rattle.setter.specs.Seen.{nearest, inLink, behindBreak, behindList, onlyEmpty}
+use Rattle.blocks.specs.Block.{validate_leaf, validate_html, validate_container, validate_own}
+use Rattle.blocks.specs.Walk.{validate_block, validate_item, validate_blocks, validate_list_items}
+use Rattle.setter.specs.Steps.{Frame, fresh, with_kid, opens, closes}
+use Rattle.setter.specs.Machine.{path_of, block_path, position}
+use Rattle.setter.specs.Stops.{most_own_number, stop_of, stop_at}
+use Rattle.setter.specs.Seen.{nearest, in_link, behind_break, behind_list, only_empty}
 use Rattle.setter.specs.Agrees.{Begins}
 use Rattle.setter.specs.Stops.{beside, named}
 use Rattle.setter.proofs.agrees.Flat.{walk, filled, pile}
@@ -49,28 +49,28 @@ use Rattle.setter.proofs.agrees.Tables.{content-fits, table_fits}
 -- what may stand under p among blocks: only a container directive holds inlines there
 pub data Root (p : Rec) (k : ℕ) : Type 0 where
   first_of : Extra k → Root p k
-  inlined : p.kind ≡ containerDirective → InlineKind k → Root p k
+  inlined : p.kind ≡ container_directive → InlineKind k → Root p k
   blocked : BlockKind k → Root p k
 
-pub hold-blocks : (p : Rec) → group_of p ≡ holdsBlocks → (k : ℕ) → Stands p k → Root p k
+pub hold-blocks : (p : Rec) → group_of p ≡ holds_blocks → (k : ℕ) → Stands p k → Root p k
 hold-blocks p e k s = blocked (under-blocks p k s e)
 
 -- the list before; and rule 1
-abbrev listBefore : Before → Rec → Bool
-listBefore b r = eqb b.kind list && eqb (writtenMarker b.a b.b) (writtenMarker r.a r.b)
+abbrev list_before : Before → Rec → Bool
+list_before b r = eqb b.kind list && eqb (written_marker b.a b.b) (written_marker r.a r.b)
 
 abbrev joins : Before → Rec → Bool
-joins b r = eqb b.kind list && eqb r.kind list && eqb (writtenMarker b.a b.b) (writtenMarker r.a r.b)
+joins b r = eqb b.kind list && eqb r.kind list && eqb (written_marker b.a b.b) (written_marker r.a r.b)
 
-joins-is : (b : Before) (r : Rec) → eqb r.kind list ≡ true → joins b r ≡ listBefore b r
-joins-is b r e = rw e (go (eqb b.kind list) (eqb (writtenMarker b.a b.b) (writtenMarker r.a r.b)))
+joins-is : (b : Before) (r : Rec) → eqb r.kind list ≡ true → joins b r ≡ list_before b r
+joins-is b r e = rw e (go (eqb b.kind list) (eqb (written_marker b.a b.b) (written_marker r.a r.b)))
   where
     go : (x y : Bool) → (x && true && y) ≡ (x && y)
     go true y = refl
     go false y = refl
 
 joins-other : (b : Before) (r : Rec) → eqb r.kind list ≡ false → joins b r ≡ false
-joins-other b r e = rw e (go (eqb b.kind list) (eqb (writtenMarker b.a b.b) (writtenMarker r.a r.b)))
+joins-other b r e = rw e (go (eqb b.kind list) (eqb (written_marker b.a b.b) (written_marker r.a r.b)))
   where
     go : (x y : Bool) → (x && false && y) ≡ false
     go true y = refl
@@ -79,108 +79,108 @@ joins-other b r e = rw e (go (eqb b.kind list) (eqb (writtenMarker b.a b.b) (wri
 -- the siblings that have closed, as the check knows them: k blocks, b the last that is no blank line, c the kind of the last inline, none of a rank over m
 pub record Told (ks : List Rec) (m k : ℕ) (b : Before) (c : ℕ) : Type 0 where
   pub many : position ks ≡ k
-  pub lists : (r : Rec) → behindList ks r ≡ listBefore b r
-  pub broke : m ≤ 1 → isBreak c ≡ behindBreak ks
+  pub lists : (r : Rec) → behind_list ks r ≡ list_before b r
+  pub broke : m ≤ 1 → is_break c ≡ behind_break ks
   pub early : m ≤ 1 → b ≡ first
   pub start : m ≤ 0 → c ≡ 0
 
 pub told_none : Told [] 0 0 first 0
-unfolding position behindList
+unfolding position behind_list
 told_none = record { many = refl; lists = λ r. refl; broke = λ h. refl; early = λ h. refl; start = λ h. refl }
 
 module _ {ks : List Rec} {m k : ℕ} {b : Before} {c : ℕ} (t : Told ks m k b c) (r : Rec) where
   told-extra : m ≤ 0 → Extras r.kind → Told (r ∷ ks) (rank r.kind) k b c
-  unfolding position behindList
+  unfolding position behind_list
   told-extra h y =
       record {
-        many = rw y.noIndex t.many;
-        lists = λ s. rw (y.noBlank, y.noList, t.early (omega arith));
-        broke = λ g. rw (y.noBreak, t.start h);
+        many = rw y.no_index t.many;
+        lists = λ s. rw (y.no_blank, y.no_list, t.early (omega arith));
+        broke = λ g. rw (y.no_break, t.start h);
         early = λ g. t.early (omega arith);
         start = λ g. t.start h;
       }
 
   told-inline : m ≤ 1 → Inliny r.kind → Told (r ∷ ks) (rank r.kind) k b r.kind
-  unfolding position behindList
+  unfolding position behind_list
   told-inline h y =
       record {
-        many = rw y.noIndex t.many;
-        lists = λ s. rw (y.noBlank, y.noList, t.early h);
+        many = rw y.no_index t.many;
+        lists = λ s. rw (y.no_blank, y.no_list, t.early h);
         broke = λ g. refl;
         early = λ g. t.early h;
-        start = λ g. absurd (let x : rank r.kind ≡ 1 = y.isSecond in omega arith);
+        start = λ g. absurd (let x : rank r.kind ≡ 1 = y.is_second in omega arith);
       }
 
-  told-block : Blocky r.kind → Told (r ∷ ks) (rank r.kind) (suc k) (beforeNext b r.kind r.a r.b) c
-  unfolding position behindList beforeNext
+  told-block : Blocky r.kind → Told (r ∷ ks) (rank r.kind) (suc k) (before_next b r.kind r.a r.b) c
+  unfolding position behind_list before_next
   told-block y =
       let e : rank r.kind ≡ 2 = y.is_last in
       record {
-        many = rw y.isIndexed (ap suc t.many);
-        lists = λ s. go s (eqb r.kind blankLine) refl;
+        many = rw y.is_indexed (ap suc t.many);
+        lists = λ s. go s (eqb r.kind blank_line) refl;
         broke = λ g. absurd (omega arith);
         early = λ g. absurd (omega arith);
         start = λ g. absurd (omega arith);
       }
     where
-      go : (s : Rec) (x : Bool) → eqb r.kind blankLine ≡ x → behindList (r ∷ ks) s ≡ listBefore (beforeNext b r.kind r.a r.b) s
+      go : (s : Rec) (x : Bool) → eqb r.kind blank_line ≡ x → behind_list (r ∷ ks) s ≡ list_before (before_next b r.kind r.a r.b) s
       go s true d = rw d (t.lists s)
       go s false d = rw d
 
 -- what a container directive lists of its label: the trees before its blocks
 pub record Label (bytes : List ℕ) (es : List Entry) (p : List ℕ) (c : ℕ) (ts : Forest) : Type 0 where
-  pub nodes : Sub (validateInlineNodesAfter bytes p c (beforeBlocks ts)) es
-  pub line : Sub (validateOneLine 23 p (beforeBlocks ts)) es
+  pub nodes : Sub (validate_inline_nodes_after bytes p c (before_blocks ts)) es
+  pub line : Sub (validate_one_line 23 p (before_blocks ts)) es
 
 pub record CleanLabel (bytes p : List ℕ) (c : ℕ) (ts : Forest) : Type 0 where
-  pub nodes : Clean (validateInlineNodesAfter bytes p c (beforeBlocks ts))
-  pub line : Clean (validateOneLine 23 p (beforeBlocks ts))
+  pub nodes : Clean (validate_inline_nodes_after bytes p c (before_blocks ts))
+  pub line : Clean (validate_one_line 23 p (before_blocks ts))
 
-before-none : beforeBlocks none ≡ none
-unfolding beforeBlocks
+before-none : before_blocks none ≡ none
+unfolding before_blocks
 before-none = refl
 
-before-block : (r : Rec) (kids rest : Forest) → isBlock r.kind ≡ true → beforeBlocks (tree r kids rest) ≡ none
-unfolding beforeBlocks
+before-block : (r : Rec) (kids rest : Forest) → is_block r.kind ≡ true → before_blocks (tree r kids rest) ≡ none
+unfolding before_blocks
 before-block r kids rest h = rw h
 
-before-other : (r : Rec) (kids rest : Forest) → isBlock r.kind ≡ false → beforeBlocks (tree r kids rest) ≡ tree r kids (beforeBlocks rest)
-unfolding beforeBlocks
+before-other : (r : Rec) (kids rest : Forest) → is_block r.kind ≡ false → before_blocks (tree r kids rest) ≡ tree r kids (before_blocks rest)
+unfolding before_blocks
 before-other r kids rest h = rw h
 
-label-none : (bytes p : List ℕ) (c : ℕ) (ts : Forest) → beforeBlocks ts ≡ none → CleanLabel bytes p c ts
-label-none bytes p c ts e = record { nodes = bare-nodes bytes p c (beforeBlocks ts) e; line = bare-line 23 p (beforeBlocks ts) e }
+label-none : (bytes p : List ℕ) (c : ℕ) (ts : Forest) → before_blocks ts ≡ none → CleanLabel bytes p c ts
+label-none bytes p c ts e = record { nodes = bare-nodes bytes p c (before_blocks ts) e; line = bare-line 23 p (before_blocks ts) e }
 
 -- a label alone
-no-block : (k : ℕ) → InlineRoot k → isBlock k ≡ false
+no-block : (k : ℕ) → InlineRoot k → is_block k ≡ false
 no-block k (beforehand x) = (extras k x).no_block
 no-block k (node kd) = (inliny k kd).no_block
 
-all-before : (p : Rec) (m : ℕ) (ts : Forest) → ((k : ℕ) → Stands p k → InlineRoot k) → Placed p m ts → beforeBlocks ts ≡ ts
+all-before : (p : Rec) (m : ℕ) (ts : Forest) → ((k : ℕ) → Stands p k → InlineRoot k) → Placed p m ts → before_blocks ts ≡ ts
 unfolding Placed
 all-before p m none a h = before-none
 all-before p m (tree r kids rest) a h =
     before-other r kids rest (no-block r.kind (a r.kind h.0)) ∙ ap (λ (t : Forest). tree r kids t) (all-before p _ rest a h.3)
 
-clean-directive : (bytes q : List ℕ) (sp : Span) (n : ℕ) (name : Text) (ts : Forest) → beforeBlocks ts ≡ ts → Clean (validateInlines bytes q ts) → Clean (validateOneLine n q ts) → Clean (validateDirective bytes q n sp name ts)
-unfolding validateDirective
+clean-directive : (bytes q : List ℕ) (sp : Span) (n : ℕ) (name : Text) (ts : Forest) → before_blocks ts ≡ ts → Clean (validate_inlines bytes q ts) → Clean (validate_one_line n q ts) → Clean (validate_directive bytes q n sp name ts)
+unfolding validate_directive
 clean-directive bytes q sp n name ts e x y = rw e (clean-append (clean-name bytes q sp name) (clean-append (clean-attributes bytes q ts) (clean-append x y)))
 
 -- the laws of a forest of blocks and of one of items, under any open records
 abbrev pub Blocks : List ℕ → Forest → Type 0
 Blocks bytes ts =
     (es : List Entry) (f : Frame) (st : List Frame) (i m k : ℕ) (b : Before) (c : ℕ) → ((k : ℕ) → Stands f.of k → Root f.of k) → Placed f.of m ts
-    → Told f.kids m k b c → inLink (f ∷ st) ≡ false → Sub (validateBlocks bytes (pathOf (f ∷ st)) k b ts) es → (f.of.kind ≡ containerDirective → m ≤ 1 → Label bytes es (pathOf (f ∷ st)) c ts)
-    → Fits bytes es (walk f st i ts) (Clean (validateBlocks bytes (pathOf (f ∷ st)) k b ts) × (f.of.kind ≡ containerDirective → m ≤ 1 → CleanLabel bytes (pathOf (f ∷ st)) c ts))
+    → Told f.kids m k b c → in_link (f ∷ st) ≡ false → Sub (validate_blocks bytes (path_of (f ∷ st)) k b ts) es → (f.of.kind ≡ container_directive → m ≤ 1 → Label bytes es (path_of (f ∷ st)) c ts)
+    → Fits bytes es (walk f st i ts) (Clean (validate_blocks bytes (path_of (f ∷ st)) k b ts) × (f.of.kind ≡ container_directive → m ≤ 1 → CleanLabel bytes (path_of (f ∷ st)) c ts))
 
 abbrev pub Items : List ℕ → Forest → Type 0
 Items bytes ts =
-    (es : List Entry) (f : Frame) (st : List Frame) (i m k tight : ℕ) → f.of.kind ≡ list → Placed f.of m ts → position f.kids ≡ k → inLink (f ∷ st) ≡ false
-    → Sub (validateListItems bytes (pathOf (f ∷ st)) k f.of.a tight ts) es → Fits bytes es (walk f st i ts) (Clean (validateListItems bytes (pathOf (f ∷ st)) k f.of.a tight ts))
+    (es : List Entry) (f : Frame) (st : List Frame) (i m k tight : ℕ) → f.of.kind ≡ list → Placed f.of m ts → position f.kids ≡ k → in_link (f ∷ st) ≡ false
+    → Sub (validate_list_items bytes (path_of (f ∷ st)) k f.of.a tight ts) es → Fits bytes es (walk f st i ts) (Clean (validate_list_items bytes (path_of (f ∷ st)) k f.of.a tight ts))
 
 -- the blocks of a container, whose path is q
-module _ (bytes : List ℕ) (es : List Entry) (f : Frame) (st : List Frame) (i : ℕ) (kids : Forest) (q : List ℕ) (at-q : pathOf (f ∷ st) ≡ q) (out : inLink (f ∷ st) ≡ false) (new : f.kids ≡ []) (placed : Placed f.of 0 kids) (ih : Blocks bytes kids) where
-  within : ((k : ℕ) → Stands f.of k → Root f.of k) → Sub (validateBlocks bytes q 0 first kids) es → (f.of.kind ≡ containerDirective → 0 ≤ 1 → Label bytes es q 0 kids) → Fits bytes es (walk f st i kids) (Clean (validateBlocks bytes q 0 first kids) × (f.of.kind ≡ containerDirective → 0 ≤ 1 → CleanLabel bytes q 0 kids))
+module _ (bytes : List ℕ) (es : List Entry) (f : Frame) (st : List Frame) (i : ℕ) (kids : Forest) (q : List ℕ) (at-q : path_of (f ∷ st) ≡ q) (out : in_link (f ∷ st) ≡ false) (new : f.kids ≡ []) (placed : Placed f.of 0 kids) (ih : Blocks bytes kids) where
+  within : ((k : ℕ) → Stands f.of k → Root f.of k) → Sub (validate_blocks bytes q 0 first kids) es → (f.of.kind ≡ container_directive → 0 ≤ 1 → Label bytes es q 0 kids) → Fits bytes es (walk f st i kids) (Clean (validate_blocks bytes q 0 first kids) × (f.of.kind ≡ container_directive → 0 ≤ 1 → CleanLabel bytes q 0 kids))
   within a s t = rw at-q at (ih es f st i 0 0 first 0 a placed (rw new told_none) out (rw at-q s) (rw at-q t))
 
 -- a heading's depth, as the machine and the check ask for it
@@ -196,81 +196,81 @@ depth_same a = go (leb 1 a) refl (leb a 6) refl
 abbrev held : List ℕ → List ℕ → Rec → Forest → List Entry
 held bytes q r kids =
     if eqb r.kind list
-    then validateListItems bytes q 0 r.a r.c kids
-    else if Holds.holdsBlocks r.kind r.a
-    then validateBlocks bytes q 0 first kids
+    then validate_list_items bytes q 0 r.a r.c kids
+    else if Holds.holds_blocks r.kind r.a
+    then validate_blocks bytes q 0 first kids
     else []
 
 -- one block, whose path is q
-module _ (bytes : List ℕ) (es : List Entry) (f : Frame) (st : List Frame) (i : ℕ) (b : Before) (r : Rec) (kids : Forest) (q : List ℕ) (at-q : pathOf (fresh i r ∷ f ∷ st) ≡ q) (out : inLink (f ∷ st) ≡ false) (placed : Placed r 0 kids) (same : behindList f.kids r ≡ listBefore b r) (s₁ : Sub (listIf (joins b r) 1 r.span q) es) (s : Sub (validateOwn bytes q r kids) es) (t : Sub (held bytes q r kids) es) where
+module _ (bytes : List ℕ) (es : List Entry) (f : Frame) (st : List Frame) (i : ℕ) (b : Before) (r : Rec) (kids : Forest) (q : List ℕ) (at-q : path_of (fresh i r ∷ f ∷ st) ≡ q) (out : in_link (f ∷ st) ≡ false) (placed : Placed r 0 kids) (same : behind_list f.kids r ≡ list_before b r) (s₁ : Sub (list_if (joins b r) 1 r.span q) es) (s : Sub (validate_own bytes q r kids) es) (t : Sub (held bytes q r kids) es) where
   abbrev own₀ : List Entry
-  own₀ = validateOwn bytes q r kids
+  own₀ = validate_own bytes q r kids
 
   abbrev held₀ : List Entry
   held₀ = held bytes q r kids
 
   abbrev Block : Type 0
-  Block = Fits bytes es (alone f st i r kids) (Clean (listIf (joins b r) 1 r.span q) × Clean own₀ × Clean held₀)
+  Block = Fits bytes es (alone f st i r kids) (Clean (list_if (joins b r) 1 r.span q) × Clean own₀ × Clean held₀)
 
   abbrev open₀ : ℕ
-  open₀ = stopOf bytes (opens (fresh i r) (f ∷ st))
+  open₀ = stop_of bytes (opens (fresh i r) (f ∷ st))
 
   abbrev close₀ : ℕ
-  close₀ = stopOf bytes (closes (filled (fresh i r) (pile kids [])) (f ∷ st))
+  close₀ = stop_of bytes (closes (filled (fresh i r) (pile kids [])) (f ∷ st))
 
-  at : (ks : List Rec) → Begins (blockPath (filled (fresh i r) ks ∷ f ∷ st)) q
+  at : (ks : List Rec) → Begins (block_path (filled (fresh i r) ks ∷ f ∷ st)) q
   at ks = rw at-q at (begins-filled (fresh i r) (f ∷ st) ks)
 
-  apart : eqb r.kind list ≡ false → Clean (listIf (joins b r) 1 r.span q)
+  apart : eqb r.kind list ≡ false → Clean (list_if (joins b r) 1 r.span q)
   apart e = clean-if 1 _ q (joins-other b r e)
 
   -- the sorts of blocks, each with what is asked of its kind
   -- no stop, no child
-  block-plain : group_of r ≡ holdsNothing → eqb r.kind list ≡ false → open₀ ≡ 0 → close₀ ≡ 0 → Clean own₀ → Clean held₀ → Block
+  block-plain : group_of r ≡ holds_nothing → eqb r.kind list ≡ false → open₀ ≡ 0 → close₀ ≡ 0 → Clean own₀ → Clean held₀ → Block
   block-plain bare nl o c n m = fits-map (λ x. (apart nl, n, m)) (fits-alone f st i r kids (still o) (fits-leaf _ _ _ _ (leaf r 0 kids placed bare)) (still c))
 
   -- a container of blocks
-  block-holder : Blocks bytes kids → ((k : ℕ) → Stands r k → Root r k) → (r.kind ≡ containerDirective → ⊥) → eqb r.kind list ≡ false → inLink (fresh i r ∷ f ∷ st) ≡ false → open₀ ≡ 0 → close₀ ≡ 0 → Clean own₀ → held₀ ≡ validateBlocks bytes q 0 first kids → Block
+  block-holder : Blocks bytes kids → ((k : ℕ) → Stands r k → Root r k) → (r.kind ≡ container_directive → ⊥) → eqb r.kind list ≡ false → in_link (fresh i r ∷ f ∷ st) ≡ false → open₀ ≡ 0 → close₀ ≡ 0 → Clean own₀ → held₀ ≡ validate_blocks bytes q 0 first kids → Block
   block-holder ih a nd nl k o c n m =
       fits-map (λ x. (apart nl, n, rw m x.1.0))
       (fits-alone f st i r kids (still o) (within bytes es (fresh i r) (f ∷ st) (suc i) kids q at-q k refl placed ih a (rw m at t) (λ h. absurd (nd h))) (still c))
 
   -- inlines, in a block that is no directive and stops by x at its opening and by y at its closing
-  block-content : ((k : ℕ) → Stands r k → InlineRoot k) → eqb r.kind list ≡ false → inLink (fresh i r ∷ f ∷ st) ≡ false → lined (fresh i r ∷ f ∷ st) ≡ false → {X Y : Type 0} → Fit bytes es (opens (fresh i r) (f ∷ st)) X → Fit bytes es (closes (filled (fresh i r) (pile kids [])) (f ∷ st)) Y → Sub (validateInlines bytes q kids) es → (X → Clean (validateInlines bytes q kids) → Y → Clean own₀) → Clean held₀ → Block
+  block-content : ((k : ℕ) → Stands r k → InlineRoot k) → eqb r.kind list ≡ false → in_link (fresh i r ∷ f ∷ st) ≡ false → lined (fresh i r ∷ f ∷ st) ≡ false → {X Y : Type 0} → Fit bytes es (opens (fresh i r) (f ∷ st)) X → Fit bytes es (closes (filled (fresh i r) (pile kids [])) (f ∷ st)) Y → Sub (validate_inlines bytes q kids) es → (X → Clean (validate_inlines bytes q kids) → Y → Clean own₀) → Clean held₀ → Block
   block-content a nl k free x y u v m =
       fits-map (λ w. (apart nl, v w.0 w.1.0 w.2, m))
       (fits-alone f st i r kids x (content-fits bytes es (fresh i r) (f ∷ st) (suc i) kids k a placed refl q (at []) u (λ h. absurd (true≢false (sym h ∙ free)))) y)
 
   block-list : Items bytes kids → r.kind ≡ list → Block
-  unfolding stopOf stop_at validateOwn validateContainer validateList inLink position beside named
+  unfolding stop_of stop_at validate_own validate_container validate_list in_link position beside named
   block-list ih e =
-      let l : Sub (validateList q r.span r.c kids) es = rw e at s in
-      let u : Sub (validateListItems bytes q 0 r.a r.c kids) es = rw e at t in
+      let l : Sub (validate_list q r.span r.c kids) es = rw e at s in
+      let u : Sub (validate_list_items bytes q 0 r.a r.c kids) es = rw e at t in
       let m : count kids ≡ length (pile kids []) = omega (arith, length-pile kids []) in
       let n : eqb (count kids) 0 ≡ eqb (length (pile kids [])) 0 = ap (λ (x : ℕ). eqb x 0) m in
-      let j : joins b r ≡ behindList f.kids r = joins-is b r (rw e) ∙ sym same in
+      let j : joins b r ≡ behind_list f.kids r = joins-is b r (rw e) ∙ sym same in
       fits-map (λ c. (clean-if 1 _ q (j ∙ c.0), rw e (clean-append (clean-if 12 _ q (n ∙ c.2)) (clean-noise _ 13 _ q refl)), rw e c.1))
       (fits-alone f st i r kids
-      (one-stop (behindList f.kids r) 13 (rw e) (λ h. sub-if 1 _ q s₁ (j ∙ h) refl (at [])))
+      (one-stop (behind_list f.kids r) 13 (rw e) (λ h. sub-if 1 _ q s₁ (j ∙ h) refl (at [])))
       (rw at-q at (ih es (fresh i r) (f ∷ st) (suc i) 0 0 r.c e placed refl (rw e out) (rw at-q u)))
       (one-stop (eqb (length (pile kids [])) 0) 8 (rw e) (λ h. sub-if 12 _ q (sub-left _ l) (n ∙ h) refl (at (pile kids [])))))
 
   block-front : r.kind ≡ frontmatter → Block
-  unfolding stopOf stop_at validateOwn validateContainer validateLeaf validateFrontmatter Holds.holdsBlocks group_of parentGroup otherGroup beside named
+  unfolding stop_of stop_at validate_own validate_container validate_leaf validate_frontmatter Holds.holds_blocks group_of parent_group other_group beside named
   block-front e =
-      let l : Sub (validateFrontmatter bytes q r.span r.level r.a r.first) es = rw e at s in
+      let l : Sub (validate_frontmatter bytes q r.span r.level r.a r.first) es = rw e at s in
       fits-map (λ c. (apart (rw e), rw e (clean-append (clean-if 28 _ q c.0) (clean-noise _ 29 _ q refl)), rw e clean-none))
       (fits-alone f st i r kids
       (one-stop (ltb 1 r.level) 11 (rw e) (λ h. sub-if 28 _ q (sub-left _ l) h refl (at [])))
       (fits-leaf _ _ _ _ (leaf r 0 kids placed (rw e)))
       (still (rw e)))
 
-  block-leaf-directive : r.kind ≡ leafDirective → Block
-  unfolding stopOf stop_at validateOwn validateContainer validateLeaf validateDirective Holds.holdsBlocks group_of parentGroup otherGroup inLink nearest beside named
+  block-leaf-directive : r.kind ≡ leaf_directive → Block
+  unfolding stop_of stop_at validate_own validate_container validate_leaf validate_directive Holds.holds_blocks group_of parent_group other_group in_link nearest beside named
   block-leaf-directive e =
-      let l : Sub (validateDirective bytes q 22 r.span r.first kids) es = rw e at s in
+      let l : Sub (validate_directive bytes q 22 r.span r.first kids) es = rw e at s in
       let a : (k : ℕ) → Stands r k → InlineRoot k = hold-label r (rw e) in
-      let z : beforeBlocks kids ≡ kids = all-before r 0 kids a placed in
+      let z : before_blocks kids ≡ kids = all-before r 0 kids a placed in
       let line : lined (fresh i r ∷ f ∷ st) ≡ true = rw e in
       fits-map (λ c. (apart (rw e), rw e (clean-directive bytes q r.span 22 r.first kids z c.1.0 (c.1.1 line 22)), rw e clean-none))
       (fits-alone f st i r kids
@@ -278,12 +278,12 @@ module _ (bytes : List ℕ) (es : List Entry) (f : Frame) (st : List Frame) (i :
       (content-fits bytes es (fresh i r) (f ∷ st) (suc i) kids (rw e out) a placed refl q (at []) (rw z at (sub-left _ (sub-right _ (sub-right _ l)))) (λ h. (22, refl, rw z at (sub-right _ (sub-right _ (sub-right _ l))))))
       (still (rw e)))
 
-  block-directive : Blocks bytes kids → r.kind ≡ containerDirective → Block
-  unfolding stopOf stop_at validateOwn validateContainer validateDirective validateInlines validateInlineNodes Holds.holdsBlocks group_of parentGroup otherGroup inLink named
+  block-directive : Blocks bytes kids → r.kind ≡ container_directive → Block
+  unfolding stop_of stop_at validate_own validate_container validate_directive validate_inlines validate_inline_nodes Holds.holds_blocks group_of parent_group other_group in_link named
   block-directive ih e =
-      let l : Sub (validateDirective bytes q 23 r.span r.first kids) es = rw e at s in
-      let u : Sub (validateBlocks bytes q 0 first kids) es = rw e at t in
-      fits-map (λ c. let w = c.1.1 e (omega arith) in (apart (rw e), rw e (clean-append (clean-name bytes q r.span r.first) (clean-append (clean-attributes bytes q (beforeBlocks kids)) (clean-append (clean-append (clean-final q (beforeBlocks kids)) w.nodes) w.line))), rw e c.1.0))
+      let l : Sub (validate_directive bytes q 23 r.span r.first kids) es = rw e at s in
+      let u : Sub (validate_blocks bytes q 0 first kids) es = rw e at t in
+      fits-map (λ c. let w = c.1.1 e (omega arith) in (apart (rw e), rw e (clean-append (clean-name bytes q r.span r.first) (clean-append (clean-attributes bytes q (before_blocks kids)) (clean-append (clean-append (clean-final q (before_blocks kids)) w.nodes) w.line))), rw e c.1.0))
       (fits-alone f st i r kids
       (still (rw e))
       (within bytes es (fresh i r) (f ∷ st) (suc i) kids q at-q (rw e out) refl placed ih
@@ -291,8 +291,8 @@ module _ (bytes : List ℕ) (es : List Entry) (f : Frame) (st : List Frame) (i :
       u (λ h g. record { nodes = sub-right _ (sub-left _ (sub-right _ (sub-right _ l))); line = sub-right _ (sub-right _ (sub-right _ l)) }))
       (still (rw e)))
 
-  block-html : Blocks bytes kids → r.kind ≡ htmlContainer → Block
-  unfolding stopOf stop_at validateOwn validateContainer validateHtml Holds.holdsBlocks group_of parentGroup otherGroup inLink nearest named
+  block-html : Blocks bytes kids → r.kind ≡ html_container → Block
+  unfolding stop_of stop_at validate_own validate_container validate_html Holds.holds_blocks group_of parent_group other_group in_link nearest named
   block-html ih e = go (eqb r.a 0) refl
     where
       go : (x : Bool) → eqb r.a 0 ≡ x → Block
@@ -304,10 +304,10 @@ module _ (bytes : List ℕ) (es : List Entry) (f : Frame) (st : List Frame) (i :
           (sub-right _ (rw (e, u) at s)) (λ x c y. rw (e, u) (clean-append (clean-tags bytes q r.span kids) c)) (rw (e, u) clean-none)
 
   block-fits : Blocks bytes kids → Items bytes kids → BlockKind r.kind → Block
-  unfolding stopOf stop_at validateOwn validateContainer validateLeaf validateParagraph validateHeading Holds.holdsBlocks group_of parentGroup otherGroup inLink nearest beside named
+  unfolding stop_of stop_at validate_own validate_container validate_leaf validate_paragraph validate_heading Holds.holds_blocks group_of parent_group other_group in_link nearest beside named
   block-fits ihb ihi (b1 e) =
       block-content (hold-inlines r (rw e)) (rw e) (rw e out) (rw e) (still (rw e))
-      (one-stop (onlyEmpty (pile kids [])) 9 (rw e) (λ h. sub-if 2 _ q (sub-left _ (rw e at s)) (sym (empty-kids r kids (rw e) placed) ∙ h) refl (at (pile kids []))))
+      (one-stop (only_empty (pile kids [])) 9 (rw e) (λ h. sub-if 2 _ q (sub-left _ (rw e at s)) (sym (empty-kids r kids (rw e) placed) ∙ h) refl (at (pile kids []))))
       (sub-right _ (rw e at s)) (λ x c y. rw e (clean-append (clean-if 2 _ q (sym (empty-kids r kids (rw e) placed) ∙ y)) c)) (rw e clean-none)
   block-fits ihb ihi (b2 e) =
       block-content (hold-inlines r (rw e)) (rw e) (rw e out) (rw e)
@@ -331,28 +331,28 @@ module _ (bytes : List ℕ) (es : List Entry) (f : Frame) (st : List Frame) (i :
   block-fits ihb ihi (b17 e) = block-plain (rw e) (rw e) (rw e) (rw e) (rw e clean-none) (rw e clean-none)
 
 -- an item's number: its two stops, and its two rules
-module _ (bytes : List ℕ) (es : List Entry) (f : Frame) (st : List Frame) (i : ℕ) (r : Rec) (q : List ℕ) (e : r.kind ≡ item) (d : pathOf (fresh i r ∷ f ∷ st) ≡ q) (s : Sub (validateItemNumber q r.span f.of.a (itemNumber r.b r.c)) es) where
-  number_fits : Fit bytes es (opens (fresh i r) (f ∷ st)) (Clean (validateItemNumber q r.span f.of.a (itemNumber r.b r.c)))
-  unfolding stopOf stop_at validateItemNumber itemNumber beside
+module _ (bytes : List ℕ) (es : List Entry) (f : Frame) (st : List Frame) (i : ℕ) (r : Rec) (q : List ℕ) (e : r.kind ≡ item) (d : path_of (fresh i r ∷ f ∷ st) ≡ q) (s : Sub (validate_item_number q r.span f.of.a (item_number r.b r.c)) es) where
+  number_fits : Fit bytes es (opens (fresh i r) (f ∷ st)) (Clean (validate_item_number q r.span f.of.a (item_number r.b r.c)))
+  unfolding stop_of stop_at validate_item_number item_number beside
   number_fits = go (eqb f.of.a 1) refl (eqb r.b 1) refl
     where
-      at : Begins (blockPath (fresh i r ∷ f ∷ st)) q
+      at : Begins (block_path (fresh i r ∷ f ∷ st)) q
       at = rw d at (begins (fresh i r ∷ f ∷ st))
 
-      go : (x : Bool) → eqb f.of.a 1 ≡ x → (y : Bool) → eqb r.b 1 ≡ y → Fit bytes es (opens (fresh i r) (f ∷ st)) (Clean (validateItemNumber q r.span f.of.a (itemNumber r.b r.c)))
+      go : (x : Bool) → eqb f.of.a 1 ≡ x → (y : Bool) → eqb r.b 1 ≡ y → Fit bytes es (opens (fresh i r) (f ∷ st)) (Clean (validate_item_number q r.span f.of.a (item_number r.b r.c)))
       go true u false v = fit-map (λ c. rw v clean-none) (still (rw (e, u, v)))
       go false u false v = fit-map (λ c. rw v clean-none) (still (rw (e, u, v)))
-      go true u true v = fit-map (λ c. rw (v, u) (clean-append (clean-if 49 _ q refl) (clean-if 50 _ q c))) (one-stop (ltb mostOwnNumber r.c) 6 (rw (e, u, v)) (λ h. sub-if 50 _ q (sub-right _ (rw (v, u) at s)) h refl at))
+      go true u true v = fit-map (λ c. rw (v, u) (clean-append (clean-if 49 _ q refl) (clean-if 50 _ q c))) (one-stop (ltb most_own_number r.c) 6 (rw (e, u, v)) (λ h. sub-if 50 _ q (sub-right _ (rw (v, u) at s)) h refl at))
       go false u true v = fit-map (λ c. absurd (true≢false c)) (one-stop true 7 (rw (e, u, v)) (λ h. sub-if 49 _ q (sub-left _ (rw (v, u) at s)) refl refl at))
 
 -- an item and the items after it
 module _ (bytes : List ℕ) (es : List Entry) (f : Frame) (st : List Frame) (i m k tight : ℕ) (r : Rec) (kids rest : Forest) (ihb : Blocks bytes kids) (ihr : Items bytes rest) where
-  tree-item : f.of.kind ≡ list → Placed f.of m (tree r kids rest) → position f.kids ≡ k → inLink (f ∷ st) ≡ false → Sub (validateListItems bytes (pathOf (f ∷ st)) k f.of.a tight (tree r kids rest)) es → Fits bytes es (walk f st i (tree r kids rest)) (Clean (validateListItems bytes (pathOf (f ∷ st)) k f.of.a tight (tree r kids rest)))
-  unfolding validateListItems validateItem Placed pathOf inLink position stopOf stop_at group_of parentGroup named
+  tree-item : f.of.kind ≡ list → Placed f.of m (tree r kids rest) → position f.kids ≡ k → in_link (f ∷ st) ≡ false → Sub (validate_list_items bytes (path_of (f ∷ st)) k f.of.a tight (tree r kids rest)) es → Fits bytes es (walk f st i (tree r kids rest)) (Clean (validate_list_items bytes (path_of (f ∷ st)) k f.of.a tight (tree r kids rest)))
+  unfolding validate_list_items validate_item Placed path_of in_link position stop_of stop_at group_of parent_group named
   tree-item e placed t out s =
       let one : r.kind ≡ item = under-list f.of r.kind placed.0 (rw e) in
-      let q : List ℕ = pathOf (f ∷ st) ++ k ∷ [] in
-      let at-q : pathOf (fresh i r ∷ f ∷ st) ≡ pathOf (f ∷ st) ++ k ∷ [] = path-indexed (fresh i r) (f ∷ st) (rw one) ∙ ap (λ (n : ℕ). pathOf (f ∷ st) ++ n ∷ []) t in
+      let q : List ℕ = path_of (f ∷ st) ++ k ∷ [] in
+      let at-q : path_of (fresh i r ∷ f ∷ st) ≡ path_of (f ∷ st) ++ k ∷ [] = path-indexed (fresh i r) (f ∷ st) (rw one) ∙ ap (λ (n : ℕ). path_of (f ∷ st) ++ n ∷ []) t in
       let u = sub-left _ s in
       fits-map (λ x. clean-append (clean-append x.0.0 (clean-append (clean-blanks q (eqb tight 1) _ 0 kids) (clean-append (clean-task bytes q r.span r.a kids) x.0.1.0))) x.1)
       (fits-tree f st i r kids rest
@@ -360,45 +360,45 @@ module _ (bytes : List ℕ) (es : List Entry) (f : Frame) (st : List Frame) (i m
       (number_fits bytes es f st i r q one at-q (sub-left _ u))
       (within bytes es (fresh i r) (f ∷ st) (suc i) kids q at-q (rw one out) refl placed.2 ihb (hold-blocks r (rw one)) (sub-right _ (sub-right _ (sub-right _ u))) (λ h. absurd (let z : ◌≡◌ {A = ℕ} 20 16 = sym one ∙ h in omega arith)))
       (still (rw one)))
-      (ihr es (withKid r f) st (suc i + size kids) (rank r.kind) (suc k) tight e placed.3 (rw one (ap suc t)) out (sub-right _ s)))
+      (ihr es (with_kid r f) st (suc i + size kids) (rank r.kind) (suc k) tight e placed.3 (rw one (ap suc t)) out (sub-right _ s)))
 
 -- what is listed of a tree and of the trees after it
 module _ (bytes : List ℕ) (r : Rec) (kids rest : Forest) (p : List ℕ) (k : ℕ) (b : Before) where
-  of-block : isBlock r.kind ≡ true → validateBlocks bytes p k b (tree r kids rest) ≡ (listIf (joins b r) 1 r.span (p ++ k ∷ []) ⊕ listIf (eqb r.kind codeBlock && eqb r.a 1 && takesIndentedCode b.kind b.a) 15 r.span (p ++ k ∷ [])) ⊕ ((validateOwn bytes (p ++ k ∷ []) r kids ⊕ held bytes (p ++ k ∷ []) r kids) ⊕ validateBlocks bytes p (suc k) (beforeNext b r.kind r.a r.b) rest)
-  unfolding validateBlocks validateBlock validateTakenBlock
+  of-block : is_block r.kind ≡ true → validate_blocks bytes p k b (tree r kids rest) ≡ (list_if (joins b r) 1 r.span (p ++ k ∷ []) ⊕ list_if (eqb r.kind code_block && eqb r.a 1 && takes_indented_code b.kind b.a) 15 r.span (p ++ k ∷ [])) ⊕ ((validate_own bytes (p ++ k ∷ []) r kids ⊕ held bytes (p ++ k ∷ []) r kids) ⊕ validate_blocks bytes p (suc k) (before_next b r.kind r.a r.b) rest)
+  unfolding validate_blocks validate_block validate_taken_block
   of-block h = rw h
 
-  of_other : isBlock r.kind ≡ false → validateBlocks bytes p k b (tree r kids rest) ≡ validateBlocks bytes p k b rest
-  unfolding validateBlocks
+  of_other : is_block r.kind ≡ false → validate_blocks bytes p k b (tree r kids rest) ≡ validate_blocks bytes p k b rest
+  unfolding validate_blocks
   of_other h = rw h
 
 -- a tree and the trees after it
-module _ (bytes : List ℕ) (es : List Entry) (f : Frame) (st : List Frame) (i m k : ℕ) (b : Before) (c : ℕ) (r : Rec) (kids rest : Forest) (ihb : Blocks bytes kids) (ihi : Items bytes kids) (ihr : Blocks bytes rest) (holder : (k : ℕ) → Stands f.of k → Root f.of k) (placed : Placed f.of m (tree r kids rest)) (told : Told f.kids m k b c) (out : inLink (f ∷ st) ≡ false) (s : Sub (validateBlocks bytes (pathOf (f ∷ st)) k b (tree r kids rest)) es) (t : f.of.kind ≡ containerDirective → m ≤ 1 → Label bytes es (pathOf (f ∷ st)) c (tree r kids rest)) where
+module _ (bytes : List ℕ) (es : List Entry) (f : Frame) (st : List Frame) (i m k : ℕ) (b : Before) (c : ℕ) (r : Rec) (kids rest : Forest) (ihb : Blocks bytes kids) (ihi : Items bytes kids) (ihr : Blocks bytes rest) (holder : (k : ℕ) → Stands f.of k → Root f.of k) (placed : Placed f.of m (tree r kids rest)) (told : Told f.kids m k b c) (out : in_link (f ∷ st) ≡ false) (s : Sub (validate_blocks bytes (path_of (f ∷ st)) k b (tree r kids rest)) es) (t : f.of.kind ≡ container_directive → m ≤ 1 → Label bytes es (path_of (f ∷ st)) c (tree r kids rest)) where
   abbrev Tree : Type 0
-  Tree = Fits bytes es (walk f st i (tree r kids rest)) (Clean (validateBlocks bytes (pathOf (f ∷ st)) k b (tree r kids rest)) × (f.of.kind ≡ containerDirective → m ≤ 1 → CleanLabel bytes (pathOf (f ∷ st)) c (tree r kids rest)))
+  Tree = Fits bytes es (walk f st i (tree r kids rest)) (Clean (validate_blocks bytes (path_of (f ∷ st)) k b (tree r kids rest)) × (f.of.kind ≡ container_directive → m ≤ 1 → CleanLabel bytes (path_of (f ∷ st)) c (tree r kids rest)))
 
   tree-block : BlockKind r.kind → Tree
-  unfolding Placed pathOf inLink named
+  unfolding Placed path_of in_link named
   tree-block kd =
       let y : Blocky r.kind = blocky r.kind kd in
-      let eb = of-block bytes r kids rest (pathOf (f ∷ st)) k b y.aBlock in
+      let eb = of-block bytes r kids rest (path_of (f ∷ st)) k b y.a_block in
       let l = rw eb at s in
       let o = sub-left _ (sub-right _ l) in
-      fits-map (λ x. (rw eb (clean-append (clean-append x.0.0 (clean-noise _ 15 _ _ refl)) (clean-append (clean-append x.0.1 x.0.2) x.1.0)), λ h g. label-none bytes _ c (tree r kids rest) (before-block r kids rest y.aBlock)))
+      fits-map (λ x. (rw eb (clean-append (clean-append x.0.0 (clean-noise _ 15 _ _ refl)) (clean-append (clean-append x.0.1 x.0.2) x.1.0)), λ h g. label-none bytes _ c (tree r kids rest) (before-block r kids rest y.a_block)))
       (fits-tree f st i r kids rest
-      (block-fits bytes es f st i b r kids (pathOf (f ∷ st) ++ k ∷ []) (path-indexed (fresh i r) (f ∷ st) y.isIndexed ∙ ap (λ (n : ℕ). pathOf (f ∷ st) ++ n ∷ []) told.many) out placed.2 (told.lists r) (sub-left _ (sub-left _ l)) (sub-left _ o) (sub-right _ o) ihb ihi kd)
-      (ihr es (withKid r f) st (suc i + size kids) (rank r.kind) (suc k) (beforeNext b r.kind r.a r.b) c holder placed.3 (told-block told r y) out (sub-right _ (sub-right _ l)) (λ h g. absurd (let z : rank r.kind ≡ 2 = y.is_last in omega arith))))
+      (block-fits bytes es f st i b r kids (path_of (f ∷ st) ++ k ∷ []) (path-indexed (fresh i r) (f ∷ st) y.is_indexed ∙ ap (λ (n : ℕ). path_of (f ∷ st) ++ n ∷ []) told.many) out placed.2 (told.lists r) (sub-left _ (sub-left _ l)) (sub-left _ o) (sub-right _ o) ihb ihi kd)
+      (ihr es (with_kid r f) st (suc i + size kids) (rank r.kind) (suc k) (before_next b r.kind r.a r.b) c holder placed.3 (told-block told r y) out (sub-right _ (sub-right _ l)) (λ h g. absurd (let z : rank r.kind ≡ 2 = y.is_last in omega arith))))
 
-  tree-inline : f.of.kind ≡ containerDirective → InlineKind r.kind → Tree
-  unfolding Placed pathOf inLink nearest beside named
+  tree-inline : f.of.kind ≡ container_directive → InlineKind r.kind → Tree
+  unfolding Placed path_of in_link nearest beside named
   tree-inline e kd =
       let y : Inliny r.kind = inliny r.kind kd in
-      let low : m ≤ 1 = rw y.isSecond at placed.1 in
-      let next : rank r.kind ≤ 1 = let z : rank r.kind ≡ 1 = y.isSecond in omega arith in
-      let eb = of_other bytes r kids rest (pathOf (f ∷ st)) k b y.no_block in
+      let low : m ≤ 1 = rw y.is_second at placed.1 in
+      let next : rank r.kind ≤ 1 = let z : rank r.kind ≡ 1 = y.is_second in omega arith in
+      let eb = of_other bytes r kids rest (path_of (f ∷ st)) k b y.no_block in
       let ef = before-other r kids rest y.no_block in
-      let en = nodes-in bytes r kids (beforeBlocks rest) (pathOf (f ∷ st)) y.anInline c in
-      let el = line-in bytes r kids (beforeBlocks rest) (pathOf (f ∷ st)) 23 in
+      let en = nodes-in bytes r kids (before_blocks rest) (path_of (f ∷ st)) y.an_inline c in
+      let el = line-in bytes r kids (before_blocks rest) (path_of (f ∷ st)) 23 in
       let n = rw (ef, en) at (t e low).nodes in
       let l = sub-left _ n in
       let o = rw (ef, el) at (t e low).line in
@@ -414,26 +414,26 @@ module _ (bytes : List ℕ) (es : List Entry) (f : Frame) (st : List Frame) (i m
             },
       ))
       (fits-tree f st i r kids rest
-      (node-fits bytes es f st i c (pathOf (f ∷ st)) (begins (f ∷ st)) r kids (told.broke low) placed.2
+      (node-fits bytes es f st i c (path_of (f ∷ st)) (begins (f ∷ st)) r kids (told.broke low) placed.2
       (record { broken = sub-left _ (sub-left _ l); own = sub-left _ (sub-right _ l); under = sub-right _ (sub-right _ l); lines = λ h. (23, refl, sub-left _ o, sub-left _ (sub-right _ o)); links = λ h. absurd (true≢false (sym h ∙ out)) })
       y (inlines-fit bytes kids) kd)
-      (ihr es (withKid r f) st (suc i + size kids) (rank r.kind) k b r.kind holder placed.3 (told-inline told r low y) out (rw eb at s) (λ h g. record { nodes = sub-right _ n; line = sub-right _ (sub-right _ o) })))
+      (ihr es (with_kid r f) st (suc i + size kids) (rank r.kind) k b r.kind holder placed.3 (told-inline told r low y) out (rw eb at s) (λ h g. record { nodes = sub-right _ n; line = sub-right _ (sub-right _ o) })))
 
   tree-extra : Extra r.kind → Tree
-  unfolding Placed pathOf inLink
+  unfolding Placed path_of in_link
   tree-extra x =
       let y : Extras r.kind = extras r.kind x in
-      let low : m ≤ 0 = rw y.isFirst at placed.1 in
-      let next : rank r.kind ≤ 1 = let z : rank r.kind ≡ 0 = y.isFirst in omega arith in
+      let low : m ≤ 0 = rw y.is_first at placed.1 in
+      let next : rank r.kind ≤ 1 = let z : rank r.kind ≡ 0 = y.is_first in omega arith in
       let z : kids ≡ none = extra-leaf r kids placed.2 x in
-      let eb = of_other bytes r kids rest (pathOf (f ∷ st)) k b y.no_block in
+      let eb = of_other bytes r kids rest (path_of (f ∷ st)) k b y.no_block in
       let ef = before-other r kids rest y.no_block in
-      let en = nodes-out bytes r kids (beforeBlocks rest) (pathOf (f ∷ st)) y.noInline c in
-      let el = line-out bytes r kids (beforeBlocks rest) (pathOf (f ∷ st)) z y.noBreak 23 in
+      let en = nodes-out bytes r kids (before_blocks rest) (path_of (f ∷ st)) y.no_inline c in
+      let el = line-out bytes r kids (before_blocks rest) (path_of (f ∷ st)) z y.no_break 23 in
       fits-map (λ x. (rw eb x.1.0, λ h g. let w = x.1.1 h next in record { nodes = rw (ef, en) w.nodes; line = rw (ef, el) w.line }))
       (fits-tree f st i r kids rest
       (extra-fits bytes es f st i r kids placed.2 x)
-      (ihr es (withKid r f) st (suc i + size kids) (rank r.kind) k b c holder placed.3 (told-extra told r low y) out (rw eb at s) (λ h g. let w = t h (omega arith) in record { nodes = rw (ef, en) at w.nodes; line = rw (ef, el) at w.line })))
+      (ihr es (with_kid r f) st (suc i + size kids) (rank r.kind) k b c holder placed.3 (told-extra told r low y) out (rw eb at s) (λ h g. let w = t h (omega arith) in record { nodes = rw (ef, en) at w.nodes; line = rw (ef, el) at w.line })))
 
   tree-fits : Root f.of r.kind → Tree
   tree-fits (first_of x) = tree-extra x
@@ -441,7 +441,7 @@ module _ (bytes : List ℕ) (es : List Entry) (f : Frame) (st : List Frame) (i m
   tree-fits (blocked kd) = tree-block kd
 
 pub blocks-fit : (bytes : List ℕ) (ts : Forest) → Blocks bytes ts × Items bytes ts
-unfolding walk validateBlocks validateListItems Placed
+unfolding walk validate_blocks validate_list_items Placed
 blocks-fit bytes none = (
   λ es f st i m k b c holder placed told out s t. fits-map (λ x. (clean-none, λ h g. label-none bytes _ c none before-none)) fits-none,
   λ es f st i m k tight e placed t out s. fits-map (λ x. clean-none) fits-none,

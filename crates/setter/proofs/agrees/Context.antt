@@ -5,63 +5,63 @@ use mathlib.Core.List.{List, [], ◌∷◌, ◌++◌, append_assoc, append-nil}
 use Prim.Native.Nat.{ℕ, ◌+◌}
 use native.Mathlib.Omega.{arith}
 use lib.ListN.{length}
-use Rattle.leaves.specs.Sheet.Kinds.{isBlock, isInline}
+use Rattle.leaves.specs.Sheet.Kinds.{is_block, is_inline}
 use Rattle.leaves.specs.Sheet.Forest.{Forest, none, tree, count}
 use Rattle.leaves.specs.declared.sheet.records.Rec.{Rec}
-use Rattle.leaves.specs.Refusal.Groups.{holdsInlines}
-use Rattle.leaves.specs.Sheet.Empty.{isEmptyText}
-use Rattle.inlines.specs.Content.{allEmpty}
+use Rattle.leaves.specs.Refusal.Groups.{holds_inlines}
+use Rattle.leaves.specs.Sheet.Empty.{is_empty_text}
+use Rattle.inlines.specs.Content.{all_empty}
 use Rattle.setter.specs.Steps.{Frame}
-use Rattle.setter.specs.Machine.{inPath, pathOf, blockPath, position}
-use Rattle.setter.specs.Seen.{siblings, nearest, onlyEmpty}
+use Rattle.setter.specs.Machine.{in_path, path_of, block_path, position}
+use Rattle.setter.specs.Seen.{siblings, nearest, only_empty}
 use Rattle.setter.specs.Agrees.{Begins}
 use Rattle.setter.proofs.agrees.Flat.{pile, filled}
 use Rattle.setter.proofs.agrees.KindCases.{inliny}
 use Rattle.setter.proofs.agrees.Placed.{group_of, Placed, under-inlines}
 
 -- the innermost block's path begins the path
-pub begins : (st : List Frame) → Begins (blockPath st) (pathOf st)
-unfolding blockPath pathOf
+pub begins : (st : List Frame) → Begins (block_path st) (path_of st)
+unfolding block_path path_of
 begins [] = ([], refl)
-begins (f ∷ st) = go (isBlock f.of.kind) refl (inPath f.of.kind) refl (begins st)
+begins (f ∷ st) = go (is_block f.of.kind) refl (in_path f.of.kind) refl (begins st)
   where
-    go : (b : Bool) → isBlock f.of.kind ≡ b → (c : Bool) → inPath f.of.kind ≡ c → Begins (blockPath st) (pathOf st) → Begins (blockPath (f ∷ st)) (pathOf (f ∷ st))
+    go : (b : Bool) → is_block f.of.kind ≡ b → (c : Bool) → in_path f.of.kind ≡ c → Begins (block_path st) (path_of st) → Begins (block_path (f ∷ st)) (path_of (f ∷ st))
     go true e c g ih = rw e ([], sym (append-nil _))
-    go false e true g ih = rw (e, rw e at g) (ih.0 ++ position (siblings st) ∷ [], ap (λ (l : List ℕ). l ++ position (siblings st) ∷ []) ih.1 ∙ append_assoc (blockPath st) ih.0 _)
+    go false e true g ih = rw (e, rw e at g) (ih.0 ++ position (siblings st) ∷ [], ap (λ (l : List ℕ). l ++ position (siblings st) ∷ []) ih.1 ∙ append_assoc (block_path st) ih.0 _)
     go false e false g ih = rw (e, rw e at g) ih
 
 -- whatever has closed under it
-pub begins-filled : (f : Frame) (st : List Frame) (ks : List Rec) → Begins (blockPath (filled f ks ∷ st)) (pathOf (f ∷ st))
-unfolding pathOf
+pub begins-filled : (f : Frame) (st : List Frame) (ks : List Rec) → Begins (block_path (filled f ks ∷ st)) (path_of (f ∷ st))
+unfolding path_of
 begins-filled f st ks = begins (filled f ks ∷ st)
 
 pub begins-more : (p q t : List ℕ) → Begins p q → Begins p (q ++ t)
 begins-more p q t h = (h.0 ++ t, ap (λ (l : List ℕ). l ++ t) h.1 ∙ append_assoc p h.0 t)
 
 -- what a path counts, and what is no block
-pub path-indexed : (f : Frame) (st : List Frame) → inPath f.of.kind ≡ true → pathOf (f ∷ st) ≡ pathOf st ++ position (siblings st) ∷ []
-unfolding pathOf
+pub path-indexed : (f : Frame) (st : List Frame) → in_path f.of.kind ≡ true → path_of (f ∷ st) ≡ path_of st ++ position (siblings st) ∷ []
+unfolding path_of
 path-indexed f st h = rw h
 
-pub place_other : (f : Frame) (st : List Frame) → isBlock f.of.kind ≡ false → blockPath (f ∷ st) ≡ blockPath st
-unfolding blockPath
+pub place_other : (f : Frame) (st : List Frame) → is_block f.of.kind ≡ false → block_path (f ∷ st) ≡ block_path st
+unfolding block_path
 place_other f st h = rw h
 
-pub nearest-inline : (f : Frame) (st : List Frame) → isInline f.of.kind ≡ true → nearest (f ∷ st) ≡ nearest st
+pub nearest-inline : (f : Frame) (st : List Frame) → is_inline f.of.kind ≡ true → nearest (f ∷ st) ≡ nearest st
 unfolding nearest
 nearest-inline f st h = rw h
 
 -- the pile
-pub empty-pile : (p : Rec) (m : ℕ) (ts : Forest) (ks : List Rec) → group_of p ≡ holdsInlines → Placed p m ts → onlyEmpty (pile ts ks) ≡ (allEmpty ts && onlyEmpty ks)
-unfolding onlyEmpty pile allEmpty Placed
+pub empty-pile : (p : Rec) (m : ℕ) (ts : Forest) (ks : List Rec) → group_of p ≡ holds_inlines → Placed p m ts → only_empty (pile ts ks) ≡ (all_empty ts && only_empty ks)
+unfolding only_empty pile all_empty Placed
 empty-pile p m none ks e h = refl
 empty-pile p m (tree r kids rest) ks e h =
-    let i : isInline r.kind ≡ true = (inliny r.kind (under-inlines p r.kind h.0 e)).anInline in
-    rw i (empty-pile p _ rest (r ∷ ks) e h.3 ∙ sym (and_assoc (allEmpty rest) (isEmptyText r) (onlyEmpty ks)) ∙ ap (λ (b : Bool). b && onlyEmpty ks) (and_comm (allEmpty rest) (isEmptyText r)))
+    let i : is_inline r.kind ≡ true = (inliny r.kind (under-inlines p r.kind h.0 e)).an_inline in
+    rw i (empty-pile p _ rest (r ∷ ks) e h.3 ∙ sym (and_assoc (all_empty rest) (is_empty_text r) (only_empty ks)) ∙ ap (λ (b : Bool). b && only_empty ks) (and_comm (all_empty rest) (is_empty_text r)))
 
-pub empty-kids : (r : Rec) (ts : Forest) → group_of r ≡ holdsInlines → Placed r 0 ts → onlyEmpty (pile ts []) ≡ allEmpty ts
-unfolding onlyEmpty
-empty-kids r ts e h = empty-pile r 0 ts [] e h ∙ go (allEmpty ts)
+pub empty-kids : (r : Rec) (ts : Forest) → group_of r ≡ holds_inlines → Placed r 0 ts → only_empty (pile ts []) ≡ all_empty ts
+unfolding only_empty
+empty-kids r ts e h = empty-pile r 0 ts [] e h ∙ go (all_empty ts)
   where
     go : (b : Bool) → (b && true) ≡ b
     go true = refl

@@ -9,15 +9,15 @@ use Rattle.leaves.specs.Text.Lists.{if◌then◌else◌}
 use Rattle.leaves.specs.Sheet.Forest.{Forest, none, tree, size}
 use Rattle.leaves.specs.declared.sheet.records.Rec.{Rec}
 use Rattle.leaves.specs.declared.sheet.records.Span.{Span}
-use Rattle.leaves.specs.Report.Entries.{Entry, listIf, ◌⊕◌}
-use Rattle.setter.specs.Steps.{Frame, fresh, withKid, Step, opens, closes}
-use Rattle.setter.specs.Machine.{open_at, blockPath}
-use Rattle.setter.specs.Stops.{stopOf}
+use Rattle.leaves.specs.Report.Entries.{Entry, list_if, ◌⊕◌}
+use Rattle.setter.specs.Steps.{Frame, fresh, with_kid, Step, opens, closes}
+use Rattle.setter.specs.Machine.{open_at, block_path}
+use Rattle.setter.specs.Stops.{stop_of}
 use Rattle.setter.specs.Agrees.{Some, Told, Begins}
 use Rattle.setter.specs.Stops.{beside, named}
 use Rattle.setter.proofs.agrees.Flat.{walk, filled, pile}
 
--- an entry of a rule beside stopOf bytes s, at a path that begins with p
+-- an entry of a rule beside stop_of bytes s, at a path that begins with p
 pub record Found (es : List Entry) (s : ℕ) (p : List ℕ) : Type 0 where
   pub is : Some (Told s p) es
 
@@ -48,8 +48,8 @@ module _ {a es : List Entry} (b : List Entry) where
   unfolding ◌⊕◌
   sub-right h = record { tell = λ s p g. h.tell s p (record { is = some_right (Told s p) b a g.is }) }
 
-pub sub-if : {b : Bool} {s : ℕ} {q : List ℕ} {es : List Entry} (n : ℕ) (sp : Span) (p : List ℕ) → Sub (listIf b n sp p) es → b ≡ true → beside s n ≡ true → Begins q p → Found es s q
-unfolding listIf Some
+pub sub-if : {b : Bool} {s : ℕ} {q : List ℕ} {es : List Entry} (n : ℕ) (sp : Span) (p : List ℕ) → Sub (list_if b n sp p) es → b ≡ true → beside s n ≡ true → Begins q p → Found es s q
+unfolding list_if Some
 sub-if {s = s} {q = q} n sp p h c e g = (rw c at h).tell s q (record { is = inl (e, g) })
 
 -- no entry is of a rule beside a stop
@@ -73,31 +73,31 @@ pub clean-append : {a b : List Entry} → Clean a → Clean b → Clean (a ⊕ b
 unfolding ◌⊕◌
 clean-append {a} {b} h g = record { is = unnamed-append a b h.is g.is }
 
-pub clean-if : {b : Bool} (n : ℕ) (sp : Span) (p : List ℕ) → b ≡ false → Clean (listIf b n sp p)
-unfolding listIf
+pub clean-if : {b : Bool} (n : ℕ) (sp : Span) (p : List ℕ) → b ≡ false → Clean (list_if b n sp p)
+unfolding list_if
 clean-if n sp p e = rw e clean-none
 
-pub clean-noise : (b : Bool) (n : ℕ) (sp : Span) (p : List ℕ) → named n ≡ false → Clean (listIf b n sp p)
-unfolding listIf Unnamed
+pub clean-noise : (b : Bool) (n : ℕ) (sp : Span) (p : List ℕ) → named n ≡ false → Clean (list_if b n sp p)
+unfolding list_if Unnamed
 clean-noise true n sp p e = record { is = (e, tt) }
 clean-noise false n sp p e = clean-none
 
 -- every stop of the steps is told of in es; and no step stops
 unfoldable pub Heard : List ℕ → List Entry → List Step → Type 0
 Heard bytes es [] = Unit {0}
-Heard bytes es (s ∷ ss) = ((stopOf bytes s ≡ 0) ⊎ Found es (stopOf bytes s) (blockPath (open_at s))) × Heard bytes es ss
+Heard bytes es (s ∷ ss) = ((stop_of bytes s ≡ 0) ⊎ Found es (stop_of bytes s) (block_path (open_at s))) × Heard bytes es ss
 
 unfoldable pub Quiet : List ℕ → List Step → Type 0
 Quiet bytes [] = Unit {0}
-Quiet bytes (s ∷ ss) = (stopOf bytes s ≡ 0) × Quiet bytes ss
+Quiet bytes (s ∷ ss) = (stop_of bytes s ≡ 0) × Quiet bytes ss
 
 pub record Fits (bytes : List ℕ) (es : List Entry) (ss : List Step) (C : Type 0) : Type 0 where
   pub heard : Heard bytes es ss
   pub quiet : Quiet bytes ss → C
 
 pub record Fit (bytes : List ℕ) (es : List Entry) (s : Step) (C : Type 0) : Type 0 where
-  pub heard : (stopOf bytes s ≡ 0) ⊎ Found es (stopOf bytes s) (blockPath (open_at s))
-  pub quiet : stopOf bytes s ≡ 0 → C
+  pub heard : (stop_of bytes s ≡ 0) ⊎ Found es (stop_of bytes s) (block_path (open_at s))
+  pub quiet : stop_of bytes s ≡ 0 → C
 
 heard-append : (bytes : List ℕ) (es : List Entry) (a b : List Step) → Heard bytes es a → Heard bytes es b → Heard bytes es (a ++ b)
 unfolding Heard
@@ -129,14 +129,14 @@ module _ {bytes : List ℕ} {es : List Entry} where
   fit-map k f = record { heard = f.heard; quiet = λ h. k (f.quiet h) }
 
   -- a step that has no stop, that has one where b holds, and that has two
-  pub still : {s : Step} → stopOf bytes s ≡ 0 → Fit bytes es s (Unit {0})
+  pub still : {s : Step} → stop_of bytes s ≡ 0 → Fit bytes es s (Unit {0})
   still e = record { heard = inl e; quiet = λ h. tt }
 
-  pub one-stop : {s : Step} (b : Bool) (n : ℕ) → stopOf bytes s ≡ (if b then suc n else 0) → (b ≡ true → Found es (suc n) (blockPath (open_at s))) → Fit bytes es s (b ≡ false)
+  pub one-stop : {s : Step} (b : Bool) (n : ℕ) → stop_of bytes s ≡ (if b then suc n else 0) → (b ≡ true → Found es (suc n) (block_path (open_at s))) → Fit bytes es s (b ≡ false)
   one-stop true n e k = record { heard = inr (rw e (k refl)); quiet = λ h. absurd (let z : suc n ≡ 0 = sym e ∙ h in omega arith) }
   one-stop false n e k = record { heard = inl e; quiet = λ h. refl }
 
-  pub two-stops : {s : Step} (b c : Bool) (n m : ℕ) → stopOf bytes s ≡ (if b then suc n else if c then suc m else 0) → (b ≡ true → Found es (suc n) (blockPath (open_at s))) → (c ≡ true → Found es (suc m) (blockPath (open_at s))) → Fit bytes es s ((b ≡ false) × (c ≡ false))
+  pub two-stops : {s : Step} (b c : Bool) (n m : ℕ) → stop_of bytes s ≡ (if b then suc n else if c then suc m else 0) → (b ≡ true → Found es (suc n) (block_path (open_at s))) → (c ≡ true → Found es (suc m) (block_path (open_at s))) → Fit bytes es s ((b ≡ false) × (c ≡ false))
   two-stops true c n m e k l = record { heard = inr (rw e (k refl)); quiet = λ h. absurd (let z : suc n ≡ 0 = sym e ∙ h in omega arith) }
   two-stops false true n m e k l = record { heard = inr (rw e (l refl)); quiet = λ h. absurd (let z : suc m ≡ 0 = sym e ∙ h in omega arith) }
   two-stops false false n m e k l = record { heard = inl e; quiet = λ h. (refl, refl) }
@@ -149,7 +149,7 @@ module _ {bytes : List ℕ} {es : List Entry} (f : Frame) (st : List Frame) (i :
   pub fits-alone : {A B C : Type 0} → Fit bytes es (opens (fresh i r) (f ∷ st)) A → Fits bytes es (walk (fresh i r) (f ∷ st) (suc i) kids) B → Fit bytes es (closes (filled (fresh i r) (pile kids [])) (f ∷ st)) C → Fits bytes es (alone f st i r kids) (A × B × C)
   fits-alone a b c = fits-map (λ h. (h.0, h.1.0, h.1.1.0)) (fits-cons a (fits-append b (fits-cons c fits-none)))
 
-  pub fits-tree : (rest : Forest) {C D : Type 0} → Fits bytes es (alone f st i r kids) C → Fits bytes es (walk (withKid r f) st (suc i + size kids) rest) D → Fits bytes es (walk f st i (tree r kids rest)) (C × D)
+  pub fits-tree : (rest : Forest) {C D : Type 0} → Fits bytes es (alone f st i r kids) C → Fits bytes es (walk (with_kid r f) st (suc i + size kids) rest) D → Fits bytes es (walk f st i (tree r kids rest)) (C × D)
   unfolding walk
   fits-tree rest a b =
       rw append_assoc at (fits-append a b)

@@ -5,14 +5,14 @@ use mathlib.Core.List.{List, [], ◌∷◌, ◌++◌}
 use Prim.Native.Nat.{ℕ, suc, ◌+◌, ◌<◌, ◌≤◌}
 use native.Mathlib.Omega.{arith}
 use lib.Dec.{eqb}
-use Rattle.leaves.specs.Sheet.Records.{recordsOf}
-use Rattle.leaves.specs.Sheet.Forest.{Forest, none, tree, forestOf, size}
-use Rattle.leaves.specs.Refusal.Judge.{judgeSheet}
+use Rattle.leaves.specs.Sheet.Records.{records_of}
+use Rattle.leaves.specs.Sheet.Forest.{Forest, none, tree, forest_of, size}
+use Rattle.leaves.specs.Refusal.Judge.{judge_sheet}
 use Rattle.leaves.specs.declared.refusal.verdict.Judged.TheVariants.{Accepted}
 use Rattle.leaves.proofs.refusal.FormedLaws.{accepted}
-use Rattle.setter.specs.Steps.{Frame, fresh, withKid, theSheet, Step, steps_of}
-use Rattle.setter.specs.Stops.{stopOf}
-use Rattle.setter.specs.Machine.{recordAtStep, run_of, run, endAnswer, runAnswer}
+use Rattle.setter.specs.Steps.{Frame, fresh, with_kid, the_sheet, Step, steps_of}
+use Rattle.setter.specs.Stops.{stop_of}
+use Rattle.setter.specs.Machine.{record_at_step, run_of, run, end_answer, run_answer}
 use Rattle.leaves.proofs.sheet.ForestLaws.{size_of}
 use Rattle.setter.proofs.agrees.Flat.{walk, walk_of}
 use Rattle.setter.proofs.agrees.Placed.{deep_of}
@@ -20,7 +20,7 @@ use Rattle.setter.proofs.agrees.Placed.{deep_of}
 -- every record of the steps is below n
 unfoldable Inside : ℕ → List Step → Type 0
 Inside n [] = Unit {0}
-Inside n (s ∷ ss) = (recordAtStep s < n) × Inside n ss
+Inside n (s ∷ ss) = (record_at_step s < n) × Inside n ss
 
 inside-append : (n : ℕ) (a b : List Step) → Inside n a → Inside n b → Inside n (a ++ b)
 unfolding Inside
@@ -31,21 +31,21 @@ walk_inside : (n : ℕ) (f : Frame) (st : List Frame) (i : ℕ) (ts : Forest) �
 unfolding Inside walk size
 walk_inside n f st i none h = tt
 walk_inside n f st i (tree r kids rest) h =
-    (omega arith, inside-append n (walk (fresh i r) (f ∷ st) (suc i) kids) _ (walk_inside n (fresh i r) (f ∷ st) (suc i) kids (omega arith)) (omega arith, walk_inside n (withKid r f) st (suc i + size kids) rest (omega arith)))
+    (omega arith, inside-append n (walk (fresh i r) (f ∷ st) (suc i) kids) _ (walk_inside n (fresh i r) (f ∷ st) (suc i) kids (omega arith)) (omega arith, walk_inside n (with_kid r f) st (suc i + size kids) rest (omega arith)))
 
 -- the value of a run over n records is at most n
-end-inside : (n : ℕ) (bytes : List ℕ) (ss : List Step) → Inside n ss → (endAnswer n (run_of bytes ss).end).value ≤ n
+end-inside : (n : ℕ) (bytes : List ℕ) (ss : List Step) → Inside n ss → (end_answer n (run_of bytes ss).end).value ≤ n
 unfolding Inside run_of
 end-inside n bytes [] h = omega arith
-end-inside n bytes (s ∷ ss) h = go (eqb (stopOf bytes s) 0) refl (end-inside n bytes ss h.1)
+end-inside n bytes (s ∷ ss) h = go (eqb (stop_of bytes s) 0) refl (end-inside n bytes ss h.1)
   where
-    go : (b : Bool) → eqb (stopOf bytes s) 0 ≡ b → (endAnswer n (run_of bytes ss).end).value ≤ n → (endAnswer n (run_of bytes (s ∷ ss)).end).value ≤ n
+    go : (b : Bool) → eqb (stop_of bytes s) 0 ≡ b → (end_answer n (run_of bytes ss).end).value ≤ n → (end_answer n (run_of bytes (s ∷ ss)).end).value ≤ n
     go true e later = rw e later
     go false e later = rw e (omega (arith, h.0))
 
-pub run_inside : (w bytes : List ℕ) → judgeSheet w bytes ≡ Accepted → (runAnswer w bytes).value ≤ 65535
-unfolding runAnswer run
+pub run_inside : (w bytes : List ℕ) → judge_sheet w bytes ≡ Accepted → (run_answer w bytes).value ≤ 65535
+unfolding run_answer run
 run_inside w bytes a =
     let sound = accepted w bytes a in
-    let inside : Inside (recordsOf w) (steps_of w) = rw (walk_of w (deep_of bytes 0 _ (forestOf w) sound.tree)) (walk_inside (recordsOf w) theSheet [] 0 (forestOf w) (omega (arith, size_of w))) in
-    omega (arith, end-inside (recordsOf w) bytes (steps_of w) inside, sound.few)
+    let inside : Inside (records_of w) (steps_of w) = rw (walk_of w (deep_of bytes 0 _ (forest_of w) sound.tree)) (walk_inside (records_of w) the_sheet [] 0 (forest_of w) (omega (arith, size_of w))) in
+    omega (arith, end-inside (records_of w) bytes (steps_of w) inside, sound.few)

@@ -9,13 +9,13 @@ use lib.Dec.{leb, eqb}
 use borrow.Author.Tests.{eqb-true, leb-true}
 use Rattle.leaves.specs.Text.Lists.{if◌then◌else◌}
 use Rattle.leaves.proofs.text.TestLaws.{all_below, each, and_right}
-use Rattle.leaves.specs.Sheet.Kinds.{isBlock, isInline, htmlTag, attribute, blankLine, list}
-use Rattle.setter.specs.Machine.{inPath}
-use Rattle.leaves.specs.Sheet.Classes.{isBreak, isLink}
+use Rattle.leaves.specs.Sheet.Kinds.{is_block, is_inline, html_tag, attribute, blank_line, list}
+use Rattle.setter.specs.Machine.{in_path}
+use Rattle.leaves.specs.Sheet.Classes.{is_break, is_link}
 
 -- tags and attributes, then inlines, then blocks and the others
 unfoldable pub rank : ℕ → ℕ
-rank k = if eqb k htmlTag || eqb k attribute then 0 else if isInline k then 1 else 2
+rank k = if eqb k html_tag || eqb k attribute then 0 else if is_inline k then 1 else 2
 
 abbrev one_of : ℕ → List ℕ → Bool
 one_of n [] = false
@@ -33,10 +33,10 @@ of-sort : (sort test : ℕ → Bool) → all_below (of_test sort test) 54 ≡ tr
 unfolding of_test
 of-sort sort test e k h s = rw s at (each (of_test sort test) 54 e k h)
 
-inline-below : (k : ℕ) → isInline k ≡ true → k < 54
+inline-below : (k : ℕ) → is_inline k ≡ true → k < 54
 inline-below k h = let a : k ≤ 53 = leb-true k 53 (and_right (leb 31 k) _ h) in omega arith
 
-block-below : (k : ℕ) → isBlock k ≡ true → k < 54
+block-below : (k : ℕ) → is_block k ≡ true → k < 54
 block-below k h = let a : k ≤ 17 = leb-true k 17 (and_right (leb 1 k) _ h) in omega arith
 
 pub data InlineKind (k : ℕ) : Type 0 where
@@ -91,9 +91,9 @@ inline-kind-one k h =
     ⊎_elim (λ e. i53 (eqb-true _ _ e)) (λ h.
     absurd (true≢false (sym h))) (or_cases _ _ h)) (or_cases _ _ h)) (or_cases _ _ h)) (or_cases _ _ h)) (or_cases _ _ h)) (or_cases _ _ h)) (or_cases _ _ h)) (or_cases _ _ h)) (or_cases _ _ h)) (or_cases _ _ h)) (or_cases _ _ h)) (or_cases _ _ h)) (or_cases _ _ h)) (or_cases _ _ h)) (or_cases _ _ h)) (or_cases _ _ h)) (or_cases _ _ h)) (or_cases _ _ h)) (or_cases _ _ h)) (or_cases _ _ h)) (or_cases _ _ h)) (or_cases _ _ h)) (or_cases _ _ h)
 
-pub inline-kind : (k : ℕ) → isInline k ≡ true → InlineKind k
+pub inline-kind : (k : ℕ) → is_inline k ≡ true → InlineKind k
 unfolding all_below of_test
-inline-kind k h = inline-kind-one k (of-sort isInline (λ n. one_of n (31 ∷ 32 ∷ 33 ∷ 34 ∷ 35 ∷ 36 ∷ 37 ∷ 38 ∷ 39 ∷ 40 ∷ 41 ∷ 42 ∷ 43 ∷ 44 ∷ 45 ∷ 46 ∷ 47 ∷ 48 ∷ 49 ∷ 50 ∷ 51 ∷ 52 ∷ 53 ∷ [])) refl k (inline-below k h) h)
+inline-kind k h = inline-kind-one k (of-sort is_inline (λ n. one_of n (31 ∷ 32 ∷ 33 ∷ 34 ∷ 35 ∷ 36 ∷ 37 ∷ 38 ∷ 39 ∷ 40 ∷ 41 ∷ 42 ∷ 43 ∷ 44 ∷ 45 ∷ 46 ∷ 47 ∷ 48 ∷ 49 ∷ 50 ∷ 51 ∷ 52 ∷ 53 ∷ [])) refl k (inline-below k h) h)
 
 pub data BlockKind (k : ℕ) : Type 0 where
   b1 : k ≡ 1 → BlockKind k
@@ -135,17 +135,17 @@ block-kind-one k h =
     ⊎_elim (λ e. b17 (eqb-true _ _ e)) (λ h.
     absurd (true≢false (sym h))) (or_cases _ _ h)) (or_cases _ _ h)) (or_cases _ _ h)) (or_cases _ _ h)) (or_cases _ _ h)) (or_cases _ _ h)) (or_cases _ _ h)) (or_cases _ _ h)) (or_cases _ _ h)) (or_cases _ _ h)) (or_cases _ _ h)) (or_cases _ _ h)) (or_cases _ _ h)) (or_cases _ _ h)) (or_cases _ _ h)) (or_cases _ _ h)) (or_cases _ _ h)
 
-pub block-kind : (k : ℕ) → isBlock k ≡ true → BlockKind k
+pub block-kind : (k : ℕ) → is_block k ≡ true → BlockKind k
 unfolding all_below of_test
-block-kind k h = block-kind-one k (of-sort isBlock (λ n. one_of n (1 ∷ 2 ∷ 3 ∷ 4 ∷ 5 ∷ 6 ∷ 7 ∷ 8 ∷ 9 ∷ 10 ∷ 11 ∷ 12 ∷ 13 ∷ 14 ∷ 15 ∷ 16 ∷ 17 ∷ [])) refl k (block-below k h) h)
+block-kind k h = block-kind-one k (of-sort is_block (λ n. one_of n (1 ∷ 2 ∷ 3 ∷ 4 ∷ 5 ∷ 6 ∷ 7 ∷ 8 ∷ 9 ∷ 10 ∷ 11 ∷ 12 ∷ 13 ∷ 14 ∷ 15 ∷ 16 ∷ 17 ∷ [])) refl k (block-below k h) h)
 
 pub record Inliny (k : ℕ) : Type 0 where
-  pub no_block : isBlock k ≡ false
-  pub anInline : isInline k ≡ true
-  pub noIndex : inPath k ≡ false
-  pub noBlank : eqb k blankLine ≡ false
-  pub noList : eqb k list ≡ false
-  pub isSecond : rank k ≡ 1
+  pub no_block : is_block k ≡ false
+  pub an_inline : is_inline k ≡ true
+  pub no_index : in_path k ≡ false
+  pub no_blank : eqb k blank_line ≡ false
+  pub no_list : eqb k list ≡ false
+  pub is_second : rank k ≡ 1
 
 pub inliny : (k : ℕ) → InlineKind k → Inliny k
 unfolding rank
@@ -155,34 +155,34 @@ inliny k kd = go kd
     one n e b = rw e b
 
     go : InlineKind k → Inliny k
-    go (i31 e) = one 31 e (record { no_block = refl; anInline = refl; noIndex = refl; noBlank = refl; noList = refl; isSecond = refl })
-    go (i32 e) = one 32 e (record { no_block = refl; anInline = refl; noIndex = refl; noBlank = refl; noList = refl; isSecond = refl })
-    go (i33 e) = one 33 e (record { no_block = refl; anInline = refl; noIndex = refl; noBlank = refl; noList = refl; isSecond = refl })
-    go (i34 e) = one 34 e (record { no_block = refl; anInline = refl; noIndex = refl; noBlank = refl; noList = refl; isSecond = refl })
-    go (i35 e) = one 35 e (record { no_block = refl; anInline = refl; noIndex = refl; noBlank = refl; noList = refl; isSecond = refl })
-    go (i36 e) = one 36 e (record { no_block = refl; anInline = refl; noIndex = refl; noBlank = refl; noList = refl; isSecond = refl })
-    go (i37 e) = one 37 e (record { no_block = refl; anInline = refl; noIndex = refl; noBlank = refl; noList = refl; isSecond = refl })
-    go (i38 e) = one 38 e (record { no_block = refl; anInline = refl; noIndex = refl; noBlank = refl; noList = refl; isSecond = refl })
-    go (i39 e) = one 39 e (record { no_block = refl; anInline = refl; noIndex = refl; noBlank = refl; noList = refl; isSecond = refl })
-    go (i40 e) = one 40 e (record { no_block = refl; anInline = refl; noIndex = refl; noBlank = refl; noList = refl; isSecond = refl })
-    go (i41 e) = one 41 e (record { no_block = refl; anInline = refl; noIndex = refl; noBlank = refl; noList = refl; isSecond = refl })
-    go (i42 e) = one 42 e (record { no_block = refl; anInline = refl; noIndex = refl; noBlank = refl; noList = refl; isSecond = refl })
-    go (i43 e) = one 43 e (record { no_block = refl; anInline = refl; noIndex = refl; noBlank = refl; noList = refl; isSecond = refl })
-    go (i44 e) = one 44 e (record { no_block = refl; anInline = refl; noIndex = refl; noBlank = refl; noList = refl; isSecond = refl })
-    go (i45 e) = one 45 e (record { no_block = refl; anInline = refl; noIndex = refl; noBlank = refl; noList = refl; isSecond = refl })
-    go (i46 e) = one 46 e (record { no_block = refl; anInline = refl; noIndex = refl; noBlank = refl; noList = refl; isSecond = refl })
-    go (i47 e) = one 47 e (record { no_block = refl; anInline = refl; noIndex = refl; noBlank = refl; noList = refl; isSecond = refl })
-    go (i48 e) = one 48 e (record { no_block = refl; anInline = refl; noIndex = refl; noBlank = refl; noList = refl; isSecond = refl })
-    go (i49 e) = one 49 e (record { no_block = refl; anInline = refl; noIndex = refl; noBlank = refl; noList = refl; isSecond = refl })
-    go (i50 e) = one 50 e (record { no_block = refl; anInline = refl; noIndex = refl; noBlank = refl; noList = refl; isSecond = refl })
-    go (i51 e) = one 51 e (record { no_block = refl; anInline = refl; noIndex = refl; noBlank = refl; noList = refl; isSecond = refl })
-    go (i52 e) = one 52 e (record { no_block = refl; anInline = refl; noIndex = refl; noBlank = refl; noList = refl; isSecond = refl })
-    go (i53 e) = one 53 e (record { no_block = refl; anInline = refl; noIndex = refl; noBlank = refl; noList = refl; isSecond = refl })
+    go (i31 e) = one 31 e (record { no_block = refl; an_inline = refl; no_index = refl; no_blank = refl; no_list = refl; is_second = refl })
+    go (i32 e) = one 32 e (record { no_block = refl; an_inline = refl; no_index = refl; no_blank = refl; no_list = refl; is_second = refl })
+    go (i33 e) = one 33 e (record { no_block = refl; an_inline = refl; no_index = refl; no_blank = refl; no_list = refl; is_second = refl })
+    go (i34 e) = one 34 e (record { no_block = refl; an_inline = refl; no_index = refl; no_blank = refl; no_list = refl; is_second = refl })
+    go (i35 e) = one 35 e (record { no_block = refl; an_inline = refl; no_index = refl; no_blank = refl; no_list = refl; is_second = refl })
+    go (i36 e) = one 36 e (record { no_block = refl; an_inline = refl; no_index = refl; no_blank = refl; no_list = refl; is_second = refl })
+    go (i37 e) = one 37 e (record { no_block = refl; an_inline = refl; no_index = refl; no_blank = refl; no_list = refl; is_second = refl })
+    go (i38 e) = one 38 e (record { no_block = refl; an_inline = refl; no_index = refl; no_blank = refl; no_list = refl; is_second = refl })
+    go (i39 e) = one 39 e (record { no_block = refl; an_inline = refl; no_index = refl; no_blank = refl; no_list = refl; is_second = refl })
+    go (i40 e) = one 40 e (record { no_block = refl; an_inline = refl; no_index = refl; no_blank = refl; no_list = refl; is_second = refl })
+    go (i41 e) = one 41 e (record { no_block = refl; an_inline = refl; no_index = refl; no_blank = refl; no_list = refl; is_second = refl })
+    go (i42 e) = one 42 e (record { no_block = refl; an_inline = refl; no_index = refl; no_blank = refl; no_list = refl; is_second = refl })
+    go (i43 e) = one 43 e (record { no_block = refl; an_inline = refl; no_index = refl; no_blank = refl; no_list = refl; is_second = refl })
+    go (i44 e) = one 44 e (record { no_block = refl; an_inline = refl; no_index = refl; no_blank = refl; no_list = refl; is_second = refl })
+    go (i45 e) = one 45 e (record { no_block = refl; an_inline = refl; no_index = refl; no_blank = refl; no_list = refl; is_second = refl })
+    go (i46 e) = one 46 e (record { no_block = refl; an_inline = refl; no_index = refl; no_blank = refl; no_list = refl; is_second = refl })
+    go (i47 e) = one 47 e (record { no_block = refl; an_inline = refl; no_index = refl; no_blank = refl; no_list = refl; is_second = refl })
+    go (i48 e) = one 48 e (record { no_block = refl; an_inline = refl; no_index = refl; no_blank = refl; no_list = refl; is_second = refl })
+    go (i49 e) = one 49 e (record { no_block = refl; an_inline = refl; no_index = refl; no_blank = refl; no_list = refl; is_second = refl })
+    go (i50 e) = one 50 e (record { no_block = refl; an_inline = refl; no_index = refl; no_blank = refl; no_list = refl; is_second = refl })
+    go (i51 e) = one 51 e (record { no_block = refl; an_inline = refl; no_index = refl; no_blank = refl; no_list = refl; is_second = refl })
+    go (i52 e) = one 52 e (record { no_block = refl; an_inline = refl; no_index = refl; no_blank = refl; no_list = refl; is_second = refl })
+    go (i53 e) = one 53 e (record { no_block = refl; an_inline = refl; no_index = refl; no_blank = refl; no_list = refl; is_second = refl })
 
 pub record Blocky (k : ℕ) : Type 0 where
-  pub aBlock : isBlock k ≡ true
-  pub isIndexed : inPath k ≡ true
-  pub noInline : isInline k ≡ false
+  pub a_block : is_block k ≡ true
+  pub is_indexed : in_path k ≡ true
+  pub no_inline : is_inline k ≡ false
   pub is_last : rank k ≡ 2
 
 pub blocky : (k : ℕ) → BlockKind k → Blocky k
@@ -193,40 +193,40 @@ blocky k kd = go kd
     one n e b = rw e b
 
     go : BlockKind k → Blocky k
-    go (b1 e) = one 1 e (record { aBlock = refl; isIndexed = refl; noInline = refl; is_last = refl })
-    go (b2 e) = one 2 e (record { aBlock = refl; isIndexed = refl; noInline = refl; is_last = refl })
-    go (b3 e) = one 3 e (record { aBlock = refl; isIndexed = refl; noInline = refl; is_last = refl })
-    go (b4 e) = one 4 e (record { aBlock = refl; isIndexed = refl; noInline = refl; is_last = refl })
-    go (b5 e) = one 5 e (record { aBlock = refl; isIndexed = refl; noInline = refl; is_last = refl })
-    go (b6 e) = one 6 e (record { aBlock = refl; isIndexed = refl; noInline = refl; is_last = refl })
-    go (b7 e) = one 7 e (record { aBlock = refl; isIndexed = refl; noInline = refl; is_last = refl })
-    go (b8 e) = one 8 e (record { aBlock = refl; isIndexed = refl; noInline = refl; is_last = refl })
-    go (b9 e) = one 9 e (record { aBlock = refl; isIndexed = refl; noInline = refl; is_last = refl })
-    go (b10 e) = one 10 e (record { aBlock = refl; isIndexed = refl; noInline = refl; is_last = refl })
-    go (b11 e) = one 11 e (record { aBlock = refl; isIndexed = refl; noInline = refl; is_last = refl })
-    go (b12 e) = one 12 e (record { aBlock = refl; isIndexed = refl; noInline = refl; is_last = refl })
-    go (b13 e) = one 13 e (record { aBlock = refl; isIndexed = refl; noInline = refl; is_last = refl })
-    go (b14 e) = one 14 e (record { aBlock = refl; isIndexed = refl; noInline = refl; is_last = refl })
-    go (b15 e) = one 15 e (record { aBlock = refl; isIndexed = refl; noInline = refl; is_last = refl })
-    go (b16 e) = one 16 e (record { aBlock = refl; isIndexed = refl; noInline = refl; is_last = refl })
-    go (b17 e) = one 17 e (record { aBlock = refl; isIndexed = refl; noInline = refl; is_last = refl })
+    go (b1 e) = one 1 e (record { a_block = refl; is_indexed = refl; no_inline = refl; is_last = refl })
+    go (b2 e) = one 2 e (record { a_block = refl; is_indexed = refl; no_inline = refl; is_last = refl })
+    go (b3 e) = one 3 e (record { a_block = refl; is_indexed = refl; no_inline = refl; is_last = refl })
+    go (b4 e) = one 4 e (record { a_block = refl; is_indexed = refl; no_inline = refl; is_last = refl })
+    go (b5 e) = one 5 e (record { a_block = refl; is_indexed = refl; no_inline = refl; is_last = refl })
+    go (b6 e) = one 6 e (record { a_block = refl; is_indexed = refl; no_inline = refl; is_last = refl })
+    go (b7 e) = one 7 e (record { a_block = refl; is_indexed = refl; no_inline = refl; is_last = refl })
+    go (b8 e) = one 8 e (record { a_block = refl; is_indexed = refl; no_inline = refl; is_last = refl })
+    go (b9 e) = one 9 e (record { a_block = refl; is_indexed = refl; no_inline = refl; is_last = refl })
+    go (b10 e) = one 10 e (record { a_block = refl; is_indexed = refl; no_inline = refl; is_last = refl })
+    go (b11 e) = one 11 e (record { a_block = refl; is_indexed = refl; no_inline = refl; is_last = refl })
+    go (b12 e) = one 12 e (record { a_block = refl; is_indexed = refl; no_inline = refl; is_last = refl })
+    go (b13 e) = one 13 e (record { a_block = refl; is_indexed = refl; no_inline = refl; is_last = refl })
+    go (b14 e) = one 14 e (record { a_block = refl; is_indexed = refl; no_inline = refl; is_last = refl })
+    go (b15 e) = one 15 e (record { a_block = refl; is_indexed = refl; no_inline = refl; is_last = refl })
+    go (b16 e) = one 16 e (record { a_block = refl; is_indexed = refl; no_inline = refl; is_last = refl })
+    go (b17 e) = one 17 e (record { a_block = refl; is_indexed = refl; no_inline = refl; is_last = refl })
 
 -- a tag or an attribute
 pub data Extra (k : ℕ) : Type 0 where
-  tag : k ≡ htmlTag → Extra k
+  tag : k ≡ html_tag → Extra k
   attr : k ≡ attribute → Extra k
 
 pub record Extras (k : ℕ) : Type 0 where
-  pub no_block : isBlock k ≡ false
-  pub noInline : isInline k ≡ false
-  pub noIndex : inPath k ≡ false
-  pub noBlank : eqb k blankLine ≡ false
-  pub noList : eqb k list ≡ false
-  pub noBreak : isBreak k ≡ false
-  pub no_link : isLink k ≡ false
-  pub isFirst : rank k ≡ 0
+  pub no_block : is_block k ≡ false
+  pub no_inline : is_inline k ≡ false
+  pub no_index : in_path k ≡ false
+  pub no_blank : eqb k blank_line ≡ false
+  pub no_list : eqb k list ≡ false
+  pub no_break : is_break k ≡ false
+  pub no_link : is_link k ≡ false
+  pub is_first : rank k ≡ 0
 
 pub extras : (k : ℕ) → Extra k → Extras k
 unfolding rank
-extras k (tag e) = rw e (record { no_block = refl; noInline = refl; noIndex = refl; noBlank = refl; noList = refl; noBreak = refl; no_link = refl; isFirst = refl })
-extras k (attr e) = rw e (record { no_block = refl; noInline = refl; noIndex = refl; noBlank = refl; noList = refl; noBreak = refl; no_link = refl; isFirst = refl })
+extras k (tag e) = rw e (record { no_block = refl; no_inline = refl; no_index = refl; no_blank = refl; no_list = refl; no_break = refl; no_link = refl; is_first = refl })
+extras k (attr e) = rw e (record { no_block = refl; no_inline = refl; no_index = refl; no_blank = refl; no_list = refl; no_break = refl; no_link = refl; is_first = refl })

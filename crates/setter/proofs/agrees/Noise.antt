@@ -5,22 +5,22 @@ use mathlib.Core.List.{List, [], ◌∷◌, ◌++◌}
 use Prim.Native.Nat.{ℕ, suc}
 use lib.Dec.{eqb}
 use Rattle.leaves.specs.Text.Lists.{if◌then◌else◌}
-use Rattle.leaves.specs.Sheet.Kinds.{isInline, lineBreak, blankLine}
+use Rattle.leaves.specs.Sheet.Kinds.{is_inline, line_break, blank_line}
 use Rattle.leaves.specs.Sheet.Forest.{Forest, none, tree, count}
 use Rattle.leaves.specs.declared.sheet.records.Rec.{Rec}
 use Rattle.leaves.specs.declared.sheet.records.Span.{Span}
 use Rattle.leaves.specs.declared.sheet.records.Text.{Text}
 use Rattle.leaves.specs.Report.Entries.{Entry}
-use Rattle.inlines.specs.Single.{validateDestination, validateIdentifier, validateEscape, validateDirectiveName}
-use Rattle.inlines.specs.Literal.{validateMathInline}
-use Rattle.inlines.specs.Attribute.{validateDirectiveAttributes}
-use Rattle.inlines.specs.Depth.{eachRecord, validateCellValues}
-use Rattle.inlines.specs.Content.{finalBreakAfter, finalBreak}
-use Rattle.inlines.specs.Node.{validateTextDirective}
-use Rattle.blocks.specs.Heads.{validateAlert, validateCodeBlock, validateDefinition}
-use Rattle.blocks.specs.Footnote.{blankLineAt, validateFootnoteDefinition}
-use Rattle.blocks.specs.Item.{validateBlankLine, validateItemBlankLines, validateTaskItem}
-use Rattle.blocks.specs.Html.{validateTags, validateHtmlContainer}
+use Rattle.inlines.specs.Single.{validate_destination, validate_identifier, validate_escape, validate_directive_name}
+use Rattle.inlines.specs.Literal.{validate_math_inline}
+use Rattle.inlines.specs.Attribute.{validate_directive_attributes}
+use Rattle.inlines.specs.Depth.{each_record, validate_cell_values}
+use Rattle.inlines.specs.Content.{final_break_after, final_break}
+use Rattle.inlines.specs.Node.{validate_text_directive}
+use Rattle.blocks.specs.Heads.{validate_alert, validate_code_block, validate_definition}
+use Rattle.blocks.specs.Footnote.{blank_line_at, validate_footnote_definition}
+use Rattle.blocks.specs.Item.{validate_blank_line, validate_item_blank_lines, validate_task_item}
+use Rattle.blocks.specs.Html.{validate_tags, validate_html_container}
 use Rattle.setter.specs.Stops.{named}
 use Rattle.setter.proofs.agrees.Fits.{Clean, clean-none, clean-append, clean-noise}
 
@@ -30,91 +30,91 @@ clean-either false p q = q
 
 -- ---- one record
 module _ (bytes path : List ℕ) (span : Span) where
-  pub clean-destination : (a : ℕ) (t : Text) → Clean (validateDestination path span a t)
-  unfolding validateDestination named
+  pub clean-destination : (a : ℕ) (t : Text) → Clean (validate_destination path span a t)
+  unfolding validate_destination named
   clean-destination a t = clean-noise _ 25 span path refl
 
-  pub clean-identifier : (rule : ℕ) (t : Text) → named rule ≡ false → Clean (validateIdentifier path rule span t)
-  unfolding validateIdentifier
+  pub clean-identifier : (rule : ℕ) (t : Text) → named rule ≡ false → Clean (validate_identifier path rule span t)
+  unfolding validate_identifier
   clean-identifier rule t e = clean-noise _ rule span path e
 
-  pub clean-escape : (a : ℕ) → Clean (validateEscape path span a)
-  unfolding validateEscape named
+  pub clean-escape : (a : ℕ) → Clean (validate_escape path span a)
+  unfolding validate_escape named
   clean-escape a = clean-noise _ 43 span path refl
 
-  pub clean-math : (a b : ℕ) (t : Text) → Clean (validateMathInline bytes path span a b t)
-  unfolding validateMathInline named
+  pub clean-math : (a b : ℕ) (t : Text) → Clean (validate_math_inline bytes path span a b t)
+  unfolding validate_math_inline named
   clean-math a b t = clean-append (clean-noise _ 46 span path refl) (clean-append (clean-noise _ 47 span path refl) (clean-noise _ 48 span path refl))
 
-  pub clean-name : (t : Text) → Clean (validateDirectiveName bytes path span t)
-  unfolding validateDirectiveName named
+  pub clean-name : (t : Text) → Clean (validate_directive_name bytes path span t)
+  unfolding validate_directive_name named
   clean-name t = clean-noise _ 54 span path refl
 
-  pub clean-alert : (a : ℕ) (t : Text) → Clean (validateAlert bytes path span a t)
-  unfolding validateAlert named
+  pub clean-alert : (a : ℕ) (t : Text) → Clean (validate_alert bytes path span a t)
+  unfolding validate_alert named
   clean-alert a t = clean-noise _ 11 span path refl
 
-  pub clean-code : (a b : ℕ) (t u : Text) → Clean (validateCodeBlock bytes path span a b t u)
-  unfolding validateCodeBlock named
+  pub clean-code : (a b : ℕ) (t u : Text) → Clean (validate_code_block bytes path span a b t u)
+  unfolding validate_code_block named
   clean-code a b t u = clean-append (clean-noise _ 26 span path refl) (clean-noise _ 27 span path refl)
 
-  pub clean-definition : (a : ℕ) (t u : Text) → Clean (validateDefinition bytes path span a t u)
-  unfolding validateDefinition named
+  pub clean-definition : (a : ℕ) (t u : Text) → Clean (validate_definition bytes path span a t u)
+  unfolding validate_definition named
   clean-definition a t u = clean-append (clean-noise _ 24 span path refl) (clean-destination a u)
 
-  pub clean-task : (a : ℕ) (kids : Forest) → Clean (validateTaskItem path span a kids)
-  unfolding validateTaskItem named
+  pub clean-task : (a : ℕ) (kids : Forest) → Clean (validate_task_item path span a kids)
+  unfolding validate_task_item named
   clean-task a kids = clean-noise _ 14 span path refl
 
-  pub clean-tags : (kids : Forest) → Clean (validateHtmlContainer bytes path span kids)
-  unfolding validateHtmlContainer validateTags named
+  pub clean-tags : (kids : Forest) → Clean (validate_html_container bytes path span kids)
+  unfolding validate_html_container validate_tags named
   clean-tags none = clean-none
   clean-tags (tree o k none) = clean-none
   clean-tags (tree o k (tree c l m)) =
       clean-append (clean-noise _ 5 o.span path refl) (clean-append (clean-noise _ 6 c.span path refl) (clean-append (clean-noise _ 7 span path refl) (clean-append (clean-noise _ 8 o.span path refl) (clean-noise _ 9 c.span path refl))))
 
 -- ---- trees side by side
-pub clean-attributes : (bytes path : List ℕ) (ts : Forest) → Clean (validateDirectiveAttributes bytes path ts)
-unfolding validateDirectiveAttributes named
+pub clean-attributes : (bytes path : List ℕ) (ts : Forest) → Clean (validate_directive_attributes bytes path ts)
+unfolding validate_directive_attributes named
 clean-attributes bytes path none = clean-none
 clean-attributes bytes path (tree r kids rest) = clean-append (clean-noise _ 55 _ path refl) (clean-attributes bytes path rest)
 
-pub clean-text-directive : (bytes path : List ℕ) (span : Span) (t : Text) (kids : Forest) → Clean (validateTextDirective bytes path span t kids)
-unfolding validateTextDirective
+pub clean-text-directive : (bytes path : List ℕ) (span : Span) (t : Text) (kids : Forest) → Clean (validate_text_directive bytes path span t kids)
+unfolding validate_text_directive
 clean-text-directive bytes path span t kids = clean-append (clean-name bytes path span t) (clean-attributes bytes path kids)
 
-clean-each : (entries : Rec → List Entry) → ((r : Rec) → Clean (entries r)) → (ts : Forest) → Clean (eachRecord entries ts)
-unfolding eachRecord
+clean-each : (entries : Rec → List Entry) → ((r : Rec) → Clean (entries r)) → (ts : Forest) → Clean (each_record entries ts)
+unfolding each_record
 clean-each entries h none = clean-none
 clean-each entries h (tree r kids rest) = clean-append (h r) (clean-append (clean-each entries h kids) (clean-each entries h rest))
 
-pub clean-values : (bytes path : List ℕ) (ts : Forest) → Clean (validateCellValues bytes path ts)
-unfolding validateCellValues named
+pub clean-values : (bytes path : List ℕ) (ts : Forest) → Clean (validate_cell_values bytes path ts)
+unfolding validate_cell_values named
 clean-values bytes path ts = clean-each _ (λ r. clean-noise _ 21 r.span path refl) ts
 
-clean-blank : (path : List ℕ) (span : Span) (blank tight first last : Bool) → Clean (validateBlankLine path span blank tight first last)
-unfolding validateBlankLine named
+clean-blank : (path : List ℕ) (span : Span) (blank tight first last : Bool) → Clean (validate_blank_line path span blank tight first last)
+unfolding validate_blank_line named
 clean-blank path span blank tight first last = clean-append (clean-noise _ 51 span path refl) (clean-append (clean-noise _ 52 span path refl) (clean-noise _ 53 span path refl))
 
-pub clean-blanks : (path : List ℕ) (tight last : Bool) (k : ℕ) (ts : Forest) → Clean (validateItemBlankLines path tight last k ts)
-unfolding validateItemBlankLines
+pub clean-blanks : (path : List ℕ) (tight last : Bool) (k : ℕ) (ts : Forest) → Clean (validate_item_blank_lines path tight last k ts)
+unfolding validate_item_blank_lines
 clean-blanks path tight last k none = clean-none
 clean-blanks path tight last k (tree r kids rest) = clean-append (clean-blank _ _ _ tight _ _) (clean-blanks path tight last (suc k) rest)
 
-clean_at : (path : List ℕ) (k : ℕ) (ts : Forest) → Clean (blankLineAt path k ts)
-unfolding blankLineAt named
+clean_at : (path : List ℕ) (k : ℕ) (ts : Forest) → Clean (blank_line_at path k ts)
+unfolding blank_line_at named
 clean_at path k none = clean-none
-clean_at path k (tree r kids rest) = clean-either (eqb r.kind blankLine && (eqb k 0 || eqb (count rest) 0)) (clean-noise true 4 r.span (path ++ k ∷ []) refl) (clean_at path (suc k) rest)
+clean_at path k (tree r kids rest) = clean-either (eqb r.kind blank_line && (eqb k 0 || eqb (count rest) 0)) (clean-noise true 4 r.span (path ++ k ∷ []) refl) (clean_at path (suc k) rest)
 
-pub clean-footnote : (path : List ℕ) (span : Span) (t : Text) (kids : Forest) → Clean (validateFootnoteDefinition path span t kids)
-unfolding validateFootnoteDefinition named
+pub clean-footnote : (path : List ℕ) (span : Span) (t : Text) (kids : Forest) → Clean (validate_footnote_definition path span t kids)
+unfolding validate_footnote_definition named
 clean-footnote path span t kids = clean-append (clean-noise _ 3 span path refl) (clean_at path 0 kids)
 
-clean_after : (path : List ℕ) (last : List Entry) (ts : Forest) → Clean last → Clean (finalBreakAfter path last ts)
-unfolding finalBreakAfter named
+clean_after : (path : List ℕ) (last : List Entry) (ts : Forest) → Clean last → Clean (final_break_after path last ts)
+unfolding final_break_after named
 clean_after path last none h = h
-clean_after path last (tree r kids rest) h = clean_after path _ rest (clean-either (isInline r.kind) (clean-noise (eqb r.kind lineBreak) 30 r.span path refl) h)
+clean_after path last (tree r kids rest) h = clean_after path _ rest (clean-either (is_inline r.kind) (clean-noise (eqb r.kind line_break) 30 r.span path refl) h)
 
-pub clean-final : (path : List ℕ) (ts : Forest) → Clean (finalBreak path ts)
-unfolding finalBreak
+pub clean-final : (path : List ℕ) (ts : Forest) → Clean (final_break path ts)
+unfolding final_break
 clean-final path ts = clean_after path [] ts clean-none

@@ -11,15 +11,15 @@ use Rattle.leaves.specs.Sheet.Kinds.{table, row, cell}
 use Rattle.leaves.specs.Sheet.Forest.{Forest, none, tree, size, count}
 use Rattle.leaves.specs.declared.sheet.records.Rec.{Rec}
 use Rattle.leaves.specs.declared.sheet.records.Span.{Span}
-use Rattle.leaves.specs.Report.Entries.{Entry, listIf, ◌⊕◌}
-use Rattle.leaves.specs.Refusal.Groups.{parentGroup}
-use Rattle.inlines.specs.Depth.{validateOneLine}
-use Rattle.inlines.specs.Nodes.{validateInlineNodes, validateInlines}
-use Rattle.blocks.specs.Table.{validateCell, validateCells, validateRows, headerWidth, validateTable}
-use Rattle.setter.specs.Steps.{Frame, fresh, withKid}
-use Rattle.setter.specs.Stops.{stopOf, stop_at}
-use Rattle.setter.specs.Machine.{pathOf, blockPath}
-use Rattle.setter.specs.Seen.{nearest, inLink, columns}
+use Rattle.leaves.specs.Report.Entries.{Entry, list_if, ◌⊕◌}
+use Rattle.leaves.specs.Refusal.Groups.{parent_group}
+use Rattle.inlines.specs.Depth.{validate_one_line}
+use Rattle.inlines.specs.Nodes.{validate_inline_nodes, validate_inlines}
+use Rattle.blocks.specs.Table.{validate_cell, validate_cells, validate_rows, header_width, validate_table}
+use Rattle.setter.specs.Steps.{Frame, fresh, with_kid}
+use Rattle.setter.specs.Stops.{stop_of, stop_at}
+use Rattle.setter.specs.Machine.{path_of, block_path}
+use Rattle.setter.specs.Seen.{nearest, in_link, columns}
 use Rattle.setter.specs.Agrees.{Begins}
 use Rattle.setter.specs.Stops.{beside}
 use Rattle.setter.proofs.agrees.Flat.{walk, filled, pile}
@@ -31,16 +31,16 @@ use Rattle.setter.proofs.agrees.Inlines.{lined, InlineRoot, hold-inlines, inline
 use Rattle.setter.proofs.agrees.Noise.{clean-values, clean-final}
 
 -- inlines under a block or a cell, which is no link and stands in none
-module _ (bytes : List ℕ) (es : List Entry) (f : Frame) (st : List Frame) (i : ℕ) (kids : Forest) (out : inLink (f ∷ st) ≡ false) (a : (k : ℕ) → Stands f.of k → InlineRoot k) (placed : Placed f.of 0 kids) (new : f.kids ≡ []) where
-  pub content-fits : (p : List ℕ) → Begins (blockPath (f ∷ st)) p → Sub (validateInlines bytes p kids) es → (lined (f ∷ st) ≡ true → (n : ℕ) × (beside 4 n ≡ true) × Sub (validateOneLine n p kids) es) → Fits bytes es (walk f st i kids) (Clean (validateInlines bytes p kids) × (lined (f ∷ st) ≡ true → (n : ℕ) → Clean (validateOneLine n p kids)))
-  unfolding validateInlines validateInlineNodes
+module _ (bytes : List ℕ) (es : List Entry) (f : Frame) (st : List Frame) (i : ℕ) (kids : Forest) (out : in_link (f ∷ st) ≡ false) (a : (k : ℕ) → Stands f.of k → InlineRoot k) (placed : Placed f.of 0 kids) (new : f.kids ≡ []) where
+  pub content-fits : (p : List ℕ) → Begins (block_path (f ∷ st)) p → Sub (validate_inlines bytes p kids) es → (lined (f ∷ st) ≡ true → (n : ℕ) × (beside 4 n ≡ true) × Sub (validate_one_line n p kids) es) → Fits bytes es (walk f st i kids) (Clean (validate_inlines bytes p kids) × (lined (f ∷ st) ≡ true → (n : ℕ) → Clean (validate_one_line n p kids)))
+  unfolding validate_inlines validate_inline_nodes
   content-fits p e s l =
       fits-map (λ c. (clean-append (clean-final p kids) c.listed, λ h n. c.lines h n))
       (inlines-fit bytes kids es f st i 0 0 p e a placed (rw new) (λ h. refl) (record { listed = sub-right _ s; lines = l; links = λ h. absurd (true≢false (sym h ∙ out)) }))
 
 -- a cell, at the path q of its own
-one_cell : (bytes : List ℕ) (es : List Entry) (f : Frame) (st : List Frame) (i : ℕ) (q : List ℕ) (r : Rec) (kids : Forest) → r.kind ≡ cell → Begins (blockPath (f ∷ st)) q → inLink (f ∷ st) ≡ false → Placed r 0 kids → Sub (validateCell bytes q kids) es → (columns (f ∷ st) ≤ length f.kids → Found es 1 (blockPath (f ∷ st))) → Fits bytes es (alone f st i r kids) (Clean (validateCell bytes q kids) × (length f.kids < columns (f ∷ st)))
-unfolding stopOf stop_at group_of parentGroup inLink nearest beside validateCell
+one_cell : (bytes : List ℕ) (es : List Entry) (f : Frame) (st : List Frame) (i : ℕ) (q : List ℕ) (r : Rec) (kids : Forest) → r.kind ≡ cell → Begins (block_path (f ∷ st)) q → in_link (f ∷ st) ≡ false → Placed r 0 kids → Sub (validate_cell bytes q kids) es → (columns (f ∷ st) ≤ length f.kids → Found es 1 (block_path (f ∷ st))) → Fits bytes es (alone f st i r kids) (Clean (validate_cell bytes q kids) × (length f.kids < columns (f ∷ st)))
+unfolding stop_of stop_at group_of parent_group in_link nearest beside validate_cell
 one_cell bytes es f st i q r kids e b out p s wide =
     fits-map (λ c. (clean-append c.1.0 (clean-append (clean-values bytes q kids) (c.1.1 (rw e) 20)), leb-false _ _ c.0))
     (fits-alone f st i r kids
@@ -49,15 +49,15 @@ one_cell bytes es f st i q r kids e b out p s wide =
     (still (rw e)))
 
 -- the cells of a row, at the path q of its own
-cells_fit : (ts : Forest) (bytes : List ℕ) (es : List Entry) (f : Frame) (st : List Frame) (i m k : ℕ) (q : List ℕ) → f.of.kind ≡ row → Placed f.of m ts → Begins (blockPath (f ∷ st)) q → inLink (f ∷ st) ≡ false → Sub (validateCells bytes q k ts) es → (columns (f ∷ st) < length f.kids + count ts → Found es 1 (blockPath (f ∷ st))) → Fits bytes es (walk f st i ts) (Clean (validateCells bytes q k ts) × (length f.kids ≤ columns (f ∷ st) → length f.kids + count ts ≤ columns (f ∷ st)))
-unfolding walk validateCells count Placed pathOf blockPath inLink columns
+cells_fit : (ts : Forest) (bytes : List ℕ) (es : List Entry) (f : Frame) (st : List Frame) (i m k : ℕ) (q : List ℕ) → f.of.kind ≡ row → Placed f.of m ts → Begins (block_path (f ∷ st)) q → in_link (f ∷ st) ≡ false → Sub (validate_cells bytes q k ts) es → (columns (f ∷ st) < length f.kids + count ts → Found es 1 (block_path (f ∷ st))) → Fits bytes es (walk f st i ts) (Clean (validate_cells bytes q k ts) × (length f.kids ≤ columns (f ∷ st) → length f.kids + count ts ≤ columns (f ∷ st)))
+unfolding walk validate_cells count Placed path_of block_path in_link columns
 cells_fit none bytes es f st i m k q e p b out s wide = fits-map (λ c. (clean-none, λ h. omega arith)) fits-none
 cells_fit (tree r kids rest) bytes es f st i m k q e p b out s wide =
-    let one : r.kind ≡ cell = under-row f.of r.kind p.0 (unfold group_of parentGroup in rw e) in
+    let one : r.kind ≡ cell = under-row f.of r.kind p.0 (unfold group_of parent_group in rw e) in
     fits-map (λ c. (clean-append c.0.0 c.1.0, λ h. omega (arith, c.1.1 (omega (arith, c.0.1)))))
     (fits-tree f st i r kids rest
-    (one_cell bytes es f st i (q ++ k ∷ []) r kids one (begins-more (blockPath (f ∷ st)) q (k ∷ []) b) out p.2 (sub-left _ s) (λ h. wide (omega arith)))
-    (cells_fit rest bytes es (withKid r f) st (suc i + size kids) (rank r.kind) (suc k) q e p.3 b out (sub-right _ s) (λ h. wide (omega arith))))
+    (one_cell bytes es f st i (q ++ k ∷ []) r kids one (begins-more (block_path (f ∷ st)) q (k ∷ []) b) out p.2 (sub-left _ s) (λ h. wide (omega arith)))
+    (cells_fit rest bytes es (with_kid r f) st (suc i + size kids) (rank r.kind) (suc k) q e p.3 b out (sub-right _ s) (λ h. wide (omega arith))))
 
 -- all rows are a wide
 unfoldable pub Widths : ℕ → Forest → Type 0
@@ -65,7 +65,7 @@ Widths a none = Unit {0}
 Widths a (tree r kids rest) = (count kids ≡ a) × Widths a rest
 
 -- a row that is not as wide as A is told of: by the header's width, or by its own
-odd : (es : List Entry) (p q : List ℕ) (n a w : ℕ) (sp : Span) → Sub (listIf (not (eqb n w)) 19 sp q) es → Begins p q → ((a ≡ w → ⊥) → (s : ℕ) → beside s 18 ≡ true → Found es s p) → (n ≡ a → ⊥) → (s : ℕ) → beside s 18 ≡ true → beside s 19 ≡ true → Found es s p
+odd : (es : List Entry) (p q : List ℕ) (n a w : ℕ) (sp : Span) → Sub (list_if (not (eqb n w)) 19 sp q) es → Begins p q → ((a ≡ w → ⊥) → (s : ℕ) → beside s 18 ≡ true → Found es s p) → (n ≡ a → ⊥) → (s : ℕ) → beside s 18 ≡ true → beside s 19 ≡ true → Found es s p
 odd es p q n a w sp h g narrow ne s x y = go (eqb a w) refl
   where
     go : (b : Bool) → eqb a w ≡ b → Found es s p
@@ -73,12 +73,12 @@ odd es p q n a w sp h g narrow ne s x y = go (eqb a w) refl
     go false e = narrow (eqb-false _ _ e) s x
 
 -- a row, at the path q of its own, where the header has w cells
-one-row : (bytes : List ℕ) (es : List Entry) (f : Frame) (st : List Frame) (i w : ℕ) (q : List ℕ) (r : Rec) (kids : Forest) → f.of.kind ≡ table → r.kind ≡ row → Begins (blockPath (f ∷ st)) q → inLink (f ∷ st) ≡ false → Placed r 0 kids → Sub (listIf (not (eqb (count kids) w)) 19 r.span q) es → Sub (validateCells bytes q 0 kids) es → ((f.of.a ≡ w → ⊥) → (s : ℕ) → beside s 18 ≡ true → Found es s (blockPath (f ∷ st))) → Fits bytes es (alone f st i r kids) ((count kids ≡ f.of.a) × Clean (validateCells bytes q 0 kids))
-unfolding stopOf stop_at inLink columns beside
+one-row : (bytes : List ℕ) (es : List Entry) (f : Frame) (st : List Frame) (i w : ℕ) (q : List ℕ) (r : Rec) (kids : Forest) → f.of.kind ≡ table → r.kind ≡ row → Begins (block_path (f ∷ st)) q → in_link (f ∷ st) ≡ false → Placed r 0 kids → Sub (list_if (not (eqb (count kids) w)) 19 r.span q) es → Sub (validate_cells bytes q 0 kids) es → ((f.of.a ≡ w → ⊥) → (s : ℕ) → beside s 18 ≡ true → Found es s (block_path (f ∷ st))) → Fits bytes es (alone f st i r kids) ((count kids ≡ f.of.a) × Clean (validate_cells bytes q 0 kids))
+unfolding stop_of stop_at in_link columns beside
 one-row bytes es f st i w q r kids g e b out p s₁ s narrow =
     let n : length (pile kids []) ≡ count kids + 0 = length-pile kids [] in
     let cols : columns (fresh i r ∷ f ∷ st) ≡ f.of.a = rw (e, g) in
-    let told : (count kids ≡ f.of.a → ⊥) → (s : ℕ) → beside s 18 ≡ true → beside s 19 ≡ true → Found es s (blockPath (f ∷ st)) = odd es (blockPath (f ∷ st)) q (count kids) f.of.a w r.span s₁ b narrow in
+    let told : (count kids ≡ f.of.a → ⊥) → (s : ℕ) → beside s 18 ≡ true → beside s 19 ≡ true → Found es s (block_path (f ∷ st)) = odd es (block_path (f ∷ st)) q (count kids) f.of.a w r.span s₁ b narrow in
     fits-map
     (λ c.
     let full : count kids ≡ f.of.a = omega (arith, c.1.1 (omega arith), ltb-false (length (pile kids [])) f.of.a c.2) in
@@ -89,18 +89,18 @@ one-row bytes es f st i w q r kids g e b out p s₁ s narrow =
     (one-stop (ltb (length (pile kids [])) f.of.a) 1 (rw (e, g)) (λ h. rw (place_other (filled (fresh i r) (pile kids [])) (f ∷ st) (rw e)) (told (λ d. omega (arith, ltb-true (length (pile kids [])) f.of.a h)) 2 refl refl))))
 
 -- the rows of a table, at the path q of its own
-rows_fit : (ts : Forest) (bytes : List ℕ) (es : List Entry) (f : Frame) (st : List Frame) (i m k w : ℕ) (q : List ℕ) → f.of.kind ≡ table → Placed f.of m ts → Begins (blockPath (f ∷ st)) q → inLink (f ∷ st) ≡ false → Sub (validateRows bytes q w k ts) es → ((f.of.a ≡ w → ⊥) → (s : ℕ) → beside s 18 ≡ true → Found es s (blockPath (f ∷ st))) → Fits bytes es (walk f st i ts) (Widths f.of.a ts × (w ≡ f.of.a → Clean (validateRows bytes q w k ts)))
-unfolding walk validateRows Placed pathOf blockPath inLink Widths
+rows_fit : (ts : Forest) (bytes : List ℕ) (es : List Entry) (f : Frame) (st : List Frame) (i m k w : ℕ) (q : List ℕ) → f.of.kind ≡ table → Placed f.of m ts → Begins (block_path (f ∷ st)) q → in_link (f ∷ st) ≡ false → Sub (validate_rows bytes q w k ts) es → ((f.of.a ≡ w → ⊥) → (s : ℕ) → beside s 18 ≡ true → Found es s (block_path (f ∷ st))) → Fits bytes es (walk f st i ts) (Widths f.of.a ts × (w ≡ f.of.a → Clean (validate_rows bytes q w k ts)))
+unfolding walk validate_rows Placed path_of block_path in_link Widths
 rows_fit none bytes es f st i m k w q e p b out s narrow = fits-map (λ c. (tt, λ h. clean-none)) fits-none
 rows_fit (tree r kids rest) bytes es f st i m k w q e p b out s narrow =
-    let line : r.kind ≡ row = under_table f.of r.kind p.0 (unfold group_of parentGroup in rw e) in
+    let line : r.kind ≡ row = under_table f.of r.kind p.0 (unfold group_of parent_group in rw e) in
     fits-map (λ c. ((c.0.0, c.1.0), λ h. clean-append (clean-if 19 _ _ (ap not (eq-eqb (count kids) w (c.0.0 ∙ sym h)))) (clean-append c.0.1 (c.1.1 h))))
     (fits-tree f st i r kids rest
-    (one-row bytes es f st i w (q ++ k ∷ []) r kids e line (begins-more (blockPath (f ∷ st)) q (k ∷ []) b) out p.2 (sub-left _ s) (sub-left _ (sub-right _ s)) narrow)
-    (rows_fit rest bytes es (withKid r f) st (suc i + size kids) (rank r.kind) (suc k) w q e p.3 b out (sub-right _ (sub-right _ s)) narrow))
+    (one-row bytes es f st i w (q ++ k ∷ []) r kids e line (begins-more (block_path (f ∷ st)) q (k ∷ []) b) out p.2 (sub-left _ s) (sub-left _ (sub-right _ s)) narrow)
+    (rows_fit rest bytes es (with_kid r f) st (suc i + size kids) (rank r.kind) (suc k) w q e p.3 b out (sub-right _ (sub-right _ s)) narrow))
 
 -- A = 0: the header's width is 0 too, or is not A
-no-columns : (es : List Entry) (p q : List ℕ) (a n : ℕ) (sp : Span) → Sub (listIf (eqb n 0) 17 sp q) es → Sub (listIf (not (eqb a n)) 18 sp q) es → Begins p q → a ≡ 0 → Found es 3 p
+no-columns : (es : List Entry) (p q : List ℕ) (a n : ℕ) (sp : Span) → Sub (list_if (eqb n 0) 17 sp q) es → Sub (list_if (not (eqb a n)) 18 sp q) es → Begins p q → a ≡ 0 → Found es 3 p
 unfolding beside
 no-columns es p q a n sp x y g z = go (eqb n 0) refl
   where
@@ -108,17 +108,17 @@ no-columns es p q a n sp x y g z = go (eqb n 0) refl
     go true e = sub-if 17 _ q x e refl g
     go false e = sub-if 18 _ q y (ap not (ne_eqb a n (λ d. eqb-false _ _ e (sym d ∙ z)))) refl g
 
-table_none : (bytes q : List ℕ) (sp : Span) (a : ℕ) → validateTable bytes q sp a none ≡ listIf true 16 sp q
-unfolding validateTable count
+table_none : (bytes q : List ℕ) (sp : Span) (a : ℕ) → validate_table bytes q sp a none ≡ list_if true 16 sp q
+unfolding validate_table count
 table_none bytes q sp a = refl
 
-table-some : (bytes q : List ℕ) (sp : Span) (a : ℕ) (h : Rec) (cs rest : Forest) → validateTable bytes q sp a (tree h cs rest) ≡ listIf (eqb (count cs) 0) 17 sp q ⊕ (listIf (not (eqb a (count cs))) 18 sp q ⊕ validateRows bytes q (count cs) 0 (tree h cs rest))
-unfolding validateTable headerWidth count
+table-some : (bytes q : List ℕ) (sp : Span) (a : ℕ) (h : Rec) (cs rest : Forest) → validate_table bytes q sp a (tree h cs rest) ≡ list_if (eqb (count cs) 0) 17 sp q ⊕ (list_if (not (eqb a (count cs))) 18 sp q ⊕ validate_rows bytes q (count cs) 0 (tree h cs rest))
+unfolding validate_table header_width count
 table-some bytes q sp a h cs rest = rw (ne_eqb (suc (count rest)) 0 (λ d. omega arith))
 
 -- a table, whose path is q
-pub table_fits : (bytes : List ℕ) (es : List Entry) (f : Frame) (st : List Frame) (i : ℕ) (q : List ℕ) (r : Rec) (kids : Forest) → r.kind ≡ table → pathOf (fresh i r ∷ f ∷ st) ≡ q → inLink (f ∷ st) ≡ false → Placed r 0 kids → Sub (validateTable bytes q r.span r.a kids) es → Fits bytes es (alone f st i r kids) (Clean (validateTable bytes q r.span r.a kids))
-unfolding stopOf stop_at inLink beside pile walk Widths
+pub table_fits : (bytes : List ℕ) (es : List Entry) (f : Frame) (st : List Frame) (i : ℕ) (q : List ℕ) (r : Rec) (kids : Forest) → r.kind ≡ table → path_of (fresh i r ∷ f ∷ st) ≡ q → in_link (f ∷ st) ≡ false → Placed r 0 kids → Sub (validate_table bytes q r.span r.a kids) es → Fits bytes es (alone f st i r kids) (Clean (validate_table bytes q r.span r.a kids))
+unfolding stop_of stop_at in_link beside pile walk Widths
 table_fits bytes es f st i q r none e d out p s =
     fits-map (λ c. absurd (true≢false c.2))
     (fits-alone f st i r none
@@ -129,7 +129,7 @@ table_fits bytes es f st i q r (tree h cs rest) e d out p s =
     let z : eqb (length (pile rest (h ∷ []))) 0 ≡ false = ne_eqb (length (pile rest (h ∷ []))) 0 (λ d. omega (arith, length-pile rest (h ∷ []))) in
     let t = table-some bytes q r.span r.a h cs rest in
     let l = rw t at s in
-    let b : Begins (blockPath (fresh i r ∷ f ∷ st)) q = rw d at (begins (fresh i r ∷ f ∷ st)) in
+    let b : Begins (block_path (fresh i r ∷ f ∷ st)) q = rw d at (begins (fresh i r ∷ f ∷ st)) in
     fits-map
     (λ c.
     let full : count cs ≡ r.a = c.1.0.0 in

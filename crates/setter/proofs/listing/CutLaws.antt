@@ -7,52 +7,52 @@ use native.Mathlib.Omega.{arith}
 use lib.Dec.{eqb, ltb}
 use lib.ListN.{length, take, drop, length-take, length-drop}
 use borrow.Author.Tests.{ne_eqb, ltb-false}
-use Rattle.leaves.specs.Sheet.Records.{recordWords}
+use Rattle.leaves.specs.Sheet.Records.{record_words}
 use Rattle.leaves.proofs.text.TestLaws.{or_left, or_right}
-use Rattle.leaves.specs.Text.Columns.{lineBytes, is_line, numbers}
+use Rattle.leaves.specs.Text.Columns.{line_bytes, is_line, numbers}
 use Rattle.leaves.proofs.text.ColumnLaws.{drop-take, numbers-take, line-take}
-use Rattle.setter.specs.Listing.Film.{countFields, recordCount, byte_count, areRecords, behindCounts, textBehind, mostFilmRecords, mostFilmBytes, mostInput, isBig, filmOf}
+use Rattle.setter.specs.Listing.Film.{count_fields, record_count, byte_count, are_records, behind_counts, text_behind, most_film_records, most_film_bytes, most_input, is_big, film_of}
 
-records-take : (n m : ℕ) (s : List ℕ) → n * lineBytes recordWords ≤ m → areRecords n (take m s) ≡ areRecords n s
-unfolding areRecords
+records-take : (n m : ℕ) (s : List ℕ) → n * line_bytes record_words ≤ m → are_records n (take m s) ≡ are_records n s
+unfolding are_records
 records-take zero m s h = refl
-records-take (suc n) m s h = rw (line-take recordWords m s (omega arith), drop-take (lineBytes recordWords) m s (omega arith), records-take n (m - lineBytes recordWords) (drop (lineBytes recordWords) s) (omega arith))
+records-take (suc n) m s h = rw (line-take record_words m s (omega arith), drop-take (line_bytes record_words) m s (omega arith), records-take n (m - line_bytes record_words) (drop (line_bytes record_words) s) (omega arith))
 
 pub record Cut (s : List ℕ) : Type 0 where
-  pub same : filmOf (take (suc mostInput) s) ≡ filmOf s
-  pub refused : eqb (filmOf s).number 0 ≡ false
+  pub same : film_of (take (suc most_input) s) ≡ film_of s
+  pub refused : eqb (film_of s).number 0 ≡ false
 
-module _ (s : List ℕ) (long : mostInput < length s) where
-  line-is : is_line countFields (take (suc mostInput) s) ≡ is_line countFields s
-  line-is = line-take countFields (suc mostInput) s (omega arith)
+module _ (s : List ℕ) (long : most_input < length s) where
+  line-is : is_line count_fields (take (suc most_input) s) ≡ is_line count_fields s
+  line-is = line-take count_fields (suc most_input) s (omega arith)
 
-  counts-are : numbers countFields (take (suc mostInput) s) ≡ numbers countFields s
-  counts-are = numbers-take countFields (suc mostInput) s (omega arith)
+  counts-are : numbers count_fields (take (suc most_input) s) ≡ numbers count_fields s
+  counts-are = numbers-take count_fields (suc most_input) s (omega arith)
 
-  few-of : isBig s ≡ false → recordCount s ≤ mostFilmRecords
-  few-of q = ltb-false _ _ (or_left (ltb mostFilmRecords (recordCount s)) (ltb mostFilmBytes (byte_count s)) q)
+  few-of : is_big s ≡ false → record_count s ≤ most_film_records
+  few-of q = ltb-false _ _ (or_left (ltb most_film_records (record_count s)) (ltb most_film_bytes (byte_count s)) q)
 
-  short-of : isBig s ≡ false → byte_count s ≤ mostFilmBytes
-  short-of q = ltb-false _ _ (or_right (ltb mostFilmRecords (recordCount s)) (ltb mostFilmBytes (byte_count s)) q)
+  short-of : is_big s ≡ false → byte_count s ≤ most_film_bytes
+  short-of q = ltb-false _ _ (or_right (ltb most_film_records (record_count s)) (ltb most_film_bytes (byte_count s)) q)
 
-  module _ (few : recordCount s ≤ mostFilmRecords) (short : byte_count s ≤ mostFilmBytes) where
-    lines_are : areRecords (recordCount s) (behindCounts (take (suc mostInput) s)) ≡ areRecords (recordCount s) (behindCounts s)
-    lines_are = rw (drop-take (lineBytes countFields) (suc mostInput) s (omega arith)) (records-take (recordCount s) (suc mostInput - lineBytes countFields) (behindCounts s) (omega arith))
+  module _ (few : record_count s ≤ most_film_records) (short : byte_count s ≤ most_film_bytes) where
+    lines_are : are_records (record_count s) (behind_counts (take (suc most_input) s)) ≡ are_records (record_count s) (behind_counts s)
+    lines_are = rw (drop-take (line_bytes count_fields) (suc most_input) s (omega arith)) (records-take (record_count s) (suc most_input - line_bytes count_fields) (behind_counts s) (omega arith))
 
     -- the text is too long, cut or not
-    text-long : eqb (length (textBehind (recordCount s) s)) (byte_count s) ≡ false
-    unfolding textBehind
-    text-long = ne_eqb (length (textBehind (recordCount s) s)) (byte_count s) (λ e. omega (arith, length-drop (lineBytes countFields + recordCount s * lineBytes recordWords) s))
+    text-long : eqb (length (text_behind (record_count s) s)) (byte_count s) ≡ false
+    unfolding text_behind
+    text-long = ne_eqb (length (text_behind (record_count s) s)) (byte_count s) (λ e. omega (arith, length-drop (line_bytes count_fields + record_count s * line_bytes record_words) s))
 
-    text-cut : eqb (length (textBehind (recordCount s) (take (suc mostInput) s))) (byte_count s) ≡ false
-    unfolding textBehind
-    text-cut = ne_eqb (length (textBehind (recordCount s) (take (suc mostInput) s))) (byte_count s) (λ e. omega (arith, length-drop (lineBytes countFields + recordCount s * lineBytes recordWords) (take (suc mostInput) s), length-take (suc mostInput) s))
+    text-cut : eqb (length (text_behind (record_count s) (take (suc most_input) s))) (byte_count s) ≡ false
+    unfolding text_behind
+    text-cut = ne_eqb (length (text_behind (record_count s) (take (suc most_input) s))) (byte_count s) (λ e. omega (arith, length-drop (line_bytes count_fields + record_count s * line_bytes record_words) (take (suc most_input) s), length-take (suc most_input) s))
 
   pub cut : Cut s
-  unfolding filmOf
-  cut = go (is_line countFields s) refl (isBig s) refl (areRecords (recordCount s) (behindCounts s)) refl
+  unfolding film_of
+  cut = go (is_line count_fields s) refl (is_big s) refl (are_records (record_count s) (behind_counts s)) refl
     where
-      go : (a : Bool) → is_line countFields s ≡ a → (b : Bool) → isBig s ≡ b → (d : Bool) → areRecords (recordCount s) (behindCounts s) ≡ d → Cut s
+      go : (a : Bool) → is_line count_fields s ≡ a → (b : Bool) → is_big s ≡ b → (d : Bool) → are_records (record_count s) (behind_counts s) ≡ d → Cut s
       go false p b q d r = record { same = rw (line-is, p); refused = rw p }
       go true p true q d r = record { same = rw (line-is, counts-are, p, q); refused = rw (p, q) }
       go true p false q false r =

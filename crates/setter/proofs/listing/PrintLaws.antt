@@ -10,28 +10,28 @@ use lib.ListN.{length, get_or, take, drop, length-append, length-take, length-dr
 use lib.Seq.{take_all, take_at, drop_at, drop-drop, get_or-drop}
 use borrow.Author.Rules.{rules}
 use borrow.Author.Tests.{leb-true, leb-false}
-use Rattle.leaves.specs.Report.Entries.{Entry, words, headWords, flat, pathLength}
+use Rattle.leaves.specs.Report.Entries.{Entry, words, head_words, flat, path_length}
 use Rattle.leaves.specs.Text.Lists.{over}
 use Rattle.leaves.proofs.text.OverLaws.{over-fits, over-nil, over-two, length_over}
 use Rattle.leaves.specs.Text.Field.{places}
-use Rattle.leaves.specs.Text.Columns.{line, lineBytes, Writes}
+use Rattle.leaves.specs.Text.Columns.{line, line_bytes, Writes}
 use Rattle.leaves.proofs.text.ColumnLaws.{line-long}
-use Rattle.setter.specs.Listing.Print.{refusalLine, entryLines, reportWords, outputBytes, Prints}
-use Rattle.setter.specs.Listing.PrintInWords.{entryWords, linesIn, entryEnd}
+use Rattle.setter.specs.Listing.Print.{refusal_line, entry_lines, report_words, output_bytes, Prints}
+use Rattle.setter.specs.Listing.PrintInWords.{entry_words, lines_in, entry_end}
 
 -- ---- `entry_end`
 module _ (w : List ℕ) (at : ℕ) (h : at ≤ length w) where
-  pub end-headless : length w - at < headWords → length w ≡ entryEnd w at
+  pub end-headless : length w - at < head_words → length w ≡ entry_end w at
   end-headless g = omega arith
 
   module _ {path : ℕ} (e : path ≡ get_or w (at + 4) 0) where
-    path-is : pathLength (drop at w) ≡ path
+    path-is : path_length (drop at w) ≡ path
     path-is = get_or-drop at w 4 0 ∙ sym e
 
-    pub end-cut : length w - at - headWords < path → length w ≡ entryEnd w at
+    pub end-cut : length w - at - head_words < path → length w ≡ entry_end w at
     end-cut g = rw path-is (omega arith)
 
-    pub end_whole : headWords ≤ length w - at → path ≤ length w - at - headWords → at + headWords + path ≡ entryEnd w at
+    pub end_whole : head_words ≤ length w - at → path ≤ length w - at - head_words → at + head_words + path ≡ entry_end w at
     end_whole f g = rw path-is (omega arith)
 
 pub ruleset endings = (end-headless, end-cut, end_whole, rules)
@@ -55,23 +55,23 @@ module _ (a : ℕ) (v : List ℕ) where
       go false e = drop_of_length-le v {i = min a (length v)} (omega (arith, leb-false a (length v) e)) ∙ sym (drop_of_length-le v {i = a} (omega (arith, leb-false a (length v) e)))
 
 -- a line has 11 bytes for each of its words, and one more
-pub lines-most : (n : ℕ) (w : List ℕ) → length (linesIn n w) ≤ length w * places + n
-unfolding linesIn
+pub lines-most : (n : ℕ) (w : List ℕ) → length (lines_in n w) ≤ length w * places + n
+unfolding lines_in
 lines-most zero w = omega arith
-lines-most (suc n) w = simp length-append (omega (arith, line-long (take (entryWords w) w), length-take (entryWords w) w, length-drop (entryWords w) w, lines-most n (drop (entryWords w) w)))
+lines-most (suc n) w = simp length-append (omega (arith, line-long (take (entry_words w) w), length-take (entry_words w) w, length-drop (entry_words w) w, lines-most n (drop (entry_words w) w)))
 
 -- i entries are printed, and what is left decides the whole
 pub record Printing (old w : List ℕ) (n : ℕ) (out : List ℕ) (end at i : ℕ) : Type 0 where
   pub inside : i ≤ n
   pub within : at ≤ length w
   pub long : length out ≡ length old
-  pub is : over old 0 (linesIn n w) ≡ over out end (linesIn (n - i) (drop at w))
-  pub ends : length (linesIn n w) ≡ end + length (linesIn (n - i) (drop at w))
+  pub is : over old 0 (lines_in n w) ≡ over out end (lines_in (n - i) (drop at w))
+  pub ends : length (lines_in n w) ≡ end + length (lines_in (n - i) (drop at w))
 
 pub print-start : (old w : List ℕ) (n : ℕ) → Printing old w n old 0 0 0
 print-start old w n = record { inside = omega arith; within = omega arith; long = refl; is = rw sub-zero; ends = rw sub-zero (omega arith) }
 
-module _ {old w out : List ℕ} {n end at i next : ℕ} (p : Printing old w n out end at i) (h : i < n) (room : length w * places + n ≤ length old) (e : next ≡ entryEnd w at) where
+module _ {old w out : List ℕ} {n end at i next : ℕ} (p : Printing old w n out end at i) (h : i < n) (room : length w * places + n ≤ length old) (e : next ≡ entry_end w at) where
   pub next-after : at ≤ next
   next-after = omega arith
 
@@ -79,24 +79,24 @@ module _ {old w out : List ℕ} {n end at i next : ℕ} (p : Printing old w n ou
   next-within = omega (arith, p.within)
 
   -- the entry's line, and what is left behind it
-  left_is : linesIn (n - i) (drop at w) ≡ line (take (next - at) (drop at w)) ++ linesIn (n - (i + 1)) (drop next w)
-  unfolding linesIn
+  left_is : lines_in (n - i) (drop at w) ≡ line (take (next - at) (drop at w)) ++ lines_in (n - (i + 1)) (drop next w)
+  unfolding lines_in
   left_is =
       let left : n - i ≡ suc (n - (i + 1)) = omega arith in
-      let own : next - at ≡ min (entryWords (drop at w)) (length (drop at w)) = rw length-drop (omega arith) in
-      let past : next ≡ at + min (entryWords (drop at w)) (length (drop at w)) = rw length-drop e in
-      let t : take (next - at) (drop at w) ≡ take (entryWords (drop at w)) (drop at w) = rw own (take_min (entryWords (drop at w)) (drop at w)) in
-      let d : drop next w ≡ drop (entryWords (drop at w)) (drop at w) = rw (past, ← drop-drop (min (entryWords (drop at w)) (length (drop at w))) at w) (drop_min (entryWords (drop at w)) (drop at w)) in
+      let own : next - at ≡ min (entry_words (drop at w)) (length (drop at w)) = rw length-drop (omega arith) in
+      let past : next ≡ at + min (entry_words (drop at w)) (length (drop at w)) = rw length-drop e in
+      let t : take (next - at) (drop at w) ≡ take (entry_words (drop at w)) (drop at w) = rw own (take_min (entry_words (drop at w)) (drop at w)) in
+      let d : drop next w ≡ drop (entry_words (drop at w)) (drop at w) = rw (past, ← drop-drop (min (entry_words (drop at w)) (length (drop at w))) at w) (drop_min (entry_words (drop at w)) (drop at w)) in
       rw (left, t, d)
 
-  pub print-room : end + lineBytes (length (take (next - at) (drop at w))) ≤ length out
-  print-room = omega (arith, p.long, p.ends, lines-most n w, ap length left_is ∙ length-append (line (take (next - at) (drop at w))) (linesIn (n - (i + 1)) (drop next w)), line-long (take (next - at) (drop at w)))
+  pub print-room : end + line_bytes (length (take (next - at) (drop at w))) ≤ length out
+  print-room = omega (arith, p.long, p.ends, lines-most n w, ap length left_is ∙ length-append (line (take (next - at) (drop at w))) (lines_in (n - (i + 1)) (drop next w)), line-long (take (next - at) (drop at w)))
 
   pub print-next : {new : List ℕ} {r : ℕ} → Writes out end (line (take (next - at) (drop at w))) new r → Printing old w n new r next (i + 1)
   print-next {new} {r} f =
       let l = line (take (next - at) (drop at w)) in
-      let rest = linesIn (n - (i + 1)) (drop next w) in
-      let both : length (linesIn (n - i) (drop at w)) ≡ length l + length rest = ap length left_is ∙ length-append l rest in
+      let rest = lines_in (n - (i + 1)) (drop next w) in
+      let both : length (lines_in (n - i) (drop at w)) ≡ length l + length rest = ap length left_is ∙ length-append l rest in
       record {
         inside = omega arith;
         within = next-within;
@@ -105,11 +105,11 @@ module _ {old w out : List ℕ} {n end at i next : ℕ} (p : Printing old w n ou
         ends = omega (arith, p.ends, f.ends);
       }
 
-pub print-end : {old w out : List ℕ} {n end at i : ℕ} → Printing old w n out end at i → n ≤ i → length w * places + n ≤ length old → Writes old 0 (linesIn n w) out end
-unfolding linesIn
+pub print-end : {old w out : List ℕ} {n end at i : ℕ} → Printing old w n out end at i → n ≤ i → length w * places + n ≤ length old → Writes old 0 (lines_in n w) out end
+unfolding lines_in
 print-end {old} {w} {out} {n} {end} {at} {i} p h room =
     let none : n - i ≡ 0 = omega arith in
-    let e : length (linesIn n w) ≡ end = rw none at p.ends ∙ omega arith in
+    let e : length (lines_in n w) ≡ end = rw none at p.ends ∙ omega arith in
     record { written = sym (p.is ∙ rw none (over-nil out end)); ends = omega arith }
 
 pub ruleset printing = (print-start, next-after, next-within, print-room, print-next, print-end, rules)
@@ -121,14 +121,14 @@ prints-of {old} {bytes} f h =
     record { count = f.ends ∙ zero-add (length bytes); printed = f.written ∙ over-fits old 0 bytes (omega arith) ∙ rw (zero-add (length bytes)) }
 
 -- a refusal's line
-pub prints-refusal : {old new : List ℕ} {r : ℕ} (number at : ℕ) → Writes old 0 (line (number ∷ at ∷ [])) new r → length old ≡ outputBytes → Prints old (refusalLine number at) new r
-unfolding refusalLine
+pub prints-refusal : {old new : List ℕ} {r : ℕ} (number at : ℕ) → Writes old 0 (line (number ∷ at ∷ [])) new r → length old ≡ output_bytes → Prints old (refusal_line number at) new r
+unfolding refusal_line
 prints-refusal number at f h = prints-of f (omega (arith, line-long (number ∷ at ∷ [])))
 
 -- the entries' lines, and the last one
-pub prints-list : {old mid new : List ℕ} {end r : ℕ} (w : List ℕ) (n stop at : ℕ) → Writes old 0 (linesIn n w) mid end → Writes mid end (line (n ∷ stop ∷ at ∷ [])) new r → n ≤ reportWords → length w ≡ reportWords → length old ≡ outputBytes → Prints old (linesIn n w ++ line (n ∷ stop ∷ at ∷ [])) new r
+pub prints-list : {old mid new : List ℕ} {end r : ℕ} (w : List ℕ) (n stop at : ℕ) → Writes old 0 (lines_in n w) mid end → Writes mid end (line (n ∷ stop ∷ at ∷ [])) new r → n ≤ report_words → length w ≡ report_words → length old ≡ output_bytes → Prints old (lines_in n w ++ line (n ∷ stop ∷ at ∷ [])) new r
 prints-list {old} {mid} {new} {end} {r} w n stop at f g few long room =
-    let a = linesIn n w in
+    let a = lines_in n w in
     let b = line (n ∷ stop ∷ at ∷ []) in
     let k : length a + length b ≤ length old = omega (arith, lines-most n w, line-long (n ∷ stop ∷ at ∷ [])) in
     let z : end ≡ 0 + length a = f.ends in
@@ -136,7 +136,7 @@ prints-list {old} {mid} {new} {end} {r} w n stop at f g few long room =
     prints-of two (rw (length-append a b) k)
 
 -- the room for the last line behind them
-pub last-room : {old mid : List ℕ} {end : ℕ} (w : List ℕ) (n : ℕ) → Writes old 0 (linesIn n w) mid end → n ≤ reportWords → length w ≡ reportWords → length old ≡ outputBytes → length mid ≡ length old → end + lineBytes 3 ≤ length mid
+pub last-room : {old mid : List ℕ} {end : ℕ} (w : List ℕ) (n : ℕ) → Writes old 0 (lines_in n w) mid end → n ≤ report_words → length w ≡ report_words → length old ≡ output_bytes → length mid ≡ length old → end + line_bytes 3 ≤ length mid
 last-room w n f few long room same = omega (arith, f.ends, lines-most n w)
 
 -- what is printed is inside the output
@@ -147,12 +147,12 @@ pub prints-taken : {old bytes new : List ℕ} {n : ℕ} → Prints old bytes new
 prints-taken {new = new} {n = n} p = let h = prints-within p in omega (arith, length-take n new)
 
 -- ---- the lines of a report that holds a list
-entry-front : (e : Entry) (rest : List ℕ) → entryWords (words e ++ rest) ≡ length (words e)
+entry-front : (e : Entry) (rest : List ℕ) → entry_words (words e ++ rest) ≡ length (words e)
 unfolding words
 entry-front e rest = omega arith
 
-pub lines_of : (es : List Entry) (rest : List ℕ) → linesIn (length es) (flat es ++ rest) ≡ entryLines es
-unfolding linesIn entryLines flat
+pub lines_of : (es : List Entry) (rest : List ℕ) → lines_in (length es) (flat es ++ rest) ≡ entry_lines es
+unfolding lines_in entry_lines flat
 lines_of [] rest = refl
 lines_of (e ∷ es) rest =
     rw (append_assoc (words e) (flat es) rest, entry-front e (flat es ++ rest), take_at (words e) (flat es ++ rest) (length (words e)) refl, drop_at (words e) (flat es ++ rest) (length (words e)) refl, lines_of es rest)

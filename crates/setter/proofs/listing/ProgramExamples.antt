@@ -2,41 +2,41 @@
 use mathlib.Core.Path.{◌≡◌, refl}
 use mathlib.Core.List.{List, [], ◌∷◌, ◌++◌}
 use Prim.Native.Nat.{ℕ}
-use Rattle.leaves.specs.Sheet.Records.{recordAt}
+use Rattle.leaves.specs.Sheet.Records.{record_at}
 use Rattle.leaves.specs.Sheet.Siblings.{gather}
-use Rattle.leaves.specs.Sheet.Forest.{recordsFrom, deeper, past, grow, forestAt, forestOf, count, countKind}
+use Rattle.leaves.specs.Sheet.Forest.{records_from, deeper, past, grow, forest_at, forest_of, count, count_kind}
 use Rattle.leaves.specs.Text.Part.{part_of}
-use Rattle.leaves.specs.Text.Utf8.{isUtf8, wellFormed, follow}
-use Rattle.leaves.specs.Refusal.Groups.{parentGroup, otherGroup, childGroup}
+use Rattle.leaves.specs.Text.Utf8.{is_utf8, well_formed, follow}
+use Rattle.leaves.specs.Refusal.Groups.{parent_group, other_group, child_group}
 use Rattle.leaves.specs.Refusal.Places.{holds, place_in, place_of, opened, joined, misplaced, open_at}
-use Rattle.leaves.specs.Refusal.Fields.{mostA, mostB, mostC, hasFirst, hasSecond, badText, badSpan, isSurrogate, badNumber, badField}
-use Rattle.leaves.specs.Sheet.Texts.{text_of, textOutside, textIllFormed}
-use Rattle.leaves.specs.Refusal.Record.{levelBefore, badLevel, judgeTexts, judge}
-use Rattle.leaves.specs.Refusal.Judge.{judgeAt, judgeFrom, judgeSheet}
+use Rattle.leaves.specs.Refusal.Fields.{most_a, most_b, most_c, has_first, has_second, bad_text, bad_span, is_surrogate, bad_number, bad_field}
+use Rattle.leaves.specs.Sheet.Texts.{text_of, text_outside, text_ill_formed}
+use Rattle.leaves.specs.Refusal.Record.{level_before, bad_level, judge_texts, judge}
+use Rattle.leaves.specs.Refusal.Judge.{judge_at, judge_from, judge_sheet}
 use Rattle.leaves.specs.Refusal.Verdict.{or_else}
-use Rattle.leaves.specs.Refusal.Tags.{lacksTags, tagsFrom}
-use Rattle.leaves.specs.Report.Entries.{words, flat, listIf, ◌⊕◌}
-use Rattle.inlines.specs.Nodes.{finalBreak, finalBreakAfter, noInline, validateInlineNodes, validateInlineNodesAfter, validateInlines}
-use Rattle.blocks.specs.Heads.{validateHeading}
-use Rattle.blocks.specs.Before.{takesIndentedCode, validateTakenBlock, beforeNext}
-use Rattle.leaves.specs.Text.Marker.{writtenMarker}
-use Rattle.blocks.specs.Holds.{holdsBlocks}
-use Rattle.blocks.specs.Block.{validateContainer, validateLeaf, validateOwn}
-use Rattle.blocks.specs.Walk.{validateBlock, validateBlocks, validateDocument, validateItem, validateListItems}
+use Rattle.leaves.specs.Refusal.Tags.{lacks_tags, tags_from}
+use Rattle.leaves.specs.Report.Entries.{words, flat, list_if, ◌⊕◌}
+use Rattle.inlines.specs.Nodes.{final_break, final_break_after, no_inline, validate_inline_nodes, validate_inline_nodes_after, validate_inlines}
+use Rattle.blocks.specs.Heads.{validate_heading}
+use Rattle.blocks.specs.Before.{takes_indented_code, validate_taken_block, before_next}
+use Rattle.leaves.specs.Text.Marker.{written_marker}
+use Rattle.blocks.specs.Holds.{holds_blocks}
+use Rattle.blocks.specs.Block.{validate_container, validate_leaf, validate_own}
+use Rattle.blocks.specs.Walk.{validate_block, validate_blocks, validate_document, validate_item, validate_list_items}
 use Rattle.blocks.specs.Check.{outcome}
-use Rattle.setter.specs.Steps.{closings, remain, stepsFrom, steps_of}
-use Rattle.setter.specs.Seen.{columns, nearest, inLink, behindList, onlyEmpty, lastMark}
-use Rattle.setter.specs.Stops.{stop_at, stopOf}
-use Rattle.setter.specs.Machine.{position, pathOf, blockPath, run_of, run, runAnswer}
-use Rattle.leaves.specs.Text.Field.{front, field, pastSpaces, readDigits, readNumber, readField}
-use Rattle.leaves.specs.Text.Columns.{fields, line, areFields, is_line, numbers}
-use Rattle.setter.specs.Listing.Film.{areRecords, sheetOf, filmSheet, textBehind, filmOf}
-use Rattle.setter.specs.Listing.Print.{refusalLine, entryLines, listLines}
-use Rattle.setter.specs.Listing.Program.{sheetLines, listing}
+use Rattle.setter.specs.Steps.{closings, remain, steps_from, steps_of}
+use Rattle.setter.specs.Seen.{columns, nearest, in_link, behind_list, only_empty, last_mark}
+use Rattle.setter.specs.Stops.{stop_at, stop_of}
+use Rattle.setter.specs.Machine.{position, path_of, block_path, run_of, run, run_answer}
+use Rattle.leaves.specs.Text.Field.{front, field, past_spaces, read_digits, read_number, read_field}
+use Rattle.leaves.specs.Text.Columns.{fields, line, are_fields, is_line, numbers}
+use Rattle.setter.specs.Listing.Film.{are_records, sheet_of, film_sheet, text_behind, film_of}
+use Rattle.setter.specs.Listing.Print.{refusal_line, entry_lines, list_lines}
+use Rattle.setter.specs.Listing.Program.{sheet_lines, listing}
 
 -- what is printed; a declaration that unfolds this unfolds all that it computes with
 printed : List ℕ → List ℕ
-unfolding listing sheetLines refusalLine entryLines listLines areRecords sheetOf filmSheet textBehind filmOf front field pastSpaces readDigits readNumber readField fields line areFields is_line numbers outcome run closings remain stepsFrom steps_of columns nearest inLink behindList onlyEmpty stop_at stopOf position pathOf blockPath run_of runAnswer lastMark recordsFrom validateDocument validateBlocks validateBlock validateListItems validateItem beforeNext holdsBlocks validateContainer validateLeaf validateOwn takesIndentedCode validateHeading validateTakenBlock writtenMarker finalBreak finalBreakAfter noInline validateInlineNodes validateInlineNodesAfter validateInlines words flat listIf ◌⊕◌ judgeSheet or_else judgeFrom judgeAt judge judgeTexts levelBefore badLevel tagsFrom lacksTags recordAt deeper past grow forestAt forestOf count countKind misplaced open_at gather opened joined parentGroup otherGroup childGroup holds place_in place_of badField badNumber mostA mostB mostC isSurrogate badSpan hasFirst hasSecond badText textOutside textIllFormed text_of part_of isUtf8 wellFormed follow Rattle.leaves.specs.Text.Utf8.table
+unfolding listing sheet_lines refusal_line entry_lines list_lines are_records sheet_of film_sheet text_behind film_of front field past_spaces read_digits read_number read_field fields line are_fields is_line numbers outcome run closings remain steps_from steps_of columns nearest in_link behind_list only_empty stop_at stop_of position path_of block_path run_of run_answer last_mark records_from validate_document validate_blocks validate_block validate_list_items validate_item before_next holds_blocks validate_container validate_leaf validate_own takes_indented_code validate_heading validate_taken_block written_marker final_break final_break_after no_inline validate_inline_nodes validate_inline_nodes_after validate_inlines words flat list_if ◌⊕◌ judge_sheet or_else judge_from judge_at judge judge_texts level_before bad_level tags_from lacks_tags record_at deeper past grow forest_at forest_of count count_kind misplaced open_at gather opened joined parent_group other_group child_group holds place_in place_of bad_field bad_number most_a most_b most_c is_surrogate bad_span has_first has_second bad_text text_outside text_ill_formed text_of part_of is_utf8 well_formed follow Rattle.leaves.specs.Text.Utf8.table
 printed s = listing s
 
 -- a record with a kind, a level and A

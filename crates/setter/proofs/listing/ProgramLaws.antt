@@ -11,30 +11,30 @@ use mir.Val.{Fits}
 use lib.Dec.{ltb}
 use lib.ListN.{length, take, replicate, length-take, length-replicate}
 use lib.Seq.{take_all, take_at}
-use Rattle.leaves.specs.Sheet.Records.{recordWords, recordsOf}
+use Rattle.leaves.specs.Sheet.Records.{record_words, records_of}
 use Rattle.leaves.specs.Report.Entries.{flat}
 use Rattle.leaves.proofs.report.EntryLaws.{few-entries}
-use Rattle.leaves.specs.Refusal.Verdict.{Answer, answer, isAccepted}
-use Rattle.leaves.specs.Refusal.Judge.{judgeSheet}
+use Rattle.leaves.specs.Refusal.Verdict.{Answer, answer, is_accepted}
+use Rattle.leaves.specs.Refusal.Judge.{judge_sheet}
 use Rattle.leaves.specs.declared.refusal.verdict.Judged.TheVariants.{Accepted}
-use Rattle.blocks.specs.Walk.{validateDocument}
-use Rattle.setter.specs.Machine.{runAnswer}
-use Rattle.setter.specs.Answer.{settingAnswer, Answers}
-use Rattle.setter.specs.Setting.{afterRun, setting_of}
+use Rattle.blocks.specs.Walk.{validate_document}
+use Rattle.setter.specs.Machine.{run_answer}
+use Rattle.setter.specs.Answer.{setting_answer, Answers}
+use Rattle.setter.specs.Setting.{after_run, setting_of}
 use Rattle.setter.specs.declared.answer.Setting.{Setting}
 use Rattle.blocks.specs.Check.{outcome}
 use Rattle.blocks.proofs.CheckLaws.{no-entries}
 use Rattle.blocks.proofs.AnswerLaws.{value-word}
 use Rattle.leaves.specs.Text.Columns.{line}
-use Rattle.setter.specs.Listing.Film.{recordCount, behindCounts, filmSheet, textBehind, filmText, mostFilmRecords, mostInput, filmOf, Reads}
-use Rattle.setter.specs.Listing.FilmAnswer.{filmAnswer}
+use Rattle.setter.specs.Listing.Film.{record_count, behind_counts, film_sheet, text_behind, film_text, most_film_records, most_input, film_of, Reads}
+use Rattle.setter.specs.Listing.FilmAnswer.{film_answer}
 use Rattle.setter.specs.declared.listing.filmanswer.Film.{Film}
 use Rattle.setter.proofs.listing.FilmLaws.{Good, good, sheet-long}
 use Rattle.setter.proofs.listing.CutLaws.{cut}
-use Rattle.setter.specs.Listing.Print.{reportWords, refusalLine, entryLines, listLines, Prints}
-use Rattle.setter.specs.Listing.PrintInWords.{linesIn}
+use Rattle.setter.specs.Listing.Print.{report_words, refusal_line, entry_lines, list_lines, Prints}
+use Rattle.setter.specs.Listing.PrintInWords.{lines_in}
 use Rattle.setter.proofs.listing.PrintLaws.{lines_of}
-use Rattle.setter.specs.Listing.Program.{checkedWith, sheetLines, listing, Page}
+use Rattle.setter.specs.Listing.Program.{checked_with, sheet_lines, listing, Page}
 use Rattle.setter.proofs.agrees.Inside.{run_inside}
 use Rattle.setter.proofs.agrees.Demand.{demand-accepted}
 use Rattle.setter.specs.Agrees.{Demand}
@@ -43,113 +43,113 @@ use Rattle.setter.proofs.BothLaws.{Written, written}
 -- ---- the check's answer goes by how long the report is, and not by its words
 answer-same : (w bytes x z : List ℕ) → length x ≡ length z → (outcome w bytes x).0 ≡ (outcome w bytes z).0
 unfolding outcome
-answer-same w bytes x z h = go (isAccepted (judgeSheet w bytes)) refl (ltb (length z) (length (flat (validateDocument w bytes)))) refl
+answer-same w bytes x z h = go (is_accepted (judge_sheet w bytes)) refl (ltb (length z) (length (flat (validate_document w bytes)))) refl
   where
-    go : (a : Bool) → isAccepted (judgeSheet w bytes) ≡ a → (b : Bool) → ltb (length z) (length (flat (validateDocument w bytes))) ≡ b → (outcome w bytes x).0 ≡ (outcome w bytes z).0
+    go : (a : Bool) → is_accepted (judge_sheet w bytes) ≡ a → (b : Bool) → ltb (length z) (length (flat (validate_document w bytes))) ≡ b → (outcome w bytes x).0 ≡ (outcome w bytes z).0
     go false p b q = rw p
     go true p true q = rw (p, h, q)
     go true p false q = rw (p, h, q)
 
 -- ---- the machine's answer, where the sheet was accepted and has no more records than marks
-ran : (w bytes m : List ℕ) → judgeSheet w bytes ≡ Accepted → recordsOf w ≤ length m → (setting_of w bytes m).0 ≡ runAnswer w bytes
-unfolding setting_of afterRun
+ran : (w bytes m : List ℕ) → judge_sheet w bytes ≡ Accepted → records_of w ≤ length m → (setting_of w bytes m).0 ≡ run_answer w bytes
+unfolding setting_of after_run
 ran w bytes m a h = rw (a, le-ltb _ _ h)
 
 -- ---- `list_sheet`: x is the report before the check, and y after it
-module _ (w bytes x : List ℕ) {y : List ℕ} {c : Answer} {number value : ℕ} (e : (c, y) ≡ outcome w bytes x) (long : length x ≡ reportWords) (a : number ≡ c.number) (b : value ≡ c.value) where
+module _ (w bytes x : List ℕ) {y : List ℕ} {c : Answer} {number value : ℕ} (e : (c, y) ≡ outcome w bytes x) (long : length x ≡ report_words) (a : number ≡ c.number) (b : value ≡ c.value) where
   answer-is : c ≡ (outcome w bytes x).0
   answer-is = ap (λ (u : Answer × List ℕ). u.0) e
 
-  checked-is : checkedWith w bytes ≡ c
-  checked-is = answer-same w bytes (replicate reportWords 0) x (length-replicate {A = ℕ} reportWords 0 ∙ sym long) ∙ sym answer-is
+  checked-is : checked_with w bytes ≡ c
+  checked-is = answer-same w bytes (replicate report_words 0) x (length-replicate {A = ℕ} report_words 0 ∙ sym long) ∙ sym answer-is
 
   pub value-fits : Fits w32 value
   value-fits = record { fits = rw (b, answer-is) (value-word w bytes x) }
 
-  pub refusal-printed : {old new : List ℕ} {r : ℕ} → (number ≡ 0 → ⊥) → Prints old (refusalLine number value) new r → Prints old (sheetLines w bytes) new r
-  unfolding sheetLines
+  pub refusal-printed : {old new : List ℕ} {r : ℕ} → (number ≡ 0 → ⊥) → Prints old (refusal_line number value) new r → Prints old (sheet_lines w bytes) new r
+  unfolding sheet_lines
   refusal-printed h p = rw (checked-is, ← a, ← b, ne_eqb _ _ h) p
 
   module _ (h : number ≡ 0) where
     list-is : Written w bytes x y value
     list-is = rw (b, answer-is, ap (λ (u : Answer × List ℕ). u.1) e) (written w bytes x (rw (a, answer-is) at h))
 
-    pub list-few : value ≤ reportWords
-    list-few = omega (arith, few-entries (validateDocument w bytes), list-is.fits, list-is.count)
+    pub list-few : value ≤ report_words
+    list-few = omega (arith, few-entries (validate_document w bytes), list-is.fits, list-is.count)
 
-    module _ (marks : List ℕ) {m : List ℕ} {s : Setting} {stop at : ℕ} (q : Answers (setting_of w bytes marks) s m) (few : recordsOf w ≤ mostFilmRecords) (same : length marks ≡ mostFilmRecords) (f : stop ≡ (settingAnswer s).number) (g : at ≡ (settingAnswer s).value) where
-      run_is : settingAnswer s ≡ runAnswer w bytes
+    module _ (marks : List ℕ) {m : List ℕ} {s : Setting} {stop at : ℕ} (q : Answers (setting_of w bytes marks) s m) (few : records_of w ≤ most_film_records) (same : length marks ≡ most_film_records) (f : stop ≡ (setting_answer s).number) (g : at ≡ (setting_answer s).value) where
+      run_is : setting_answer s ≡ run_answer w bytes
       run_is = ap (λ (u : Answer × List ℕ). u.0) q.answer ∙ ran w bytes marks list-is.accepted (omega arith)
 
       pub at-fits : Fits w32 at
       at-fits = record { fits = rw (g, run_is) (omega (arith, run_inside w bytes list-is.accepted)) }
 
-      pub list-printed : {old new : List ℕ} {r : ℕ} → Prints old (linesIn value y ++ line (value ∷ stop ∷ at ∷ [])) new r → Prints old (sheetLines w bytes) new r
-      unfolding sheetLines listLines
+      pub list-printed : {old new : List ℕ} {r : ℕ} → Prints old (lines_in value y ++ line (value ∷ stop ∷ at ∷ [])) new r → Prints old (sheet_lines w bytes) new r
+      unfolding sheet_lines list_lines
       list-printed p =
-          let stop-at : stop ≡ (runAnswer w bytes).number = f ∙ ap (λ (p : Answer). p.number) run_is in
-          let at-is : at ≡ (runAnswer w bytes).value = g ∙ ap (λ (p : Answer). p.value) run_is in
-          let lines : linesIn value y ≡ entryLines (validateDocument w bytes) = rw (list-is.count, list-is.holds) (lines_of (validateDocument w bytes) _) in
+          let stop-at : stop ≡ (run_answer w bytes).number = f ∙ ap (λ (p : Answer). p.number) run_is in
+          let at-is : at ≡ (run_answer w bytes).value = g ∙ ap (λ (p : Answer). p.value) run_is in
+          let lines : lines_in value y ≡ entry_lines (validate_document w bytes) = rw (list-is.count, list-is.holds) (lines_of (validate_document w bytes) _) in
           rw (checked-is, ← a, eq-eqb _ _ h, ← lines, ← list-is.count, ← stop-at, ← at-is) p
 
 -- ---- `list`: the film was read into the words of a sheet
-module _ {s old sheet : List ℕ} {f : Film} {number : ℕ} (r : Reads s old sheet f) (a : number ≡ (filmAnswer f).number) where
-  number_is : (filmOf s).number ≡ number
+module _ {s old sheet : List ℕ} {f : Film} {number : ℕ} (r : Reads s old sheet f) (a : number ≡ (film_answer f).number) where
+  number_is : (film_of s).number ≡ number
   number_is = sym (a ∙ ap (λ (p : Answer). p.number) r.answer)
 
-  pub film-printed : {out new : List ℕ} {k : ℕ} → (number ≡ 0 → ⊥) → Prints out (refusalLine number 0) new k → Prints out (listing s) new k
+  pub film-printed : {out new : List ℕ} {k : ℕ} → (number ≡ 0 → ⊥) → Prints out (refusal_line number 0) new k → Prints out (listing s) new k
   unfolding listing
   film-printed h p = rw (number_is, ne_eqb _ _ h) p
 
-  module _ (h : number ≡ 0) {n : ℕ} (b : n ≡ (filmAnswer f).value) where
+  module _ (h : number ≡ 0) {n : ℕ} (b : n ≡ (film_answer f).value) where
     ready : Good s
     ready = good s (number_is ∙ h)
 
-    n-is : n ≡ recordCount s
+    n-is : n ≡ record_count s
     n-is = b ∙ ap (λ (p : Answer). p.value) (r.answer ∙ ready.answer)
 
-    pub ready-few : n ≤ mostFilmRecords
+    pub ready-few : n ≤ most_film_records
     ready-few = omega (arith, n-is, ready.few)
 
-    sheet-is : take (n * recordWords) sheet ≡ filmSheet s
-    unfolding filmSheet
-    sheet-is = rw (r.words, ready.filled old) (take_at (filmSheet s) _ (n * recordWords) (sheet-long (recordCount s) (behindCounts s) ∙ rw n-is))
+    sheet-is : take (n * record_words) sheet ≡ film_sheet s
+    unfolding film_sheet
+    sheet-is = rw (r.words, ready.filled old) (take_at (film_sheet s) _ (n * record_words) (sheet-long (record_count s) (behind_counts s) ∙ rw n-is))
 
-    pub ready-long : n * recordWords ≡ length (take (n * recordWords) sheet)
-    unfolding filmSheet
-    ready-long = rw (sheet-is, n-is) (sym (sheet-long (recordCount s) (behindCounts s)))
+    pub ready-long : n * record_words ≡ length (take (n * record_words) sheet)
+    unfolding film_sheet
+    ready-long = rw (sheet-is, n-is) (sym (sheet-long (record_count s) (behind_counts s)))
 
-    pub ready-room : n * recordWords ≤ length sheet
-    ready-room = omega (arith, ready-long, length-take (n * recordWords) sheet)
+    pub ready-room : n * record_words ≤ length sheet
+    ready-room = omega (arith, ready-long, length-take (n * record_words) sheet)
 
-    pub ready-records : recordsOf (take (n * recordWords) sheet) ≤ mostFilmRecords
-    unfolding filmSheet
+    pub ready-records : records_of (take (n * record_words) sheet) ≤ most_film_records
+    unfolding film_sheet
     ready-records =
-        let k : length (filmSheet s) / recordWords ≡ recordCount s = div-eq_of_eq-mul_left (omega arith) (sheet-long (recordCount s) (behindCounts s)) in
+        let k : length (film_sheet s) / record_words ≡ record_count s = div-eq_of_eq-mul_left (omega arith) (sheet-long (record_count s) (behind_counts s)) in
         rw sheet-is (omega (arith, ready.few))
 
-    pub ready-printed : {out new text : List ℕ} {k : ℕ} → text ≡ textBehind n s → Prints out (sheetLines (take (n * recordWords) sheet) text) new k → Prints out (listing s) new k
+    pub ready-printed : {out new text : List ℕ} {k : ℕ} → text ≡ text_behind n s → Prints out (sheet_lines (take (n * record_words) sheet) text) new k → Prints out (listing s) new k
     unfolding listing
     ready-printed {text = text} e p =
-        let t : text ≡ filmText s = e ∙ rw n-is in
+        let t : text ≡ film_text s = e ∙ rw n-is in
         rw (number_is, eq-eqb _ _ h, ← sheet-is, ← t) p
 
 -- ---- what is cut off behind the largest film says nothing: who reads no more than one byte more lists the same
-pub listing-cut : (s : List ℕ) → listing (take (suc mostInput) s) ≡ listing s
+pub listing-cut : (s : List ℕ) → listing (take (suc most_input) s) ≡ listing s
 unfolding listing
-listing-cut s = go (ltb mostInput (length s)) refl
+listing-cut s = go (ltb most_input (length s)) refl
   where
-    go : (b : Bool) → ltb mostInput (length s) ≡ b → listing (take (suc mostInput) s) ≡ listing s
+    go : (b : Bool) → ltb most_input (length s) ≡ b → listing (take (suc most_input) s) ≡ listing s
     go true e = let k = cut s (ltb-true _ _ e) in rw (k.same, k.refused)
-    go false e = rw (take_all (suc mostInput) s (omega (arith, ltb-false mostInput (length s) e)))
+    go false e = rw (take_all (suc most_input) s (omega (arith, ltb-false most_input (length s) e)))
 
 -- ---- an empty list is printed with stop 0 and all records, by demand 3
-empty-page : (s : List ℕ) → (filmOf s).number ≡ 0 → checkedWith (filmSheet s) (filmText s) ≡ answer 0 0 → listing s ≡ listLines [] 0 (recordsOf (filmSheet s))
-unfolding listing sheetLines Demand runAnswer
+empty-page : (s : List ℕ) → (film_of s).number ≡ 0 → checked_with (film_sheet s) (film_text s) ≡ answer 0 0 → listing s ≡ list_lines [] 0 (records_of (film_sheet s))
+unfolding listing sheet_lines Demand run_answer
 empty-page s f c =
-    let b = written (filmSheet s) (filmText s) (replicate reportWords 0) (ap (λ (p : Answer). p.number) c) in
-    let z : validateDocument (filmSheet s) (filmText s) ≡ [] = no-entries _ (sym b.count ∙ ap (λ (p : Answer). p.value) c) in
-    rw (eq-eqb _ _ f, c, z, ((demand-accepted (filmSheet s) (filmText s) b.accepted).empty z).end)
+    let b = written (film_sheet s) (film_text s) (replicate report_words 0) (ap (λ (p : Answer). p.number) c) in
+    let z : validate_document (film_sheet s) (film_text s) ≡ [] = no-entries _ (sym b.count ∙ ap (λ (p : Answer). p.value) c) in
+    rw (eq-eqb _ _ f, c, z, ((demand-accepted (film_sheet s) (film_text s) b.accepted).empty z).end)
 
 pub page : (s old new : List ℕ) (n : ℕ) → Prints old (listing s) new n → Page s old new n
 page s old new n p = record { prints = p; empty = empty-page s }

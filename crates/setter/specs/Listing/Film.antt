@@ -3,76 +3,76 @@
 -- text."
 use Rattle.std.specs.Prelude.{ℕ, ◌+◌, ◌*◌, ◌≡◌, Bool, not, ◌&&◌, ◌||◌, List, ◌++◌, eqb, ltb, length, get_or, drop}
 use Rattle.leaves.specs.Text.Lists.{if◌then◌else◌}
-use Rattle.leaves.specs.Sheet.Records.{recordWords}
-use Rattle.leaves.specs.Text.Columns.{lineBytes, is_line, numbers}
-unfoldable pub use Rattle.setter.specs.Listing.Records.{areRecords, sheetOf}
-pub use Rattle.setter.specs.Listing.Records.{mostFilmRecords}
+use Rattle.leaves.specs.Sheet.Records.{record_words}
+use Rattle.leaves.specs.Text.Columns.{line_bytes, is_line, numbers}
+unfoldable pub use Rattle.setter.specs.Listing.Records.{are_records, sheet_of}
+pub use Rattle.setter.specs.Listing.Records.{most_film_records}
 use Rattle.setter.specs.declared.listing.filmanswer.Film.{Film}
 use Rattle.leaves.specs.Refusal.Verdict.{Answer, answer}
-use Rattle.setter.specs.Listing.FilmAnswer.{badColumn, bigFilm, filmAnswer}
+use Rattle.setter.specs.Listing.FilmAnswer.{bad_column, big_film, film_answer}
 
 -- ---- the first line: "counts of records and text bytes"
 
-abbrev pub countFields : ℕ
-countFields = 2
+abbrev pub count_fields : ℕ
+count_fields = 2
 
-abbrev pub recordCount : List ℕ → ℕ
-recordCount s = get_or (numbers countFields s) 0 0
+abbrev pub record_count : List ℕ → ℕ
+record_count s = get_or (numbers count_fields s) 0 0
 
 abbrev pub byte_count : List ℕ → ℕ
-byte_count s = get_or (numbers countFields s) 1 0
+byte_count s = get_or (numbers count_fields s) 1 0
 
 -- what stands behind the first line
-abbrev pub behindCounts : List ℕ → List ℕ
-behindCounts s = drop (lineBytes countFields) s
+abbrev pub behind_counts : List ℕ → List ℕ
+behind_counts s = drop (line_bytes count_fields) s
 
 -- the words of a film's sheet
-unfoldable pub filmSheet : List ℕ → List ℕ
-filmSheet s = sheetOf (recordCount s) (behindCounts s)
+unfoldable pub film_sheet : List ℕ → List ℕ
+film_sheet s = sheet_of (record_count s) (behind_counts s)
 
 -- ---- the text: all that stands behind n records
-unfoldable pub textBehind : ℕ → List ℕ → List ℕ
-textBehind n s = drop (lineBytes countFields + n * lineBytes recordWords) s
+unfoldable pub text_behind : ℕ → List ℕ → List ℕ
+text_behind n s = drop (line_bytes count_fields + n * line_bytes record_words) s
 
 -- the text of a film
-abbrev pub filmText : List ℕ → List ℕ
-filmText s = textBehind (recordCount s) s
+abbrev pub film_text : List ℕ → List ℕ
+film_text s = text_behind (record_count s) s
 
 -- ---- the tests. "The program tests its first line (13, then 14), then each line, before the call".
 
--- 14, big film: "over 512 records or 16,384 text bytes" (`mostFilmRecords` is 512)
-abbrev pub mostFilmBytes : ℕ
-mostFilmBytes = 16384
+-- 14, big film: "over 512 records or 16,384 text bytes" (`most_film_records` is 512)
+abbrev pub most_film_bytes : ℕ
+most_film_bytes = 16384
 
 -- how many bytes the largest well-formed film has
-abbrev pub mostInput : ℕ
-mostInput = lineBytes countFields + mostFilmRecords * lineBytes recordWords + mostFilmBytes
+abbrev pub most_input : ℕ
+most_input = line_bytes count_fields + most_film_records * line_bytes record_words + most_film_bytes
 
-abbrev pub isBig : List ℕ → Bool
-isBig s = ltb mostFilmRecords (recordCount s) || ltb mostFilmBytes (byte_count s)
+abbrev pub is_big : List ℕ → Bool
+is_big s = ltb most_film_records (record_count s) || ltb most_film_bytes (byte_count s)
 
 -- 13, bad column: "malformed line, or text too short or long"; 0 and the number of records where the film is ready
-unfoldable pub filmOf : List ℕ → Answer
-filmOf s =
-    if not (is_line countFields s)
-    then answer badColumn 0
-    else if isBig s
-    then answer bigFilm 0
-    else if not (areRecords (recordCount s) (behindCounts s))
-    then answer badColumn 0
-    else if not (eqb (length (filmText s)) (byte_count s))
-    then answer badColumn 0
-    else answer 0 (recordCount s)
+unfoldable pub film_of : List ℕ → Answer
+film_of s =
+    if not (is_line count_fields s)
+    then answer bad_column 0
+    else if is_big s
+    then answer big_film 0
+    else if not (are_records (record_count s) (behind_counts s))
+    then answer bad_column 0
+    else if not (eqb (length (film_text s)) (byte_count s))
+    then answer bad_column 0
+    else answer 0 (record_count s)
 
 -- ---- the words that the sheet is read into. Where the counts are good, the records' words stand at the front, and
 -- behind them the old words stay; else all stay.
-unfoldable pub filledSheet : List ℕ → List ℕ → List ℕ
-filledSheet s old =
-    if is_line countFields s && not (isBig s)
-    then filmSheet s ++ drop (recordCount s * recordWords) old
+unfoldable pub filled_sheet : List ℕ → List ℕ → List ℕ
+filled_sheet s old =
+    if is_line count_fields s && not (is_big s)
+    then film_sheet s ++ drop (record_count s * record_words) old
     else old
 
 -- what reading a film hands back: its answer, and the words of the sheet
 pub record Reads (s old new : List ℕ) (film : Film) : Type 0 where
-  pub answer : filmAnswer film ≡ filmOf s
-  pub words : new ≡ filledSheet s old
+  pub answer : film_answer film ≡ film_of s
+  pub words : new ≡ filled_sheet s old

@@ -5,14 +5,14 @@ use Rattle.setter.specs.declared.listing.filmanswer.Film.{Film}
 use Rattle.setter.specs.declared.listing.filmanswer.Film.TheVariants.{BadColumn, BigFilm, Ready}
 
 -- document 01's numbers of "bad column" and "big film"
-abbrev pub badColumn : ℕ
-badColumn = 13
+abbrev pub bad_column : ℕ
+bad_column = 13
 
-abbrev pub bigFilm : ℕ
-bigFilm = 14
+abbrev pub big_film : ℕ
+big_film = 14
 
 -- "number and record (.. 0 for .. 11 and above)"; 0 and the number of records where the film is ready
-abbrev pub filmAnswer : Film → Answer
-filmAnswer BadColumn = answer badColumn 0
-filmAnswer BigFilm = answer bigFilm 0
-filmAnswer (Ready records) = answer 0 records
+abbrev pub film_answer : Film → Answer
+film_answer BadColumn = answer bad_column 0
+film_answer BigFilm = answer big_film 0
+film_answer (Ready records) = answer 0 records

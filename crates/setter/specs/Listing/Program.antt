@@ -3,31 +3,31 @@
 -- the end), record; a refusal prints number and record only."
 use Rattle.std.specs.Prelude.{ℕ, ◌≡◌, List, [], eqb, replicate}
 use Rattle.leaves.specs.Text.Lists.{if◌then◌else◌}
-use Rattle.leaves.specs.Sheet.Records.{recordsOf}
+use Rattle.leaves.specs.Sheet.Records.{records_of}
 use Rattle.leaves.specs.Refusal.Verdict.{Answer, answer}
-use Rattle.blocks.specs.Walk.{validateDocument}
+use Rattle.blocks.specs.Walk.{validate_document}
 use Rattle.blocks.specs.Check.{outcome}
-use Rattle.setter.specs.Machine.{runAnswer}
-use Rattle.setter.specs.Listing.Film.{filmSheet, filmText, filmOf}
-use Rattle.setter.specs.Listing.Print.{reportWords, refusalLine, listLines, Prints}
+use Rattle.setter.specs.Machine.{run_answer}
+use Rattle.setter.specs.Listing.Film.{film_sheet, film_text, film_of}
+use Rattle.setter.specs.Listing.Print.{report_words, refusal_line, list_lines, Prints}
 
 -- the check's answer for a sheet and its text: "its report has 4,096 words"
-abbrev pub checkedWith : List ℕ → List ℕ → Answer
-checkedWith w bytes = (outcome w bytes (replicate reportWords 0)).0
+abbrev pub checked_with : List ℕ → List ℕ → Answer
+checked_with w bytes = (outcome w bytes (replicate report_words 0)).0
 
 -- what is printed for a sheet and its text: the whole list, with the machine's stop and record; or the check's refusal
 -- (1 to 11)
-unfoldable pub sheetLines : List ℕ → List ℕ → List ℕ
-sheetLines w bytes =
-    if eqb (checkedWith w bytes).number 0
-    then listLines (validateDocument w bytes) (runAnswer w bytes).number (runAnswer w bytes).value
-    else refusalLine (checkedWith w bytes).number (checkedWith w bytes).value
+unfoldable pub sheet_lines : List ℕ → List ℕ → List ℕ
+sheet_lines w bytes =
+    if eqb (checked_with w bytes).number 0
+    then list_lines (validate_document w bytes) (run_answer w bytes).number (run_answer w bytes).value
+    else refusal_line (checked_with w bytes).number (checked_with w bytes).value
 
 -- what the program prints for what it reads: refusals 13 and 14 come "before the call", with record "0 for .. 11 and
 -- above"
 unfoldable pub listing : List ℕ → List ℕ
 listing s =
-    if eqb (filmOf s).number 0 then sheetLines (filmSheet s) (filmText s) else refusalLine (filmOf s).number 0
+    if eqb (film_of s).number 0 then sheet_lines (film_sheet s) (film_text s) else refusal_line (film_of s).number 0
 
 -- n bytes are printed for what is read, and what a reader of the page relies on
 pub record Page (s old new : List ℕ) (n : ℕ) : Type 0 where
@@ -35,6 +35,6 @@ pub record Page (s old new : List ℕ) (n : ℕ) : Type 0 where
   -- where the printed list is empty (the film is ready, and the check accepts it with no entry), the printed stop is 0
   -- and the printed record is the number of records
   pub empty :
-      (filmOf s).number ≡ 0
-      → checkedWith (filmSheet s) (filmText s) ≡ answer 0 0
-      → listing s ≡ listLines [] 0 (recordsOf (filmSheet s))
+      (film_of s).number ≡ 0
+      → checked_with (film_sheet s) (film_text s) ≡ answer 0 0
+      → listing s ≡ list_lines [] 0 (records_of (film_sheet s))

@@ -1,6 +1,6 @@
 // A film: its sheet and its text, or why it is refused.
 ghost use Rattle.std.specs.Prelude.{◌≡◌, ◌≤◌};
-ghost use Rattle.setter.specs.Listing.Film.{mostFilmRecords, textBehind, Reads};
+ghost use Rattle.setter.specs.Listing.Film.{most_film_records, text_behind, Reads};
 
 use crate::listing::filmanswer::Film;
 use crate::listing::records::{RECORD_BYTES, behind, read_records};
@@ -21,8 +21,8 @@ pub(crate) const SHEET_WORDS: usize = MOST_FILM_RECORDS * RECORD_WORDS;
 
 // The text of a film of `n` records: all that stands behind them.
 pub(crate) fn text_behind(s: &[u8], n: usize) -> &[u8]
-    requires { n ≤ mostFilmRecords }
-    ensures { result.now ≡ textBehind n s.now }
+    requires { n ≤ most_film_records }
+    ensures { result.now ≡ text_behind n s.now }
 {
     behind(s, COUNT_BYTES + n * RECORD_BYTES)
 }

@@ -1,6 +1,6 @@
 // The answer for a film, with its number and its records.
 ghost use Rattle.std.specs.Prelude.{◌≡◌};
-ghost use Rattle.setter.specs.Listing.FilmAnswer.{filmAnswer};
+ghost use Rattle.setter.specs.Listing.FilmAnswer.{film_answer};
 
 // Why a film is refused, or how many records it has.
 #[derive(Drop)]
@@ -12,7 +12,7 @@ pub(crate) enum Film {
 
 // Document 01's number of a refused film; 0 where it is ready.
 pub(crate) fn film_number(f: Film) -> u32
-    ensures { result ≡ (filmAnswer f).number }
+    ensures { result ≡ (film_answer f).number }
 {
     match f {
         Film::BadColumn => 13,
@@ -23,7 +23,7 @@ pub(crate) fn film_number(f: Film) -> u32
 
 // How many records a film that is ready has.
 pub(crate) fn film_records(f: Film) -> usize
-    ensures { result ≡ (filmAnswer f).value }
+    ensures { result ≡ (film_answer f).value }
 {
     match f {
         Film::BadColumn => 0,

@@ -2,8 +2,8 @@
 ghost use Rattle.std.specs.Prelude.{◌≡◌, [], ◌∷◌, ◌++◌, ◌+◌, ◌*◌, ◌≤◌, length};
 ghost use Rattle.leaves.specs.Text.Field.{places};
 ghost use Rattle.leaves.specs.Text.Columns.{line, Writes};
-ghost use Rattle.setter.specs.Listing.Print.{refusalLine, reportWords, Prints};
-ghost use Rattle.setter.specs.Listing.PrintInWords.{linesIn, entryEnd};
+ghost use Rattle.setter.specs.Listing.Print.{refusal_line, report_words, Prints};
+ghost use Rattle.setter.specs.Listing.PrintInWords.{lines_in, entry_end};
 
 use leaves::text::columns::write_line;
 
@@ -25,7 +25,7 @@ fn size(n: u32) -> usize
 // Where the entry at a place of the report ends: behind its path, and no later than the report.
 fn entry_end(report: &[u32], at: usize) -> usize
     requires { at ≤ length report.now }
-    ensures { result ≡ entryEnd report.now at }
+    ensures { result ≡ entry_end report.now at }
 {
     let left = report.len() - at;
     if left < HEAD {
@@ -41,7 +41,7 @@ fn entry_end(report: &[u32], at: usize) -> usize
 // Writes a line for each of the `n` entries at the report's front; answers where the lines end.
 fn write_entries(out: &mut [u8], report: &[u32], n: usize) -> usize
     requires { length report.now * places + n ≤ length out.old }
-    ensures { Writes out.old 0 (linesIn n report.now) out.new result }
+    ensures { Writes out.old 0 (lines_in n report.now) out.new result }
 {
     let mut end: usize = 0;
     let mut at: usize = 0;
@@ -63,9 +63,9 @@ pub(crate) fn write_list(
     stop: u32,
     at: u32,
 ) -> usize
-    requires { n ≤ reportWords }
+    requires { n ≤ report_words }
     ensures { Prints out.old
-        (linesIn n report.now ++ line (n ∷ stop ∷ at ∷ []))
+        (lines_in n report.now ++ line (n ∷ stop ∷ at ∷ []))
         out.new result }
 {
     let end = write_entries(out, report, n);
@@ -75,7 +75,7 @@ pub(crate) fn write_list(
 
 // Writes the line of a refusal: its number and the record.
 pub(crate) fn write_refusal(out: &mut [u8; OUTPUT_BYTES], number: u32, at: u32) -> usize
-    ensures { Prints out.old (refusalLine number at) out.new result }
+    ensures { Prints out.old (refusal_line number at) out.new result }
 {
     let words = [number, at];
     write_line(out, 0, &words)

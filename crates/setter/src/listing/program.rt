@@ -1,9 +1,9 @@
 // Reads a film, checks and sets its sheet, and prints what was found.
 ghost use Rattle.std.specs.Prelude.{◌*◌, ◌≤◌};
-ghost use Rattle.leaves.specs.Sheet.Records.{recordsOf};
-ghost use Rattle.setter.specs.Listing.Film.{mostFilmRecords};
+ghost use Rattle.leaves.specs.Sheet.Records.{records_of};
+ghost use Rattle.setter.specs.Listing.Film.{most_film_records};
 ghost use Rattle.setter.specs.Listing.Print.{Prints};
-ghost use Rattle.setter.specs.Listing.Program.{sheetLines, Page};
+ghost use Rattle.setter.specs.Listing.Program.{sheet_lines, Page};
 
 use crate::answer::{setting_number, setting_value};
 use crate::both::check_and_set;
@@ -27,9 +27,9 @@ fn no_marks() -> [u32; MOST_FILM_RECORDS] {
 
 // Checks and sets a sheet and its text, and prints the list with the stop and its record, or the refusal.
 fn list_sheet(sheet: &[u32], text: &[u8], output: &mut [u8; OUTPUT_BYTES]) -> usize
-    requires { recordsOf sheet.now ≤ mostFilmRecords }
+    requires { records_of sheet.now ≤ most_film_records }
     ensures { Prints output.old
-        (sheetLines sheet.now text.now)
+        (sheet_lines sheet.now text.now)
         output.new result }
 {
     let mut report = report_words();

@@ -1,7 +1,7 @@
 // The lines of a film's records.
 ghost use Rattle.std.specs.Prelude.{◌≡◌, ◌++◌, ◌*◌, ◌≤◌, length, drop};
-ghost use Rattle.leaves.specs.Sheet.Records.{recordWords};
-ghost use Rattle.setter.specs.Listing.Records.{mostFilmRecords, areRecords, sheetOf};
+ghost use Rattle.leaves.specs.Sheet.Records.{record_words};
+ghost use Rattle.setter.specs.Listing.Records.{most_film_records, are_records, sheet_of};
 
 use leaves::sheet::records::RECORD_WORDS;
 use leaves::text::columns::read_line;
@@ -22,9 +22,9 @@ pub(crate) fn behind(s: &[u8], at: usize) -> &[u8]
 
 // Reads the lines of `n` records from the front of the slice into the sheet; answers whether they are well-formed.
 pub(crate) fn read_records(s: &[u8], n: usize, sheet: &mut [u32]) -> bool
-    requires { (n ≤ mostFilmRecords) × (n * recordWords ≤ length sheet.old) }
-    ensures { (result ≡ areRecords n s.now)
-        × (sheet.new ≡ sheetOf n s.now ++ drop (n * recordWords) sheet.old) }
+    requires { (n ≤ most_film_records) × (n * record_words ≤ length sheet.old) }
+    ensures { (result ≡ are_records n s.now)
+        × (sheet.new ≡ sheet_of n s.now ++ drop (n * record_words) sheet.old) }
 {
     let mut good = true;
     let mut at: usize = 0;

@@ -1,24 +1,24 @@
 -- `blocks::block::validate_container` meets its contract.
-use Rattle.blocks.specs.Block.{validateContainer}
+use Rattle.blocks.specs.Block.{validate_container}
 use Rattle.blocks.proofs.BlockLaws.{container-others}
 use borrow.Author.Rules.{rules}
 use Rattle.blocks.proofs.block.validate_container.Statement.{statement}
 use Rattle.blocks.proofs.block.validate_container.Tie as tie
 
 returns : tie.Need-returns
-unfolding validateContainer
+unfolding validate_container
 returns c = rw c.before.before.before.before.match.keys1 c.before.before.validate-alert.ensures
 
 returns-2 : tie.Need-returns-2
-unfolding validateContainer
+unfolding validate_container
 returns-2 c = rw c.before.before.before.before.match.keys2 c.before.before.validate-list.ensures
 
 returns-3 : tie.Need-returns-3
-unfolding validateContainer
+unfolding validate_container
 returns-3 c = rw c.before.before.before.before.match.keys3 c.before.before.validate-html.ensures
 
 returns-4 : tie.Need-returns-4
-unfolding validateContainer
+unfolding validate_container
 returns-4 c = rw c.before.before.before.before.match.keys4 c.before.before.validate-directive.ensures
 
 returns-5 : tie.Need-returns-5

@@ -1,6 +1,6 @@
 -- `blocks::block::validate_own` meets its contract.
 use Rattle.inlines.proofs.PathLaws.{begin-front, begin-long}
-use Rattle.blocks.specs.Block.{validateOwn}
+use Rattle.blocks.specs.Block.{validate_own}
 use Rattle.blocks.proofs.BlockLaws.{own-others}
 use borrow.Author.Rules.{rules}
 use Rattle.blocks.proofs.block.validate_own.Statement.{statement}
@@ -22,11 +22,11 @@ validate-container-requires : tie.Need-validate-container-requires
 validate-container-requires c κs = let p = c.before.before.before.before.before.before.before.before.before.requires in (p.0.start, p.1)
 
 returns : tie.Need-returns
-unfolding validateOwn
+unfolding validate_own
 returns c = (rw c.before.before.before.before.before.before.before.match.keys1 c.before.before.before.before.validate-footnote-definition.ensures.0, c.before.before.before.before.validate-footnote-definition.ensures.1)
 
 returns-2 : tie.Need-returns-2
-unfolding validateOwn
+unfolding validate_own
 returns-2 c = (rw c.before.before.before.before.before.before.before.match.keys2 c.before.before.before.before.validate-table.ensures.0, c.before.before.before.before.validate-table.ensures.1)
 
 returns-3 : tie.Need-returns-3

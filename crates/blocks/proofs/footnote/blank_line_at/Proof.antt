@@ -2,7 +2,7 @@
 use Prim.Native.Nat.{◌-◌}
 use lib.ListN.{take}
 use Rattle.leaves.specs.Sheet.Forest.{under}
-use Rattle.blocks.specs.Footnote.{blankLineAt}
+use Rattle.blocks.specs.Footnote.{blank_line_at}
 use Rattle.blocks.proofs.FootnoteLaws.{blank_none, blank-listed, blank-passed}
 use Rattle.leaves.proofs.sheet.SkipLaws.{level-of, skip-down, skip-fits}
 use Rattle.inlines.proofs.WalkLaws.{loop-out, loop-end}
@@ -12,7 +12,7 @@ use Rattle.blocks.proofs.footnote.blank_line_at.Statement.{statement}
 use Rattle.blocks.proofs.footnote.blank_line_at.Tie as tie
 
 abbrev invariant-loop : tie.invariant-loop
-invariant-loop sheet report₀ path₀ len n from level tally k₀ i₀ report path k i = Paced (blankLineAt (take len path₀) 0 (under sheet n «from» level)) (blankLineAt (take len path₀) k) sheet path₀ n «from» len level tally report₀ i k tally report path
+invariant-loop sheet report₀ path₀ len n from level tally k₀ i₀ report path k i = Paced (blank_line_at (take len path₀) 0 (under sheet n «from» level)) (blank_line_at (take len path₀) k) sheet path₀ n «from» len level tally report₀ i k tally report path
 
 abbrev decreases-loop : tie.decreases-loop
 decreases-loop sheet report₀ path₀ len n from level tally k₀ i₀ report path k i = n - i

@@ -1,11 +1,11 @@
 -- `blocks::holds::holds_blocks` meets its contract.
 use mathlib.Core.Path.{refl}
-use Rattle.blocks.specs.Holds.{holdsBlocks}
+use Rattle.blocks.specs.Holds.{holds_blocks}
 use Rattle.blocks.proofs.holds.holds_blocks.Statement.{statement}
 use Rattle.blocks.proofs.holds.holds_blocks.Tie as tie
 
 returns : tie.Need-returns
-unfolding holdsBlocks
+unfolding holds_blocks
 returns c = refl
 
 pub holds-blocks-spec : {M : Type 1} → statement M

@@ -1,7 +1,7 @@
 -- `blocks::item::opens_with_paragraph` meets its contract.
 use Prim.Native.Nat.{◌-◌}
 use Rattle.blocks.proofs.ItemLaws.{opening-turn, opening-out, opening-end, opening-found}
-use Rattle.blocks.specs.Item.{opensWithParagraph}
+use Rattle.blocks.specs.Item.{opens_with_paragraph}
 use Rattle.leaves.proofs.sheet.DecideLaws.{Deciding, deciding-start}
 use Rattle.leaves.proofs.sheet.SkipLaws.{skip-down}
 use borrow.Author.Rules.{rules}
@@ -9,7 +9,7 @@ use Rattle.blocks.proofs.item.opens_with_paragraph.Statement.{statement}
 use Rattle.blocks.proofs.item.opens_with_paragraph.Tie as tie
 
 abbrev invariant-loop : tie.invariant-loop
-invariant-loop sheet n from level i₀ i = Deciding opensWithParagraph sheet n «from» level i
+invariant-loop sheet n from level i₀ i = Deciding opens_with_paragraph sheet n «from» level i
 
 abbrev decreases-loop : tie.decreases-loop
 decreases-loop sheet n from level i₀ i = n - i

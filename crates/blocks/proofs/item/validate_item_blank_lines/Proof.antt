@@ -2,7 +2,7 @@
 use Prim.Native.Nat.{◌-◌}
 use lib.ListN.{take}
 use Rattle.leaves.specs.Sheet.Forest.{under}
-use Rattle.blocks.specs.Item.{validateItemBlankLines}
+use Rattle.blocks.specs.Item.{validate_item_blank_lines}
 use Rattle.blocks.proofs.ItemLaws.{is_last, lines_none, lines-turn}
 use Rattle.leaves.proofs.sheet.SkipLaws.{level-of, skip-down, skip-fits}
 use Rattle.inlines.proofs.WalkLaws.{loop-out, loop-end}
@@ -12,7 +12,7 @@ use Rattle.blocks.proofs.item.validate_item_blank_lines.Statement.{statement}
 use Rattle.blocks.proofs.item.validate_item_blank_lines.Tie as tie
 
 abbrev invariant-loop : tie.invariant-loop
-invariant-loop sheet report₀ path₀ len n from level outer tight out₀ k₀ i₀ report path out k i = Paced (validateItemBlankLines (take len path₀) tight (is_last sheet n «from» level outer) 0 (under sheet n «from» level)) (validateItemBlankLines (take len path₀) tight (is_last sheet n «from» level outer) k) sheet path₀ n «from» len level out₀ report₀ i k out report path
+invariant-loop sheet report₀ path₀ len n from level outer tight out₀ k₀ i₀ report path out k i = Paced (validate_item_blank_lines (take len path₀) tight (is_last sheet n «from» level outer) 0 (under sheet n «from» level)) (validate_item_blank_lines (take len path₀) tight (is_last sheet n «from» level outer) k) sheet path₀ n «from» len level out₀ report₀ i k out report path
 
 abbrev decreases-loop : tie.decreases-loop
 decreases-loop sheet report₀ path₀ len n from level outer tight out₀ k₀ i₀ report path out k i = n - i

@@ -1,7 +1,7 @@
 -- `blocks::paragraph::all_empty` meets its contract.
 use Prim.Native.Nat.{◌-◌}
 use Rattle.blocks.proofs.ParagraphLaws.{emptying-end, emptying-out, emptying-stop, emptying-turn}
-use Rattle.inlines.specs.Nodes.{allEmpty}
+use Rattle.inlines.specs.Nodes.{all_empty}
 use Rattle.leaves.proofs.sheet.DecideLaws.{Deciding, deciding-start}
 use Rattle.leaves.proofs.sheet.SkipLaws.{skip-down}
 use borrow.Author.Rules.{rules}
@@ -9,7 +9,7 @@ use Rattle.blocks.proofs.paragraph.all_empty.Statement.{statement}
 use Rattle.blocks.proofs.paragraph.all_empty.Tie as tie
 
 abbrev invariant-loop : tie.invariant-loop
-invariant-loop sheet n from level i₀ i = Deciding allEmpty sheet n «from» level i
+invariant-loop sheet n from level i₀ i = Deciding all_empty sheet n «from» level i
 
 abbrev decreases-loop : tie.decreases-loop
 decreases-loop sheet n from level i₀ i = n - i

@@ -4,14 +4,14 @@ use lib.ListN.{take}
 use Rattle.leaves.specs.Sheet.Forest.{under}
 use Rattle.inlines.proofs.WalkLaws.{done-down, levels-fall}
 use Rattle.inlines.proofs.PathLaws.{Paced, paced-start, paced-room, paced-front, paced-long, paced-under, paced-out, paced-end}
-use Rattle.blocks.specs.Table.{validateCells}
+use Rattle.blocks.specs.Table.{validate_cells}
 use Rattle.blocks.proofs.TableLaws.{cells-none, cells-turn}
 use borrow.Author.Rules.{rules}
 use Rattle.blocks.proofs.table.validate_cells.Statement.{statement}
 use Rattle.blocks.proofs.table.validate_cells.Tie as tie
 
 abbrev invariant-loop : tie.invariant-loop
-invariant-loop sheet bytes report₀ path₀ len n from level left out₀ k₀ i₀ report path out k i = Paced (validateCells bytes (take len path₀) 0 (under sheet n «from» level)) (validateCells bytes (take len path₀) k) sheet path₀ n «from» len level out₀ report₀ i k out report path
+invariant-loop sheet bytes report₀ path₀ len n from level left out₀ k₀ i₀ report path out k i = Paced (validate_cells bytes (take len path₀) 0 (under sheet n «from» level)) (validate_cells bytes (take len path₀) k) sheet path₀ n «from» len level out₀ report₀ i k out report path
 
 abbrev decreases-loop : tie.decreases-loop
 decreases-loop sheet bytes report₀ path₀ len n from level left out₀ k₀ i₀ report path out k i = n - i

@@ -5,14 +5,14 @@ use Rattle.leaves.specs.Sheet.Forest.{under}
 use Rattle.inlines.proofs.WalkLaws.{done-down, levels-fall}
 use Rattle.leaves.proofs.sheet.SkipLaws.{level-of}
 use Rattle.inlines.proofs.PathLaws.{Paced, paced-start, paced-room, paced-front, paced-long, paced-under, paced-call, paced-out, paced-end}
-use Rattle.blocks.specs.Table.{validateRows}
+use Rattle.blocks.specs.Table.{validate_rows}
 use Rattle.blocks.proofs.TableLaws.{rows_none, rows-turn}
 use borrow.Author.Rules.{rules}
 use Rattle.blocks.proofs.table.validate_rows.Statement.{statement}
 use Rattle.blocks.proofs.table.validate_rows.Tie as tie
 
 abbrev invariant-loop : tie.invariant-loop
-invariant-loop sheet bytes report₀ path₀ len n from level left width out₀ k₀ i₀ report path out k i = Paced (validateRows bytes (take len path₀) width 0 (under sheet n «from» level)) (validateRows bytes (take len path₀) width k) sheet path₀ n «from» len level out₀ report₀ i k out report path
+invariant-loop sheet bytes report₀ path₀ len n from level left width out₀ k₀ i₀ report path out k i = Paced (validate_rows bytes (take len path₀) width 0 (under sheet n «from» level)) (validate_rows bytes (take len path₀) width k) sheet path₀ n «from» len level out₀ report₀ i k out report path
 
 abbrev decreases-loop : tie.decreases-loop
 decreases-loop sheet bytes report₀ path₀ len n from level left width out₀ k₀ i₀ report path out k i = n - i

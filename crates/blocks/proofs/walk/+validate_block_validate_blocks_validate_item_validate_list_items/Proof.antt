@@ -10,7 +10,7 @@ use Rattle.leaves.specs.Sheet.Forest.{under}
 use Rattle.inlines.proofs.WalkLaws.{done-down, levels-fall}
 use Rattle.leaves.proofs.sheet.SkipLaws.{level-of}
 use Rattle.inlines.proofs.PathLaws.{Paced, begin-front, begin-long, begin-short, paced-start, paced-room, paced-place, paced-few, paced-out, paced-end}
-use Rattle.blocks.specs.Walk.{validateBlocks, validateListItems}
+use Rattle.blocks.specs.Walk.{validate_blocks, validate_list_items}
 use Rattle.blocks.proofs.BlockWalkLaws.{begin-kept, block-blocks, block-items, block-leaf, block-other, blocks-none, blocks-turn, item-done, items-none, items-turn, own-begin, tree-at}
 use borrow.Fn.Kinds.{In}
 use borrow.Fn.PlainCycle.{Measures, is, falls, and}
@@ -95,7 +95,7 @@ validate-block-met M t =
     (λ c. (block-leaf _ _ _ _ _ _ _ c.before.before.before.before.before.before.before.before.before.before.before.before.before.before.before.before.before.before.before.record-at.ensures c.before.before.before.before.before.before.before.before.before.before.before.before.before.before.before.before.before.before.is_Block.ensures c.before.before.before.before.before.before.before.before.before.before.before.before.before.before.before.before.before.if1.false c.before.before.before.before.before.before.before.before.before.before.before.before.before.before.before.before.before.before.before.before.before.before.before.before.requires.1.0.is c.before.before.before.before.before.before.before.before.before.before.before.before.before.before.validate-taken-block.ensures c.before.before.before.before.before.before.before.before.before.validate-own.ensures.0 c.before.before.before.before.before.before.before.before.before.validate-own.ensures.1 c.before.before.before.if2.false c.before.before.holds-blocks.ensures c.before.if3.false c.skip2.ensures, c.before.before.before.before.before.before.before.before.before.validate-own.ensures.1))
 
 abbrev validate-blocks-inv : validate-blocks-lts.invariant-loop
-validate-blocks-inv sheet bytes report₀ path₀ len n from level left before₀ k₀ out₀ i₀ report path before k out i = Paced (validateBlocks bytes (take len path₀) 0 before₀ (under sheet n «from» level)) (validateBlocks bytes (take len path₀) k before) sheet path₀ n «from» len level out₀ report₀ i k out report path
+validate-blocks-inv sheet bytes report₀ path₀ len n from level left before₀ k₀ out₀ i₀ report path before k out i = Paced (validate_blocks bytes (take len path₀) 0 before₀ (under sheet n «from» level)) (validate_blocks bytes (take len path₀) k before) sheet path₀ n «from» len level out₀ report₀ i k out report path
 
 abbrev validate-blocks-left : validate-blocks-lts.decreases-loop
 validate-blocks-left sheet bytes report₀ path₀ len n from level left before₀ k₀ out₀ i₀ report path before k out i = n - i
@@ -148,7 +148,7 @@ validate-item-met M t =
     (λ c. (item-done _ _ _ _ _ _ _ _ _ c.before.before.before.before.before.before.before.before.before.before.before.before.before.before.before.before.before.before.before.before.before.before.before.before.before.record-at.ensures c.before.before.before.before.before.before.before.before.before.before.before.before.before.before.before.before.before.before.before.before.before.before.before.before.item-number.ensures c.before.before.before.before.before.before.before.before.before.before.before.before.before.before.before.before.before.before.before.before.before.validate-item-number.ensures c.before.before.before.before.before.before.before.before.before.before.before.before.before.before.before.before.validate-item-blank-lines.ensures.0 c.before.before.before.before.before.before.before.before.before.before.before.before.before.before.before.before.validate-item-blank-lines.ensures.1 c.before.before.before.before.before.before.before.before.before.validate-task-item.ensures c.before.before.before.before.validate-blocks.ensures.0, c.before.before.before.before.validate-blocks.ensures.1 ∙ c.before.before.before.before.before.before.before.before.before.before.before.before.before.before.before.before.validate-item-blank-lines.ensures.1))
 
 abbrev validate-list-items-inv : validate-list-items-lts.invariant-loop
-validate-list-items-inv sheet bytes report₀ path₀ len n from level left ordered tight k₀ out₀ i₀ report path k out i = Paced (validateListItems bytes (take len path₀) 0 ordered tight (under sheet n «from» level)) (validateListItems bytes (take len path₀) k ordered tight) sheet path₀ n «from» len level out₀ report₀ i k out report path
+validate-list-items-inv sheet bytes report₀ path₀ len n from level left ordered tight k₀ out₀ i₀ report path k out i = Paced (validate_list_items bytes (take len path₀) 0 ordered tight (under sheet n «from» level)) (validate_list_items bytes (take len path₀) k ordered tight) sheet path₀ n «from» len level out₀ report₀ i k out report path
 
 abbrev validate-list-items-left : validate-list-items-lts.decreases-loop
 validate-list-items-left sheet bytes report₀ path₀ len n from level left ordered tight k₀ out₀ i₀ report path k out i = n - i

@@ -3,14 +3,14 @@ use Prim.Native.Nat.{◌-◌}
 use Rattle.inlines.proofs.AttributeLaws.{attributes-none, attributes-turn}
 use Rattle.inlines.proofs.WalkLaws.{Loop, loop-end, loop-out, loop-start}
 use Rattle.leaves.proofs.sheet.SkipLaws.{skip-down}
-use Rattle.inlines.specs.Attribute.{validateDirectiveAttributes}
+use Rattle.inlines.specs.Attribute.{validate_directive_attributes}
 use Rattle.leaves.specs.Sheet.Forest.{under}
 use borrow.Author.Rules.{rules}
 use Rattle.inlines.proofs.attribute.validate_directive_attributes.Statement.{statement}
 use Rattle.inlines.proofs.attribute.validate_directive_attributes.Tie as tie
 
 abbrev invariant-loop : tie.invariant-loop
-invariant-loop sheet bytes report₀ path n from level no_span out₀ i₀ report out i = Loop (validateDirectiveAttributes bytes path (under sheet n «from» level)) (validateDirectiveAttributes bytes path) sheet path n «from» level out₀ report₀ i out report
+invariant-loop sheet bytes report₀ path n from level no_span out₀ i₀ report out i = Loop (validate_directive_attributes bytes path (under sheet n «from» level)) (validate_directive_attributes bytes path) sheet path n «from» level out₀ report₀ i out report
 
 abbrev decreases-loop : tie.decreases-loop
 decreases-loop sheet bytes report₀ path n from level no_span out₀ i₀ report out i = n - i

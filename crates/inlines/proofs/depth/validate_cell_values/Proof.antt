@@ -1,9 +1,9 @@
 -- `inlines::depth::validate_cell_values` meets its contract.
 use Prim.Native.Nat.{◌-◌}
-use Rattle.inlines.proofs.DepthLaws.{each_none, each_turn, faultIn}
+use Rattle.inlines.proofs.DepthLaws.{each_none, each_turn, fault_in}
 use Rattle.inlines.proofs.WalkLaws.{Loop, loop-end, loop-out, loop-start}
-use Rattle.inlines.specs.Depth.{eachRecord, validateCellValues}
-use Rattle.inlines.specs.Values.{isUnwritable}
+use Rattle.inlines.specs.Depth.{each_record, validate_cell_values}
+use Rattle.inlines.specs.Values.{is_unwritable}
 use Rattle.leaves.specs.Report.Rules
 use Rattle.leaves.specs.Sheet.Forest.{under}
 use borrow.Author.Rules.{rules}
@@ -11,20 +11,20 @@ use Rattle.inlines.proofs.depth.validate_cell_values.Statement.{statement}
 use Rattle.inlines.proofs.depth.validate_cell_values.Tie as tie
 
 abbrev invariant-loop : tie.invariant-loop
-invariant-loop sheet bytes report₀ path n from level out₀ i₀ report out i = Loop (validateCellValues bytes path (under sheet n «from» level)) (eachRecord (faultIn (isUnwritable bytes) Rules.pipeInCell path)) sheet path n «from» level out₀ report₀ i out report
+invariant-loop sheet bytes report₀ path n from level out₀ i₀ report out i = Loop (validate_cell_values bytes path (under sheet n «from» level)) (each_record (fault_in (is_unwritable bytes) Rules.pipe_in_cell path)) sheet path n «from» level out₀ report₀ i out report
 
 abbrev decreases-loop : tie.decreases-loop
 decreases-loop sheet bytes report₀ path n from level out₀ i₀ report out i = n - i
 
 loop-holds : tie.Need-loop-init invariant-loop decreases-loop
-unfolding validateCellValues
+unfolding validate_cell_values
 loop-holds c = loop-start _ _ _ (search rules)
 
 returns : tie.Need-returns invariant-loop decreases-loop
 returns c = loop-out c.before.before.before.before.loop.invariant (each_none _) (search rules) c.before.before.record-at.ensures c.if1.true
 
 loop-again : tie.Need-loop-preserved invariant-loop decreases-loop
-loop-again c = each_turn (isUnwritable _) _ c.before.before.before.before.before.before.before.before.before.loop.invariant (search rules) c.before.before.before.before.before.before.before.record-at.ensures c.before.before.before.before.before.if1.false c.before.before.before.before.is-unwritable.ensures c.before.before.list-if.ensures (search rules)
+loop-again c = each_turn (is_unwritable _) _ c.before.before.before.before.before.before.before.before.before.loop.invariant (search rules) c.before.before.before.before.before.before.before.record-at.ensures c.before.before.before.before.before.if1.false c.before.before.before.before.is-unwritable.ensures c.before.before.list-if.ensures (search rules)
 
 returns-2 : tie.Need-returns-2 invariant-loop decreases-loop
 returns-2 c = loop-end c.before.loop.invariant (each_none _) (search rules)

@@ -2,14 +2,14 @@
 use Prim.Native.Nat.{◌-◌}
 use Rattle.inlines.proofs.LinkLaws.{links-down, links-none, links-turn}
 use Rattle.inlines.proofs.WalkLaws.{Loop, loop-end, loop-out, loop-start}
-use Rattle.inlines.specs.Link.{validateLinkText}
+use Rattle.inlines.specs.Link.{validate_link_text}
 use Rattle.leaves.specs.Sheet.Forest.{under}
 use borrow.Author.Rules.{rules}
 use Rattle.inlines.proofs.link.validate_link_text.Statement.{statement}
 use Rattle.inlines.proofs.link.validate_link_text.Tie as tie
 
 abbrev invariant-loop : tie.invariant-loop
-invariant-loop sheet report₀ path n from level out₀ i₀ report out i = Loop (validateLinkText path (under sheet n «from» level)) (validateLinkText path) sheet path n «from» level out₀ report₀ i out report
+invariant-loop sheet report₀ path n from level out₀ i₀ report out i = Loop (validate_link_text path (under sheet n «from» level)) (validate_link_text path) sheet path n «from» level out₀ report₀ i out report
 
 abbrev decreases-loop : tie.decreases-loop
 decreases-loop sheet report₀ path n from level out₀ i₀ report out i = n - i

@@ -1,28 +1,28 @@
 -- `inlines::node::validate_inline` meets its contract.
-use Rattle.inlines.specs.Node.{validateInline}
+use Rattle.inlines.specs.Node.{validate_inline}
 use Rattle.inlines.proofs.NodeLaws.{of_others}
 use borrow.Author.Rules.{rules}
 use Rattle.inlines.proofs.node.validate_inline.Statement.{statement}
 use Rattle.inlines.proofs.node.validate_inline.Tie as tie
 
 returns : tie.Need-returns
-unfolding validateInline
+unfolding validate_inline
 returns c = let e = c.before.before.before.before.before.is-emphasis-container.ensures in let t = c.before.before.before.before.if1.true in rw (← e, t) c.before.before.validate-emphasis-container.ensures
 
 returns-2 : tie.Need-returns-2
-unfolding validateInline
+unfolding validate_inline
 returns-2 c = rw c.before.before.before.before.match.keys1 c.before.before.validate-link.ensures
 
 returns-3 : tie.Need-returns-3
-unfolding validateInline
+unfolding validate_inline
 returns-3 c = rw c.before.before.before.before.match.keys2 c.before.before.validate-link-reference.ensures
 
 returns-4 : tie.Need-returns-4
-unfolding validateInline
+unfolding validate_inline
 returns-4 c = rw c.before.before.before.before.match.keys3 c.before.before.validate-text-directive.ensures
 
 returns-5 : tie.Need-returns-5
-unfolding validateInline
+unfolding validate_inline
 returns-5 c = rw c.before.before.before.before.match.keys4 c.before.before.validate-inline-footnote.ensures
 
 returns-6 : tie.Need-returns-6

@@ -5,7 +5,7 @@ use native.Mathlib.Omega.{arith}
 use borrow.Author.Rules.{rules}
 use borrow.Fn.Kind.{ParamKind}
 use Rattle.leaves.specs.Sheet.Forest.{under}
-use Rattle.inlines.specs.Nodes.{validateInlineNodesAfter}
+use Rattle.inlines.specs.Nodes.{validate_inline_nodes_after}
 use Rattle.inlines.proofs.NodesLaws.{node_done, node-here, node-other, nodes-none, nodes-turn}
 use Rattle.inlines.proofs.WalkLaws.{Loop, done-down, levels-fall, loop-end, loop-out, loop-start}
 use Rattle.leaves.proofs.sheet.SkipLaws.{level-of}
@@ -45,7 +45,7 @@ below μ pre t = and 4 ps (falls 4 ps ◌<◌ μ t) pre
 
 -- the loop: what holds at its head, and what falls
 abbrev invariant-loop : validate-inline-nodes-lts.invariant-loop
-invariant-loop sheet bytes report₀ path n from level left before last₀ out₀ i₀ report last out i = Loop (validateInlineNodesAfter bytes path last₀ (under sheet n «from» level)) (validateInlineNodesAfter bytes path last) sheet path n «from» level out₀ report₀ i out report
+invariant-loop sheet bytes report₀ path n from level left before last₀ out₀ i₀ report last out i = Loop (validate_inline_nodes_after bytes path last₀ (under sheet n «from» level)) (validate_inline_nodes_after bytes path last) sheet path n «from» level out₀ report₀ i out report
 
 abbrev decreases-loop : validate-inline-nodes-lts.decreases-loop
 decreases-loop sheet bytes report₀ path n from level left before last₀ out₀ i₀ report last out i = n - i

@@ -1,11 +1,11 @@
 -- `replay::bytes::long_number` meets its contract.
-use Rattle.replay.specs.Bytes.{longAt}
+use Rattle.replay.specs.Bytes.{long_at}
 use borrow.Author.Rules.{rules}
 use Rattle.replay.proofs.bytes.long_number.Statement.{statement}
 use Rattle.replay.proofs.bytes.long_number.Tie as tie
 
 returns : tie.Need-returns
-unfolding longAt
+unfolding long_at
 returns c = search rules
 
 pub long-number-spec : {M : Type 1} → statement M

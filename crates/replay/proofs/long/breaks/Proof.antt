@@ -1,7 +1,7 @@
 -- `replay::long::breaks` meets its contract.
 use Prim.Native.Nat.{◌-◌, ◌%◌}
 use lib.ListN.{length, length-set}
-use Rattle.replay.specs.Long.{breakWord, breaksOf}
+use Rattle.replay.specs.Long.{break_word, breaks_of}
 use Rattle.replay.proofs.WordLaws.{Filling}
 use Rattle.replay.proofs.WordLaws.{words}
 use native.Mathlib.Omega.{arith}
@@ -9,7 +9,7 @@ use Rattle.replay.proofs.long.breaks.Statement.{statement}
 use Rattle.replay.proofs.long.breaks.Tie as tie
 
 abbrev invariant-loop : tie.invariant-loop
-invariant-loop words₀ k₀ words k = Filling (λ j. breakWord (j % 12)) words₀ words k
+invariant-loop words₀ k₀ words k = Filling (λ j. break_word (j % 12)) words₀ words k
 
 abbrev decreases-loop : tie.decreases-loop
 decreases-loop words₀ k₀ words k = length words - k
@@ -18,7 +18,7 @@ loop-less : tie.Need-loop-smaller invariant-loop decreases-loop
 loop-less c = simp length-set (omega arith)
 
 returns : tie.Need-returns invariant-loop decreases-loop
-unfolding breaksOf
+unfolding breaks_of
 returns c = search words
 
 pub breaks-spec : {M : Type 1} → statement M

@@ -1,14 +1,14 @@
 -- `replay::words::same` meets its contract.
 use Prim.Native.Nat.{◌*◌, ◌-◌}
 use lib.ListN.{length}
-use Rattle.replay.specs.Words.{wordOr, same_words}
+use Rattle.replay.specs.Words.{word_or, same_words}
 use Rattle.replay.proofs.WordLaws.{Agreeing}
 use Rattle.replay.proofs.WordLaws.{words}
 use Rattle.replay.proofs.words.same.Statement.{statement}
 use Rattle.replay.proofs.words.same.Tie as tie
 
 abbrev invariant-loop : tie.invariant-loop
-invariant-loop words s rest k₀ k = Agreeing (λ j. wordOr s rest (j * 4)) words k
+invariant-loop words s rest k₀ k = Agreeing (λ j. word_or s rest (j * 4)) words k
 
 abbrev decreases-loop : tie.decreases-loop
 decreases-loop words s rest k₀ k = length words - k

@@ -1,10 +1,10 @@
 -- `leaves::refusal::fields::bad_span` meets its contract.
-use Rattle.leaves.specs.Refusal.Fields.{badSpan}
+use Rattle.leaves.specs.Refusal.Fields.{bad_span}
 use Rattle.leaves.proofs.refusal.fields.bad_span.Statement.{statement}
 use Rattle.leaves.proofs.refusal.fields.bad_span.Tie as tie
 
 returns : tie.Need-returns
-unfolding badSpan
+unfolding bad_span
 returns c = cc
 
 pub bad-span-spec : {M : Type 1} → statement M

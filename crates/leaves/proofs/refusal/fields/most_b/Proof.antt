@@ -1,11 +1,11 @@
 -- `leaves::refusal::fields::most_b` meets its contract.
-use Rattle.leaves.specs.Refusal.Fields.{mostB}
+use Rattle.leaves.specs.Refusal.Fields.{most_b}
 use borrow.Author.Rules.{rules}
 use Rattle.leaves.proofs.refusal.fields.most_b.Statement.{statement}
 use Rattle.leaves.proofs.refusal.fields.most_b.Tie as tie
 
 returns : tie.Need-returns
-unfolding mostB
+unfolding most_b
 returns c = rw (c.pick3.ensures, c.before.pick2.ensures, c.before.before.pick.ensures)
 
 pub most-b-spec : {M : Type 1} → statement M

@@ -1,11 +1,11 @@
 -- `leaves::sheet::records::level_at` meets its contract.
-use Rattle.leaves.specs.Sheet.Records.{recordAt}
+use Rattle.leaves.specs.Sheet.Records.{record_at}
 use borrow.Author.Rules.{rules}
 use Rattle.leaves.proofs.sheet.records.level_at.Statement.{statement}
 use Rattle.leaves.proofs.sheet.records.level_at.Tie as tie
 
 returns : tie.Need-returns
-unfolding recordAt
+unfolding record_at
 returns c = c.word.ensures
 
 pub level-at-spec : {M : Type 1} → statement M

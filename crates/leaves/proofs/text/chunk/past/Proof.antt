@@ -4,12 +4,12 @@ use Prim.Native.Nat.{◌-◌}
 use lib.ListN.{length}
 use borrow.Author.Rules.{rules}
 use Rattle.leaves.proofs.text.ChunkLaws.{past-none, past-chunk, nearer, reach}
-use Rattle.leaves.specs.Text.Chunk.{Past, isNeither}
+use Rattle.leaves.specs.Text.Chunk.{Past, is_neither}
 use Rattle.leaves.proofs.text.chunk.past.Statement.{statement}
 use Rattle.leaves.proofs.text.chunk.past.Tie as tie
 
 abbrev invariant-loop : tie.invariant-loop
-invariant-loop s from a b i₀ i = Past (isNeither a b) s from i
+invariant-loop s from a b i₀ i = Past (is_neither a b) s from i
 
 abbrev decreases-loop : tie.decreases-loop
 decreases-loop s from a b i₀ i = length s - i

@@ -4,12 +4,12 @@ use Prim.Native.Nat.{◌-◌}
 use lib.ListN.{length}
 use borrow.Author.Rules.{rules}
 use Rattle.leaves.proofs.text.ChunkLaws.{past-none, past-chunk, nearer, reach}
-use Rattle.leaves.specs.Text.Chunk.{Past, isAscii}
+use Rattle.leaves.specs.Text.Chunk.{Past, is_ascii}
 use Rattle.leaves.proofs.text.chunk.past_ascii.Statement.{statement}
 use Rattle.leaves.proofs.text.chunk.past_ascii.Tie as tie
 
 abbrev invariant-loop : tie.invariant-loop
-invariant-loop s from i₀ i = Past isAscii s from i
+invariant-loop s from i₀ i = Past is_ascii s from i
 
 abbrev decreases-loop : tie.decreases-loop
 decreases-loop s from i₀ i = length s - i

@@ -2,14 +2,14 @@
 use Prim.Native.Nat.{◌-◌}
 use Rattle.leaves.proofs.text.LineLaws.{line-laws}
 use Rattle.leaves.proofs.text.ScanLaws.{At}
-use Rattle.leaves.specs.Text.EdgeScans.{lastBlank}
+use Rattle.leaves.specs.Text.EdgeScans.{last_blank}
 use lib.ListN.{drop, length}
 use mathlib.Core.Bool.{true}
 use Rattle.leaves.proofs.text.edges.last_line_is_blank.Statement.{statement}
 use Rattle.leaves.proofs.text.edges.last_line_is_blank.Tie as tie
 
 abbrev invariant-loop : tie.invariant-loop
-invariant-loop s from last₀ blank₀ i₀ last blank i = At (lastBlank true true (drop «from» s)) (lastBlank last blank) s i
+invariant-loop s from last₀ blank₀ i₀ last blank i = At (last_blank true true (drop «from» s)) (last_blank last blank) s i
 
 abbrev decreases-loop : tie.decreases-loop
 decreases-loop s from last₀ blank₀ i₀ last blank i = length s - i

@@ -3,13 +3,13 @@ use mathlib.Core.Path.{refl}
 use Rattle.leaves.proofs.text.MathLaws.{ticks, ticks-end, ticks-leap, ticks-one, ticks-stop}
 use Prim.Native.Nat.{◌-◌}
 use Rattle.leaves.proofs.text.ScanLaws.{At}
-use Rattle.leaves.specs.Text.Math.{holdsBacktickDollar}
+use Rattle.leaves.specs.Text.Math.{holds_backtick_dollar}
 use lib.ListN.{length}
 use Rattle.leaves.proofs.text.math.holds_backtick_dollar.Statement.{statement}
 use Rattle.leaves.proofs.text.math.holds_backtick_dollar.Tie as tie
 
 abbrev invariant-loop : tie.invariant-loop
-invariant-loop s i₀ i = At (holdsBacktickDollar s) holdsBacktickDollar s i
+invariant-loop s i₀ i = At (holds_backtick_dollar s) holds_backtick_dollar s i
 
 abbrev decreases-loop : tie.decreases-loop
 decreases-loop s i₀ i = length s - i

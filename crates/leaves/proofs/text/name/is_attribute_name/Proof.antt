@@ -3,13 +3,13 @@ use Rattle.leaves.proofs.text.NameLaws.{naming}
 use Prim.Native.Nat.{◌-◌}
 use Rattle.leaves.proofs.text.ScanLaws.{At}
 use Rattle.leaves.specs.Text.Lists.{all}
-use Rattle.leaves.specs.Text.Name.{continuesAttribute, isAttributeName}
+use Rattle.leaves.specs.Text.Name.{continues_attribute, is_attribute_name}
 use lib.ListN.{length}
 use Rattle.leaves.proofs.text.name.is_attribute_name.Statement.{statement}
 use Rattle.leaves.proofs.text.name.is_attribute_name.Tie as tie
 
 abbrev invariant-loop : tie.invariant-loop
-invariant-loop s i₀ i = At (isAttributeName s) (all continuesAttribute) s i
+invariant-loop s i₀ i = At (is_attribute_name s) (all continues_attribute) s i
 
 abbrev decreases-loop : tie.decreases-loop
 decreases-loop s i₀ i = length s - i

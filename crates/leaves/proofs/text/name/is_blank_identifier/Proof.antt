@@ -3,19 +3,19 @@ use Rattle.leaves.proofs.text.NameLaws.{naming}
 use Prim.Native.Nat.{◌-◌}
 use Rattle.leaves.proofs.text.ScanLaws.{At}
 use Rattle.leaves.specs.Text.Lists.{all}
-use Rattle.leaves.specs.Text.Name.{isBlankIdentifier, isTrimmedByte}
+use Rattle.leaves.specs.Text.Name.{is_blank_identifier, is_trimmed_byte}
 use lib.ListN.{length}
 use Rattle.leaves.proofs.text.name.is_blank_identifier.Statement.{statement}
 use Rattle.leaves.proofs.text.name.is_blank_identifier.Tie as tie
 
 abbrev invariant-loop : tie.invariant-loop
-invariant-loop s i₀ i = At (isBlankIdentifier s) (all isTrimmedByte) s i
+invariant-loop s i₀ i = At (is_blank_identifier s) (all is_trimmed_byte) s i
 
 abbrev decreases-loop : tie.decreases-loop
 decreases-loop s i₀ i = length s - i
 
 pub is-blank-identifier-spec : {M : Type 1} → statement M
-unfolding isBlankIdentifier all
+unfolding is_blank_identifier all
 is-blank-identifier-spec =
     tie.close
     (tie.spec

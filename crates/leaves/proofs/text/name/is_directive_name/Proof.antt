@@ -2,15 +2,15 @@
 use Prim.Native.Nat.{◌-◌}
 use Rattle.leaves.proofs.text.NameLaws.{directive, naming}
 use Rattle.leaves.proofs.text.ScanLaws.{At}
-use Rattle.leaves.specs.Text.Name.{isDirectiveName}
-use Rattle.leaves.specs.Text.NameScans.{nameFrom}
+use Rattle.leaves.specs.Text.Name.{is_directive_name}
+use Rattle.leaves.specs.Text.NameScans.{name_from}
 use lib.ListN.{length}
 use native.Mathlib.Omega.{arith}
 use Rattle.leaves.proofs.text.name.is_directive_name.Statement.{statement}
 use Rattle.leaves.proofs.text.name.is_directive_name.Tie as tie
 
 abbrev invariant-loop : tie.invariant-loop
-invariant-loop s start₀ i₀ start i = At (isDirectiveName s) (nameFrom start) s i
+invariant-loop s start₀ i₀ start i = At (is_directive_name s) (name_from start) s i
 
 abbrev decreases-loop : tie.decreases-loop
 decreases-loop s start₀ i₀ start i = length s - i
@@ -19,7 +19,7 @@ loop-holds : tie.Need-loop-init invariant-loop decreases-loop
 loop-holds c = record { within = omega arith; same = directive _ }
 
 pub is-directive-name-spec : {M : Type 1} → statement M
-unfolding nameFrom
+unfolding name_from
 is-directive-name-spec =
     tie.close
     (tie.spec
