@@ -6,7 +6,7 @@ use leaves::refusal::verdict;
 use leaves::refusal::verdict::Refusal;
 
 // The answer: how many entries were listed, or why nothing was.
-#[derive(Drop)]
+#[derive(Clone, Copy)]
 pub enum Checked {
     Listed(usize),
     Refused(Refusal),

@@ -11,7 +11,7 @@ use leaves::sheet::records::Span;
 use leaves::text::marker::written_marker;
 
 // What the rules ask of the block before. `kind` is 0 where there is none.
-#[derive(Drop)]
+#[derive(Clone, Copy)]
 pub struct Before {
     pub kind: u32,
     pub a: u32,

@@ -1,5 +1,7 @@
 // The block walk, up to the whole list, and the check. The definitions of each module are in the file of specs/ with
 // its name.
+#![tactic(auto)]
+
 pub mod answer;
 pub mod before;
 mod block;

@@ -11,7 +11,7 @@ use leaves::sheet::records::Span;
 const MOST_NUMBER: u32 = 999999999;
 
 // An item's own number.
-#[derive(Drop)]
+#[derive(Clone, Copy)]
 pub(crate) enum Number {
     Absent,
     Present(u32),

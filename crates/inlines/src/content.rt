@@ -16,7 +16,7 @@ use leaves::sheet::{classes, empty, kinds, records};
 use leaves::text::bytes::choose;
 
 // What is gathered of the inlines of one container.
-#[derive(Drop)]
+#[derive(Clone, Copy)]
 pub(crate) struct Content {
     // there is an inline
     pub some: bool,

@@ -1,5 +1,7 @@
 // The inline walk, and the rules of one inline and of inlines side by side. The definitions of each module are in the
 // file of specs/ with its name.
+#![tactic(auto)]
+
 pub mod attribute;
 mod content;
 pub mod depth;

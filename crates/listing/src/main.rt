@@ -1,5 +1,7 @@
 // Reads a film on standard input and prints what the check and the setting machine find in it. The promise of `list`
 // says which bytes are printed for those that are read.
+#![tactic(auto)]
+
 use libc::{STDIN_FILENO, STDOUT_FILENO};
 use setter::listing::print::OUTPUT_BYTES;
 use setter::listing::program::list;

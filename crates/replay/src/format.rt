@@ -5,7 +5,7 @@ ghost use Rattle.replay.specs.Format.{replayed};
 use crate::tally::Tally;
 use crate::{checks, films, lists, long, sheets, texts, values};
 
-#[derive(Drop)]
+#[derive(Clone, Copy)]
 pub enum Format {
     Texts,
     Pairs,

@@ -1,6 +1,8 @@
 // Replays the stored answers in data/, which rust/vectors writes, and counts those that differ. The answers for the
 // text leaves and the inline walk are the Rust's; those for refusals, checks, settings and films are of plain readings
 // of document 01.
+#![tactic(auto)]
+
 mod bytes;
 mod checks;
 mod file;

@@ -4,7 +4,7 @@ ghost use Rattle.std.specs.Prelude.{true, false, ◌≡◌};
 use crate::tally::Tally;
 
 // What was read: all that was asked for, nothing, or less.
-#[derive(Drop)]
+#[derive(Clone, Copy)]
 pub enum Got {
     All,
     Nothing,
@@ -31,7 +31,7 @@ pub fn read_at(fd: i32, buffer: &mut [u8], at: usize, n: usize) -> Got {
 }
 
 // The tally after a record, and whether another record may follow.
-#[derive(Drop)]
+#[derive(Clone, Copy)]
 pub struct Step {
     pub more: bool,
     pub tally: Tally,

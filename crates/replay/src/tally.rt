@@ -5,7 +5,7 @@ ghost use Rattle.replay.specs.Tally.{nothing, recorded, differing, comparing, to
 
 const MOST: u64 = 0x1000_0000_0000_0000;
 
-#[derive(Drop)]
+#[derive(Clone, Copy)]
 pub struct Tally {
     pub records: u64,
     pub compared: u64,

@@ -6,7 +6,7 @@ use leaves::refusal::verdict;
 use leaves::refusal::verdict::Refusal;
 
 // The answer: how many records were opened and closed, or the stop and its record, or why nothing was set.
-#[derive(Drop)]
+#[derive(Clone, Copy)]
 pub enum Setting {
     Ended(u32),
     Stopped(u32, u32),

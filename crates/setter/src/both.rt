@@ -7,7 +7,7 @@ use blocks::answer::Checked;
 use blocks::check::check;
 
 // What each of the two answers.
-#[derive(Drop)]
+#[derive(Clone, Copy)]
 pub struct Both {
     pub checked: Checked,
     pub set: Setting,

@@ -11,7 +11,7 @@ use leaves::text::marker::written_marker;
 
 // What the machine keeps of an open record. The first five fields are of the record and of what is open around it, the
 // others of its children that have closed.
-#[derive(Drop)]
+#[derive(Clone, Copy)]
 pub(crate) struct Kept {
     // the record's number in the sheet, from 0
     pub at: u32,

@@ -35,7 +35,7 @@ const PLACES: [[u32; 7]; 10] = [
 
 // What stands before a record under its parent: the parent's group, the place of the child before it (0 where
 // there is none), and how many HTML tags.
-#[derive(Drop)]
+#[derive(Clone, Copy)]
 pub struct Open {
     pub group: u32,
     pub stage: u32,

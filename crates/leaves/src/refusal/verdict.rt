@@ -3,7 +3,7 @@ ghost use Rattle.std.specs.Prelude.{◌≡◌};
 ghost use Rattle.leaves.specs.Refusal.Verdict.{refusal_answer, judged_answer, is_accepted};
 
 // A refusal, by the name that document 01 gives it; from 4 on with the record that it names.
-#[derive(Drop)]
+#[derive(Clone, Copy)]
 pub enum Refusal {
     OddSheet,
     LongSheet,
@@ -18,7 +18,7 @@ pub enum Refusal {
 }
 
 // The answer for a sheet: accepted, or refused.
-#[derive(Drop)]
+#[derive(Clone, Copy)]
 pub enum Judged {
     Accepted,
     Refused(Refusal),

@@ -13,7 +13,7 @@ const CAP: usize = 4611686018427387904;
 const HEAD: usize = 5;
 
 // How many words and entries the list has so far.
-#[derive(Drop)]
+#[derive(Clone, Copy)]
 pub struct Tally {
     pub words: usize,
     pub entries: usize,

@@ -4,7 +4,7 @@ ghost use Rattle.leaves.specs.Sheet.Records.{record_words, word_at, text_at, rec
 
 pub const RECORD_WORDS: usize = 12;
 
-#[derive(Drop)]
+#[derive(Clone, Copy)]
 pub struct Span {
     pub flag: u32,
     pub start: u32,
@@ -12,13 +12,13 @@ pub struct Span {
 }
 
 // A text that a record names: a part of the sheet's text.
-#[derive(Drop)]
+#[derive(Clone, Copy)]
 pub struct Text {
     pub start: u32,
     pub len: u32,
 }
 
-#[derive(Drop)]
+#[derive(Clone, Copy)]
 pub struct Rec {
     pub kind: u32,
     pub level: u32,

@@ -7,7 +7,7 @@ ghost use Rattle.leaves.specs.Text.FenceScans.{fence_from, fence_left};
 use crate::text::bytes::{HYPHEN, PLUS};
 use crate::text::{bytes, lines};
 
-#[derive(Drop)]
+#[derive(Clone, Copy)]
 pub enum FrontmatterKind {
     Yaml,
     Toml,

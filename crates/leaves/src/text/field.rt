@@ -16,7 +16,7 @@ const MOST: u64 = 4294967295;
 const ZERO: u8 = 48;
 
 // What stands in a field.
-#[derive(Drop)]
+#[derive(Clone, Copy)]
 pub(crate) enum Column {
     Number(u32),
     Malformed,

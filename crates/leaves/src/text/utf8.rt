@@ -11,7 +11,7 @@ const STRETCH: usize = 64;
 
 // What a sequence that has begun expects: how many more bytes, and the range of the next one. The bytes after the next
 // must be from 0x80 to 0xBF. Where no more bytes are expected, the range is 0x80 to 0xBF too.
-#[derive(Drop)]
+#[derive(Clone, Copy)]
 pub(crate) struct Expected {
     pub more: u8,
     pub low: u8,

@@ -3,7 +3,7 @@ ghost use Rattle.std.specs.Prelude.{◌≡◌};
 ghost use Rattle.setter.specs.Listing.FilmAnswer.{film_answer};
 
 // Why a film is refused, or how many records it has.
-#[derive(Drop)]
+#[derive(Clone, Copy)]
 pub(crate) enum Film {
     BadColumn,
     BigFilm,
