@@ -77,7 +77,7 @@ module _ {s : List ℕ} {n i : ℕ} (d : Digits s n i) (h : i < length s) where
 
     pub digits-next : n * 10 + k ≤ most_number → Digits s (n * 10 + k) (i + 1)
     unfolding read_digits
-    digits-next l = record { at = turn h d.at (rw (is_digit _ is f, ← e, le-leb _ _ l)); small = l }
+    digits-next l = record { at = turn h d.at (rw (digit-is _ is f, ← e, le-leb _ _ l)); small = l }
 
 pub digits-end : {s : List ℕ} {n i : ℕ} → Digits s n i → length s ≤ i → Number n ≡ read_digits 0 s
 unfolding read_digits

@@ -187,7 +187,7 @@ module _ (o : List Range) (b : ℕ) (s : List ℕ) {r : Bool} (e : r ≡ breaks 
 
 pub utf8-ascii : (b : ℕ) (s : List ℕ) → b < 0x80 → well_formed [] (b ∷ s) ≡ well_formed [] s
 unfolding well_formed
-utf8-ascii b s h = rw (sym (ascii-alone b h))
+utf8-ascii b s h = ap (λ o. well_formed o s) (sym (ascii-alone b h))
 
 -- bytes of ASCII where nothing is expected
 pub utf8-leap : {whole : Bool} (more low high : ℕ) {s : List ℕ} {i j : ℕ} → more ≡ 0 → At whole (well_formed (columns more low high)) s i → Past is_ascii s i j → At whole (well_formed (columns more low high)) s j

@@ -1,0 +1,14 @@
+-- `leaves::text::chunk::past_ascii` meets its contract.
+use mathlib.Core.Path.{sym, ◌∙◌}
+use Prim.Native.Nat.{◌-◌}
+use lib.ListN.{length}
+use borrow.Author.Rules.{rules}
+use Rattle.leaves.proofs.text.ChunkLaws.{past-none, past-chunk, nearer, reach}
+use Rattle.leaves.specs.Text.Chunk.{Past, is_ascii}
+use Rattle.leaves.proofs.text.chunk.past_ascii.Given as goal
+
+abbrev pub invariant-loop-i : goal.invariant-loop-i
+invariant-loop-i l = Past is_ascii l.s l.«from» l.i
+
+abbrev pub decreases-loop-i : goal.decreases-loop-i
+decreases-loop-i l = length l.s - l.i

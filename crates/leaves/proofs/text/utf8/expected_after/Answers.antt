@@ -1,0 +1,12 @@
+-- `leaves::text::utf8::expected_after` meets its contract.
+use Rattle.leaves.proofs.text.Utf8Laws.{decoding}
+use Rattle.leaves.proofs.text.utf8.expected_after.Goals as goal
+
+pub returns-then-expected-eq0 : goal.returns-then-expected-eq0
+returns-then-expected-eq0 c = search decoding
+
+pub returns-then-b-expected : goal.returns-then-b-expected
+returns-then-b-expected c = search decoding
+
+pub returns : goal.returns
+returns c = search decoding

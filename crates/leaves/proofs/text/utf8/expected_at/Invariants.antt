@@ -1,0 +1,16 @@
+-- `leaves::text::utf8::expected_at` meets its contract.
+use mathlib.Core.Path.{◌≡◌, refl, sym, ap, ◌∙◌}
+use Prim.Native.Nat.{◌-◌, ◌≤◌}
+use native.Mathlib.Omega.{arith}
+use lib.ListN.{drop}
+use Rattle.leaves.proofs.text.ScanLaws.{At, stop, turn}
+use Rattle.leaves.specs.Text.Utf8Expected.{expected_of}
+use Rattle.leaves.specs.Text.Utf8.{well_formed}
+use Rattle.leaves.proofs.text.Utf8Laws.{decoding, utf8-no, utf8-yes, utf8-never}
+use Rattle.leaves.proofs.text.utf8.expected_at.Given as goal
+
+abbrev pub invariant-loop-i : goal.invariant-loop-i
+invariant-loop-i l = (l.i ≤ l.end) × At (well_formed (expected_of l.initial.o) (drop l.«from» l.s)) (well_formed (expected_of l.o)) l.s l.i
+
+abbrev pub decreases-loop-i : goal.decreases-loop-i
+decreases-loop-i l = l.end - l.i

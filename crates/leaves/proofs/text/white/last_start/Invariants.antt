@@ -1,0 +1,11 @@
+-- `leaves::text::white::last_start` meets its contract.
+use Rattle.leaves.proofs.text.WhiteLaws.{white-laws}
+use Prim.Native.Nat.{◌≤◌}
+use lib.ListN.{length}
+use Rattle.leaves.proofs.text.white.last_start.Given as goal
+
+abbrev pub invariant-loop-at : goal.invariant-loop-at
+invariant-loop-at l = l.at ≤ length l.s
+
+abbrev pub decreases-loop-at : goal.decreases-loop-at
+decreases-loop-at l = l.at
