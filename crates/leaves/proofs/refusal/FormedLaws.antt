@@ -11,7 +11,7 @@ use lib.Dec.{eqb, ltb}
 use lib.ListN.{length}
 use Rattle.leaves.specs.Text.Utf8.{is_utf8}
 use Rattle.leaves.specs.Sheet.Records.{record_at, record_words, records_of}
-use Rattle.leaves.specs.Sheet.Forest.{none, tree, forest_at, forest_of, under, size}
+use Rattle.leaves.specs.Sheet.Forest.{none, forest_at, forest_of, under, size}
 use Rattle.leaves.specs.Refusal.Groups.{holds_blocks, parent_group}
 use Rattle.leaves.specs.Refusal.Places.{opened, joined, open_at}
 use Rattle.leaves.specs.Sheet.Texts.{text_of, text_outside, text_ill_formed}

@@ -9,7 +9,7 @@ use lib.ListN.{replicate, length-replicate}
 use borrow.Author.Tests.{lt-leb, lt-ltb, le-ltb, le-leb, ltb-true, leb-true, leb-false, ne_eqb, eqb-true, not-true, not-false}
 use Rattle.leaves.specs.Text.Bytes.{between}
 use Rattle.leaves.specs.Text.Lists.{none}
-use Rattle.leaves.specs.Text.Utf8.{Range, ◌to◌, within, trail, nothing, table, follow, well_formed}
+use Rattle.leaves.specs.Text.Utf8.{Range, within, trail, nothing, table, follow, well_formed}
 use Rattle.leaves.specs.Text.Utf8Scans.{breaks, expected_after}
 use Rattle.leaves.specs.Text.Utf8Expected.{columns, expected_of, expecting, Expects}
 use Rattle.leaves.specs.declared.text.utf8.Expected.{Expected}

@@ -1,6 +1,5 @@
 -- `leaves::refusal::fields::bad_field` meets its contract.
 use Rattle.leaves.specs.Refusal.Fields.{bad_field}
-use borrow.Author.Rules.{rules}
 use Rattle.leaves.proofs.refusal.fields.bad_field.Goals as goal
 
 pub returns : goal.returns

@@ -1,7 +1,6 @@
 -- `leaves::refusal::fields::bad_number` meets its contract.
 use Rattle.leaves.proofs.refusal.ZeroFieldLaws.{no-numbers}
 use Rattle.leaves.specs.Refusal.Fields.{bad_number}
-use borrow.Author.Rules.{rules}
 use Rattle.leaves.proofs.refusal.fields.bad_number.Goals as goal
 
 pub returns-then-unused : goal.returns-then-unused

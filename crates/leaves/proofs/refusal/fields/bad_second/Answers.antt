@@ -1,6 +1,5 @@
 -- `leaves::refusal::fields::bad_second` meets its contract.
 use Rattle.leaves.proofs.refusal.ZeroFieldLaws.{text-absent, text-there}
-use borrow.Author.Rules.{rules}
 use Rattle.leaves.proofs.refusal.fields.bad_second.Goals as goal
 
 pub returns-then-is_absent : goal.returns-then-is_absent

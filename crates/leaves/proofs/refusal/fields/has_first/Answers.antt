@@ -1,6 +1,5 @@
 -- `leaves::refusal::fields::has_first` meets its contract.
 use Rattle.leaves.specs.Refusal.Fields.{has_first}
-use borrow.Author.Rules.{rules}
 use Rattle.leaves.proofs.refusal.fields.has_first.Goals as goal
 
 pub returns : goal.returns

@@ -1,6 +1,5 @@
 -- `leaves::refusal::fields::has_second` meets its contract.
 use Rattle.leaves.specs.Refusal.Fields.{has_second}
-use borrow.Author.Rules.{rules}
 use Rattle.leaves.proofs.refusal.fields.has_second.Goals as goal
 
 pub returns : goal.returns

@@ -1,6 +1,5 @@
 -- `leaves::refusal::fields::is_surrogate` meets its contract.
 use Rattle.leaves.specs.Refusal.Fields.{is_surrogate}
-use borrow.Author.Rules.{rules}
 use Rattle.leaves.proofs.refusal.fields.is_surrogate.Goals as goal
 
 pub returns : goal.returns

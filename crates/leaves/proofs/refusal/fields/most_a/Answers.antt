@@ -1,6 +1,5 @@
 -- `leaves::refusal::fields::most_a` meets its contract.
 use Rattle.leaves.specs.Refusal.Fields.{most_a}
-use borrow.Author.Rules.{rules}
 use Rattle.leaves.proofs.refusal.fields.most_a.Goals as goal
 
 pub returns : goal.returns

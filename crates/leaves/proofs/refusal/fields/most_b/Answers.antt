@@ -1,6 +1,5 @@
 -- `leaves::refusal::fields::most_b` meets its contract.
 use Rattle.leaves.specs.Refusal.Fields.{most_b}
-use borrow.Author.Rules.{rules}
 use Rattle.leaves.proofs.refusal.fields.most_b.Goals as goal
 
 pub returns : goal.returns

@@ -1,6 +1,5 @@
 -- `leaves::refusal::fields::most_c` meets its contract.
 use Rattle.leaves.specs.Refusal.Fields.{most_c}
-use borrow.Author.Rules.{rules}
 use Rattle.leaves.proofs.refusal.fields.most_c.Goals as goal
 
 pub returns : goal.returns

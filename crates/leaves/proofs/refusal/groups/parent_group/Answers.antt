@@ -1,5 +1,5 @@
 -- `leaves::refusal::groups::parent_group` meets its contract.
-use Rattle.leaves.proofs.refusal.GroupLaws.{group_laws, parent-group}
+use Rattle.leaves.proofs.refusal.GroupLaws.{parent-group}
 use borrow.Author.Rules.{rules}
 use mathlib.Core.Path.{◌∙◌}
 use Rattle.leaves.proofs.refusal.groups.parent_group.Goals as goal

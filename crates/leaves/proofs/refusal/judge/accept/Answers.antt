@@ -1,6 +1,5 @@
 -- `leaves::refusal::judge::accept` meets its contract.
 use Rattle.leaves.proofs.refusal.AcceptLaws.{accepting, containers, judges, sheet-record, sheet-tags}
-use borrow.Author.Tests.{not-false, not-true}
 use Rattle.leaves.proofs.refusal.judge.accept.Goals as goal
 
 pub returns-then-sheet-ne0 : goal.returns-then-sheet-ne0

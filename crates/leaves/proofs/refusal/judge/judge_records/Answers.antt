@@ -1,10 +1,6 @@
 -- `leaves::refusal::judge::judge_records` meets its contract.
-use Prim.Native.Nat.{◌-◌}
-use Rattle.leaves.proofs.refusal.JudgeLaws.{Judging, judging-passed, judging-turn, records-judged}
-use Rattle.leaves.specs.Refusal.Places.{joined}
-use Rattle.leaves.specs.Refusal.Record.{judge}
+use Rattle.leaves.proofs.refusal.JudgeLaws.{judging-passed, judging-turn, records-judged}
 use borrow.Author.Rules.{rules}
-use borrow.Author.Tests.{not-false}
 use Rattle.leaves.proofs.refusal.judge.judge_records.Goals as goal
 
 pub loop-i-init : goal.loop-i-init

@@ -1,10 +1,6 @@
 -- `leaves::refusal::judge::judge_records` meets its contract.
 use Prim.Native.Nat.{◌-◌}
-use Rattle.leaves.proofs.refusal.JudgeLaws.{Judging, judging-passed, judging-turn, records-judged}
-use Rattle.leaves.specs.Refusal.Places.{joined}
-use Rattle.leaves.specs.Refusal.Record.{judge}
-use borrow.Author.Rules.{rules}
-use borrow.Author.Tests.{not-false}
+use Rattle.leaves.proofs.refusal.JudgeLaws.{Judging}
 use Rattle.leaves.proofs.refusal.judge.judge_records.Given as goal
 
 abbrev pub invariant-loop-i : goal.invariant-loop-i

@@ -1,6 +1,5 @@
 -- `leaves::refusal::places::place_of` meets its contract.
 use Rattle.leaves.specs.Refusal.Places.{place_of}
-use borrow.Author.Rules.{rules}
 use Rattle.leaves.proofs.refusal.places.place_of.Goals as goal
 
 pub returns : goal.returns

@@ -1,6 +1,5 @@
 -- `leaves::refusal::record::bad_level` meets its contract.
 use Rattle.leaves.specs.Refusal.Record.{bad_level}
-use borrow.Author.Rules.{rules}
 use Rattle.leaves.proofs.refusal.record.bad_level.Goals as goal
 
 pub returns : goal.returns

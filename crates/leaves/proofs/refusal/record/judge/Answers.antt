@@ -1,7 +1,4 @@
 -- `leaves::refusal::record::judge` meets its contract.
-use mathlib.Core.Path.{sym, ◌∙◌}
-use borrow.Author.Rules.{rules}
-use borrow.Author.Tests.{not-false}
 use Rattle.leaves.proofs.refusal.RecordTestLaws.{judging}
 use Rattle.leaves.proofs.refusal.record.judge.Goals as goal
 

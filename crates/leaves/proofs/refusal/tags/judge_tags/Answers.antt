@@ -1,6 +1,5 @@
 -- `leaves::refusal::tags::judge_tags` meets its contract.
-use Prim.Native.Nat.{◌-◌}
-use Rattle.leaves.proofs.refusal.TagLaws.{Tagging, tagging}
+use Rattle.leaves.proofs.refusal.TagLaws.{tagging}
 use Rattle.leaves.proofs.refusal.tags.judge_tags.Goals as goal
 
 pub returns-then-lacks_tags : goal.returns-then-lacks_tags

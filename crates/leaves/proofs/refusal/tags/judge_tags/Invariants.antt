@@ -1,6 +1,6 @@
 -- `leaves::refusal::tags::judge_tags` meets its contract.
 use Prim.Native.Nat.{◌-◌}
-use Rattle.leaves.proofs.refusal.TagLaws.{Tagging, tagging}
+use Rattle.leaves.proofs.refusal.TagLaws.{Tagging}
 use Rattle.leaves.proofs.refusal.tags.judge_tags.Given as goal
 
 abbrev pub invariant-loop-i : goal.invariant-loop-i

@@ -1,7 +1,5 @@
 -- `leaves::report::entries::copy_at` meets its contract.
-use Prim.Native.Nat.{◌-◌}
-use Rattle.leaves.proofs.report.EntryLaws.{Copying, reports}
-use lib.ListN.{length}
+use Rattle.leaves.proofs.report.EntryLaws.{reports}
 use Rattle.leaves.proofs.report.entries.copy_at.Goals as goal
 
 pub loop-i-preserved : goal.loop-i-preserved

@@ -1,6 +1,6 @@
 -- `leaves::report::entries::copy_at` meets its contract.
 use Prim.Native.Nat.{◌-◌}
-use Rattle.leaves.proofs.report.EntryLaws.{Copying, reports}
+use Rattle.leaves.proofs.report.EntryLaws.{Copying}
 use lib.ListN.{length}
 use Rattle.leaves.proofs.report.entries.copy_at.Given as goal
 

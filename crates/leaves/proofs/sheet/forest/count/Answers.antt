@@ -1,7 +1,5 @@
 -- `leaves::sheet::forest::count` meets its contract.
-use Prim.Native.Nat.{◌-◌}
-use Rattle.leaves.proofs.sheet.TreeLaws.{Counting, counting-start, counting-turn, counting-out, counting-end}
-use Rattle.leaves.proofs.sheet.SkipLaws.{skip-down}
+use Rattle.leaves.proofs.sheet.TreeLaws.{counting-turn, counting-out, counting-end}
 use borrow.Author.Rules.{rules}
 use Rattle.leaves.proofs.sheet.forest.count.Goals as goal
 

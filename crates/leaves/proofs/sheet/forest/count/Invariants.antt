@@ -1,8 +1,6 @@
 -- `leaves::sheet::forest::count` meets its contract.
 use Prim.Native.Nat.{◌-◌}
-use Rattle.leaves.proofs.sheet.TreeLaws.{Counting, counting-start, counting-turn, counting-out, counting-end}
-use Rattle.leaves.proofs.sheet.SkipLaws.{skip-down}
-use borrow.Author.Rules.{rules}
+use Rattle.leaves.proofs.sheet.TreeLaws.{Counting}
 use Rattle.leaves.proofs.sheet.forest.count.Given as goal
 
 abbrev pub invariant-loop-i : goal.invariant-loop-i

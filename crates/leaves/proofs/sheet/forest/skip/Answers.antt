@@ -1,6 +1,5 @@
 -- `leaves::sheet::forest::skip` meets its contract.
-use Prim.Native.Nat.{◌-◌}
-use Rattle.leaves.proofs.sheet.SkipLaws.{Skipping, skipping}
+use Rattle.leaves.proofs.sheet.SkipLaws.{skipping}
 use Rattle.leaves.proofs.sheet.forest.skip.Goals as goal
 
 pub returns-then-level_at-level : goal.returns-then-level_at-level

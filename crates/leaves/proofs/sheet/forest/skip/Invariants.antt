@@ -1,6 +1,6 @@
 -- `leaves::sheet::forest::skip` meets its contract.
 use Prim.Native.Nat.{◌-◌}
-use Rattle.leaves.proofs.sheet.SkipLaws.{Skipping, skipping}
+use Rattle.leaves.proofs.sheet.SkipLaws.{Skipping}
 use Rattle.leaves.proofs.sheet.forest.skip.Given as goal
 
 abbrev pub invariant-loop-i : goal.invariant-loop-i

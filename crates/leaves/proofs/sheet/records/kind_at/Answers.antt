@@ -1,6 +1,5 @@
 -- `leaves::sheet::records::kind_at` meets its contract.
 use Rattle.leaves.specs.Sheet.Records.{record_at}
-use borrow.Author.Rules.{rules}
 use Rattle.leaves.proofs.sheet.records.kind_at.Goals as goal
 
 pub returns : goal.returns

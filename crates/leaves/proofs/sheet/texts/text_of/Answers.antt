@@ -1,6 +1,5 @@
 -- `leaves::sheet::texts::text_of` meets its contract.
 use Rattle.leaves.specs.Sheet.Texts.{text_of}
-use borrow.Author.Rules.{rules}
 use Rattle.leaves.proofs.sheet.texts.text_of.Goals as goal
 
 pub returns : goal.returns

@@ -1,6 +1,5 @@
 -- `leaves::sheet::texts::text_outside` meets its contract.
 use Rattle.leaves.specs.Sheet.Texts.{text_outside}
-use borrow.Author.Rules.{rules}
 use Rattle.leaves.proofs.sheet.texts.text_outside.Goals as goal
 
 pub returns : goal.returns

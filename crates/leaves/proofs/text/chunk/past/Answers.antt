@@ -1,10 +1,7 @@
 -- `leaves::text::chunk::past` meets its contract.
 use mathlib.Core.Path.{sym, ◌∙◌}
-use Prim.Native.Nat.{◌-◌}
-use lib.ListN.{length}
 use borrow.Author.Rules.{rules}
-use Rattle.leaves.proofs.text.ChunkLaws.{past-none, past-chunk, nearer, reach}
-use Rattle.leaves.specs.Text.Chunk.{Past, is_neither}
+use Rattle.leaves.proofs.text.ChunkLaws.{past-none, past-chunk, nearer}
 use Rattle.leaves.proofs.text.chunk.past.Goals as goal
 
 pub loop-i-init : goal.loop-i-init

@@ -1,9 +1,6 @@
 -- `leaves::text::chunk::past_ascii` meets its contract.
-use mathlib.Core.Path.{sym, ◌∙◌}
 use Prim.Native.Nat.{◌-◌}
 use lib.ListN.{length}
-use borrow.Author.Rules.{rules}
-use Rattle.leaves.proofs.text.ChunkLaws.{past-none, past-chunk, nearer, reach}
 use Rattle.leaves.specs.Text.Chunk.{Past, is_ascii}
 use Rattle.leaves.proofs.text.chunk.past_ascii.Given as goal
 

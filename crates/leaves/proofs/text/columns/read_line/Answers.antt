@@ -1,7 +1,5 @@
 -- `leaves::text::columns::read_line` meets its contract.
-use Prim.Native.Nat.{◌-◌}
-use lib.ListN.{length}
-use Rattle.leaves.proofs.text.ColumnLaws.{Reading, line-next, lining}
+use Rattle.leaves.proofs.text.ColumnLaws.{line-next, lining}
 use Rattle.leaves.proofs.text.columns.read_line.Goals as goal
 
 pub loop-k-preserved : goal.loop-k-preserved

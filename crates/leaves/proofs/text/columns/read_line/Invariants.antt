@@ -1,7 +1,7 @@
 -- `leaves::text::columns::read_line` meets its contract.
 use Prim.Native.Nat.{◌-◌}
 use lib.ListN.{length}
-use Rattle.leaves.proofs.text.ColumnLaws.{Reading, line-next, lining}
+use Rattle.leaves.proofs.text.ColumnLaws.{Reading}
 use Rattle.leaves.proofs.text.columns.read_line.Given as goal
 
 abbrev pub invariant-loop-k : goal.invariant-loop-k

@@ -1,7 +1,5 @@
 -- `leaves::text::columns::write_line` meets its contract.
-use Prim.Native.Nat.{◌-◌}
-use lib.ListN.{length}
-use Rattle.leaves.proofs.text.ColumnLaws.{Writing, inking}
+use Rattle.leaves.proofs.text.ColumnLaws.{inking}
 use Rattle.leaves.proofs.text.columns.write_line.Goals as goal
 
 pub loop-i-init : goal.loop-i-init

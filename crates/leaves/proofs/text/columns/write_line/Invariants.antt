@@ -1,7 +1,7 @@
 -- `leaves::text::columns::write_line` meets its contract.
 use Prim.Native.Nat.{◌-◌}
 use lib.ListN.{length}
-use Rattle.leaves.proofs.text.ColumnLaws.{Writing, inking}
+use Rattle.leaves.proofs.text.ColumnLaws.{Writing}
 use Rattle.leaves.proofs.text.columns.write_line.Given as goal
 
 abbrev pub invariant-loop-i : goal.invariant-loop-i

@@ -1,6 +1,5 @@
 -- `leaves::text::edges::last_line_is_blank` meets its contract.
 use Prim.Native.Nat.{◌-◌}
-use Rattle.leaves.proofs.text.LineLaws.{line-laws}
 use Rattle.leaves.proofs.text.ScanLaws.{At}
 use Rattle.leaves.specs.Text.EdgeScans.{last_blank}
 use lib.ListN.{drop, length}

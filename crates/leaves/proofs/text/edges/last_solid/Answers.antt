@@ -1,6 +1,5 @@
 -- `leaves::text::edges::last_solid` meets its contract.
-use Rattle.leaves.proofs.text.LineLaws.{Back, back-stop, line-laws}
-use borrow.Author.Tests.{not-true}
+use Rattle.leaves.proofs.text.LineLaws.{back-stop}
 use Rattle.leaves.proofs.text.edges.last_solid.Goals as goal
 
 pub returns-then-not-is_blank_byte-is_line_ending_byte : goal.returns-then-not-is_blank_byte-is_line_ending_byte

@@ -1,6 +1,5 @@
 -- `leaves::text::edges::last_solid` meets its contract.
-use Rattle.leaves.proofs.text.LineLaws.{Back, back-stop, line-laws}
-use borrow.Author.Tests.{not-true}
+use Rattle.leaves.proofs.text.LineLaws.{Back}
 use Rattle.leaves.proofs.text.edges.last_solid.Given as goal
 
 abbrev pub invariant-loop-i : goal.invariant-loop-i

@@ -1,7 +1,5 @@
 -- `leaves::text::edges::leading_blanks` meets its contract.
-use Prim.Native.Nat.{◌-◌}
-use Rattle.leaves.proofs.text.LineLaws.{Leading, line-laws}
-use lib.ListN.{length}
+use Rattle.leaves.proofs.text.LineLaws.{line-laws}
 use Rattle.leaves.proofs.text.edges.leading_blanks.Goals as goal
 
 pub loop-i-init : goal.loop-i-init

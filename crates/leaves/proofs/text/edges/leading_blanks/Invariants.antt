@@ -1,6 +1,6 @@
 -- `leaves::text::edges::leading_blanks` meets its contract.
 use Prim.Native.Nat.{◌-◌}
-use Rattle.leaves.proofs.text.LineLaws.{Leading, line-laws}
+use Rattle.leaves.proofs.text.LineLaws.{Leading}
 use lib.ListN.{length}
 use Rattle.leaves.proofs.text.edges.leading_blanks.Given as goal
 

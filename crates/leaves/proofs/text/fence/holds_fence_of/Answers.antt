@@ -1,9 +1,5 @@
 -- `leaves::text::fence::holds_fence_of` meets its contract.
 use Rattle.leaves.proofs.text.FenceLaws.{fence-laws}
-use Prim.Native.Nat.{◌-◌}
-use Rattle.leaves.proofs.text.ScanLaws.{At}
-use Rattle.leaves.specs.Text.FenceScans.{fence_from}
-use lib.ListN.{length}
 use Rattle.leaves.proofs.text.fence.holds_fence_of.Goals as goal
 
 pub returns-then-skips-ends : goal.returns-then-skips-ends

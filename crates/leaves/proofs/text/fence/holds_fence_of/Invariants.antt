@@ -1,5 +1,4 @@
 -- `leaves::text::fence::holds_fence_of` meets its contract.
-use Rattle.leaves.proofs.text.FenceLaws.{fence-laws}
 use Prim.Native.Nat.{◌-◌}
 use Rattle.leaves.proofs.text.ScanLaws.{At}
 use Rattle.leaves.specs.Text.FenceScans.{fence_from}

@@ -1,8 +1,4 @@
 -- `leaves::text::field::past_spaces` meets its contract.
-use Prim.Native.Nat.{◌-◌}
-use lib.ListN.{length}
-use Rattle.leaves.proofs.text.ScanLaws.{At}
-use Rattle.leaves.specs.Text.Field.{past_spaces}
 use Rattle.leaves.proofs.text.FieldLaws.{spaces}
 use Rattle.leaves.proofs.text.field.past_spaces.Goals as goal
 

@@ -3,7 +3,6 @@ use Prim.Native.Nat.{◌-◌}
 use lib.ListN.{length}
 use Rattle.leaves.proofs.text.ScanLaws.{At}
 use Rattle.leaves.specs.Text.Field.{past_spaces}
-use Rattle.leaves.proofs.text.FieldLaws.{spaces}
 use Rattle.leaves.proofs.text.field.past_spaces.Given as goal
 
 abbrev pub invariant-loop-i : goal.invariant-loop-i

@@ -1,5 +1,5 @@
 -- `leaves::text::field::put_front` meets its contract.
-use Rattle.leaves.proofs.text.FieldLaws.{Filling, writing}
+use Rattle.leaves.proofs.text.FieldLaws.{writing}
 use Rattle.leaves.proofs.text.field.put_front.Goals as goal
 
 pub loop-i-preserved : goal.loop-i-preserved

@@ -1,5 +1,5 @@
 -- `leaves::text::field::put_front` meets its contract.
-use Rattle.leaves.proofs.text.FieldLaws.{Filling, writing}
+use Rattle.leaves.proofs.text.FieldLaws.{Filling}
 use Rattle.leaves.proofs.text.field.put_front.Given as goal
 
 abbrev pub invariant-loop-i : goal.invariant-loop-i

@@ -1,7 +1,5 @@
 -- `leaves::text::field::read_digits` meets its contract.
-use Prim.Native.Nat.{◌-◌}
-use lib.ListN.{length}
-use Rattle.leaves.proofs.text.FieldLaws.{Digits, digits}
+use Rattle.leaves.proofs.text.FieldLaws.{digits}
 use Rattle.leaves.proofs.text.field.read_digits.Goals as goal
 
 pub returns-then-not-is_digit : goal.returns-then-not-is_digit

@@ -1,7 +1,7 @@
 -- `leaves::text::field::read_digits` meets its contract.
 use Prim.Native.Nat.{◌-◌}
 use lib.ListN.{length}
-use Rattle.leaves.proofs.text.FieldLaws.{Digits, digits}
+use Rattle.leaves.proofs.text.FieldLaws.{Digits}
 use Rattle.leaves.proofs.text.field.read_digits.Given as goal
 
 abbrev pub invariant-loop-i : goal.invariant-loop-i

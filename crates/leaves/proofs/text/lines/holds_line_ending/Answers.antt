@@ -4,12 +4,10 @@ use mathlib.Core.Bool.{Bool, true, false, not, ◌&&◌, ◌||◌, false≢true}
 use lib.Dec.{eqb}
 use Rattle.leaves.proofs.text.LineTestLaws.{tests, any-leap}
 use Rattle.leaves.specs.Text.Chunk.{is_neither}
-use Prim.Native.Nat.{ℕ, ◌-◌}
-use Rattle.leaves.proofs.text.ScanLaws.{At}
+use Prim.Native.Nat.{ℕ}
 use Rattle.leaves.specs.Text.Bytes.{lf, cr, is_line_ending_byte}
 use Rattle.leaves.specs.Text.Lines.{holds_line_ending}
 use Rattle.leaves.specs.Text.Lists.{any}
-use lib.ListN.{length}
 use Rattle.leaves.proofs.text.lines.holds_line_ending.Goals as goal
 
 quiet : (b : ℕ) → is_neither lf cr b ≡ true → is_line_ending_byte b ≡ false

@@ -1,12 +1,7 @@
 -- `leaves::text::lines::holds_line_ending` meets its contract.
-use mathlib.Core.Path.{◌≡◌, refl}
-use mathlib.Core.Bool.{Bool, true, false, not, ◌&&◌, ◌||◌, false≢true}
-use lib.Dec.{eqb}
-use Rattle.leaves.proofs.text.LineTestLaws.{tests, any-leap}
-use Rattle.leaves.specs.Text.Chunk.{is_neither}
-use Prim.Native.Nat.{ℕ, ◌-◌}
+use Prim.Native.Nat.{◌-◌}
 use Rattle.leaves.proofs.text.ScanLaws.{At}
-use Rattle.leaves.specs.Text.Bytes.{lf, cr, is_line_ending_byte}
+use Rattle.leaves.specs.Text.Bytes.{is_line_ending_byte}
 use Rattle.leaves.specs.Text.Lines.{holds_line_ending}
 use Rattle.leaves.specs.Text.Lists.{any}
 use lib.ListN.{length}

@@ -1,11 +1,7 @@
 -- `leaves::text::lines::is_blank` meets its contract.
 use Rattle.leaves.proofs.text.LineTestLaws.{tests}
-use Prim.Native.Nat.{◌-◌}
-use Rattle.leaves.proofs.text.ScanLaws.{At}
-use Rattle.leaves.specs.Text.Bytes.{is_blank_byte}
 use Rattle.leaves.specs.Text.Lines.{is_blank}
 use Rattle.leaves.specs.Text.Lists.{all}
-use lib.ListN.{length}
 use Rattle.leaves.proofs.text.lines.is_blank.Goals as goal
 
 pub loop-i-init : goal.loop-i-init

@@ -1,5 +1,4 @@
 -- `leaves::text::lines::is_blank` meets its contract.
-use Rattle.leaves.proofs.text.LineTestLaws.{tests}
 use Prim.Native.Nat.{◌-◌}
 use Rattle.leaves.proofs.text.ScanLaws.{At}
 use Rattle.leaves.specs.Text.Bytes.{is_blank_byte}

@@ -1,6 +1,5 @@
 -- `leaves::text::marker::written_marker` meets its contract.
 use Rattle.leaves.specs.Text.Marker.{written_marker}
-use borrow.Author.Rules.{rules}
 use Rattle.leaves.proofs.text.marker.written_marker.Goals as goal
 
 pub returns : goal.returns

@@ -1,10 +1,6 @@
 -- `leaves::text::math::holds_backtick_dollar` meets its contract.
 use mathlib.Core.Path.{refl}
 use Rattle.leaves.proofs.text.MathLaws.{ticks, ticks-end, ticks-leap, ticks-one, ticks-stop}
-use Prim.Native.Nat.{◌-◌}
-use Rattle.leaves.proofs.text.ScanLaws.{At}
-use Rattle.leaves.specs.Text.Math.{holds_backtick_dollar}
-use lib.ListN.{length}
 use Rattle.leaves.proofs.text.math.holds_backtick_dollar.Goals as goal
 
 pub loop-i-init : goal.loop-i-init

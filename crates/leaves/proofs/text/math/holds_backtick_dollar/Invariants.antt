@@ -1,6 +1,4 @@
 -- `leaves::text::math::holds_backtick_dollar` meets its contract.
-use mathlib.Core.Path.{refl}
-use Rattle.leaves.proofs.text.MathLaws.{ticks, ticks-end, ticks-leap, ticks-one, ticks-stop}
 use Prim.Native.Nat.{◌-◌}
 use Rattle.leaves.proofs.text.ScanLaws.{At}
 use Rattle.leaves.specs.Text.Math.{holds_backtick_dollar}

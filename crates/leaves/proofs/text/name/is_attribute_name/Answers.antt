@@ -1,10 +1,6 @@
 -- `leaves::text::name::is_attribute_name` meets its contract.
 use Rattle.leaves.proofs.text.NameLaws.{naming}
-use Prim.Native.Nat.{◌-◌}
-use Rattle.leaves.proofs.text.ScanLaws.{At}
 use Rattle.leaves.specs.Text.Lists.{all}
-use Rattle.leaves.specs.Text.Name.{continues_attribute, is_attribute_name}
-use lib.ListN.{length}
 use Rattle.leaves.proofs.text.name.is_attribute_name.Goals as goal
 
 pub returns-then-s-eq0 : goal.returns-then-s-eq0

@@ -1,10 +1,7 @@
 -- `leaves::text::name::is_blank_identifier` meets its contract.
 use Rattle.leaves.proofs.text.NameLaws.{naming}
-use Prim.Native.Nat.{◌-◌}
-use Rattle.leaves.proofs.text.ScanLaws.{At}
 use Rattle.leaves.specs.Text.Lists.{all}
-use Rattle.leaves.specs.Text.Name.{is_blank_identifier, is_trimmed_byte}
-use lib.ListN.{length}
+use Rattle.leaves.specs.Text.Name.{is_blank_identifier}
 use Rattle.leaves.proofs.text.name.is_blank_identifier.Goals as goal
 
 pub loop-i-init : goal.loop-i-init

@@ -1,5 +1,4 @@
 -- `leaves::text::name::is_blank_identifier` meets its contract.
-use Rattle.leaves.proofs.text.NameLaws.{naming}
 use Prim.Native.Nat.{◌-◌}
 use Rattle.leaves.proofs.text.ScanLaws.{At}
 use Rattle.leaves.specs.Text.Lists.{all}

@@ -1,11 +1,9 @@
 -- `leaves::text::name::is_directive_name` meets its contract.
 use Prim.Native.Nat.{◌-◌}
-use Rattle.leaves.proofs.text.NameLaws.{directive, naming}
 use Rattle.leaves.proofs.text.ScanLaws.{At}
 use Rattle.leaves.specs.Text.Name.{is_directive_name}
 use Rattle.leaves.specs.Text.NameScans.{name_from}
 use lib.ListN.{length}
-use native.Mathlib.Omega.{arith}
 use Rattle.leaves.proofs.text.name.is_directive_name.Given as goal
 
 abbrev pub invariant-loop-i : goal.invariant-loop-i

@@ -1,5 +1,4 @@
 -- `leaves::text::part::part` meets its contract.
-use borrow.Author.Rules.{rules}
 use Rattle.leaves.proofs.text.PartLaws.{part-inside, part-outside}
 use native.Mathlib.Omega.{arith}
 use Rattle.leaves.proofs.text.part.part.Goals as goal

@@ -1,7 +1,4 @@
 -- `leaves::text::pipe::has_odd_escaped_pipe` meets its contract.
-use mathlib.Core.Path.{refl}
-use mathlib.Core.Bool.{false}
-use Rattle.leaves.proofs.text.PipeLaws.{pipe-leap, not-and, pipes}
 use Prim.Native.Nat.{◌-◌}
 use Rattle.leaves.proofs.text.ScanLaws.{At}
 use Rattle.leaves.specs.Text.Pipe.{has_odd_escaped_pipe, odd_pipe_after}

@@ -1,7 +1,5 @@
 -- `leaves::text::same::same_bytes` meets its contract.
-use Prim.Native.Nat.{◌-◌}
-use Rattle.leaves.proofs.text.PairLaws.{Both, pairs}
-use lib.ListN.{length}
+use Rattle.leaves.proofs.text.PairLaws.{pairs}
 use Rattle.leaves.proofs.text.same.same_bytes.Goals as goal
 
 pub returns-then-a-b : goal.returns-then-a-b

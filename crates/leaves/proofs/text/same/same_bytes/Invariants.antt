@@ -1,6 +1,6 @@
 -- `leaves::text::same::same_bytes` meets its contract.
 use Prim.Native.Nat.{◌-◌}
-use Rattle.leaves.proofs.text.PairLaws.{Both, pairs}
+use Rattle.leaves.proofs.text.PairLaws.{Both}
 use lib.ListN.{length}
 use Rattle.leaves.proofs.text.same.same_bytes.Given as goal
 

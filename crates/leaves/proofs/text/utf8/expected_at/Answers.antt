@@ -1,10 +1,7 @@
 -- `leaves::text::utf8::expected_at` meets its contract.
-use mathlib.Core.Path.{◌≡◌, refl, sym, ap, ◌∙◌}
-use Prim.Native.Nat.{◌-◌, ◌≤◌}
-use native.Mathlib.Omega.{arith}
+use mathlib.Core.Path.{ap, ◌∙◌}
 use lib.ListN.{drop}
-use Rattle.leaves.proofs.text.ScanLaws.{At, stop, turn}
-use Rattle.leaves.specs.Text.Utf8Expected.{expected_of}
+use Rattle.leaves.proofs.text.ScanLaws.{stop, turn}
 use Rattle.leaves.specs.Text.Utf8.{well_formed}
 use Rattle.leaves.proofs.text.Utf8Laws.{decoding, utf8-no, utf8-yes, utf8-never}
 use Rattle.leaves.proofs.text.utf8.expected_at.Goals as goal

@@ -1,12 +1,9 @@
 -- `leaves::text::utf8::expected_at` meets its contract.
-use mathlib.Core.Path.{◌≡◌, refl, sym, ap, ◌∙◌}
 use Prim.Native.Nat.{◌-◌, ◌≤◌}
-use native.Mathlib.Omega.{arith}
 use lib.ListN.{drop}
-use Rattle.leaves.proofs.text.ScanLaws.{At, stop, turn}
+use Rattle.leaves.proofs.text.ScanLaws.{At}
 use Rattle.leaves.specs.Text.Utf8Expected.{expected_of}
 use Rattle.leaves.specs.Text.Utf8.{well_formed}
-use Rattle.leaves.proofs.text.Utf8Laws.{decoding, utf8-no, utf8-yes, utf8-never}
 use Rattle.leaves.proofs.text.utf8.expected_at.Given as goal
 
 abbrev pub invariant-loop-i : goal.invariant-loop-i

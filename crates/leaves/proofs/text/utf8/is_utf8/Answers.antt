@@ -1,11 +1,6 @@
 -- `leaves::text::utf8::is_utf8` meets its contract.
-use mathlib.Core.Path.{sym, ◌∙◌}
-use Prim.Native.Nat.{◌-◌}
-use lib.ListN.{length}
-use Rattle.leaves.proofs.text.ScanLaws.{At}
 use Rattle.leaves.proofs.text.Utf8Laws.{decoding}
-use Rattle.leaves.specs.Text.Utf8Expected.{expected_of}
-use Rattle.leaves.specs.Text.Utf8.{is_utf8, well_formed}
+use Rattle.leaves.specs.Text.Utf8.{is_utf8}
 use Rattle.leaves.proofs.text.utf8.is_utf8.Goals as goal
 
 pub loop-i-init : goal.loop-i-init

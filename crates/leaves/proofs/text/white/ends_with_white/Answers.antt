@@ -1,5 +1,5 @@
 -- `leaves::text::white::ends_with_white` meets its contract.
-use Rattle.leaves.proofs.text.WhiteLaws.{ends-part, white-laws}
+use Rattle.leaves.proofs.text.WhiteLaws.{ends-part}
 use borrow.Author.Rules.{rules}
 use Rattle.leaves.proofs.text.white.ends_with_white.Goals as goal
 

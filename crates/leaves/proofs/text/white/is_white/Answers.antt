@@ -1,6 +1,5 @@
 -- `leaves::text::white::is_white` meets its contract.
 use Rattle.leaves.specs.Text.White.{is_white}
-use borrow.Author.Rules.{rules}
 use Rattle.leaves.proofs.text.white.is_white.Goals as goal
 
 pub returns : goal.returns

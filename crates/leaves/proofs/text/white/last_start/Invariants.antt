@@ -1,5 +1,4 @@
 -- `leaves::text::white::last_start` meets its contract.
-use Rattle.leaves.proofs.text.WhiteLaws.{white-laws}
 use Prim.Native.Nat.{◌≤◌}
 use lib.ListN.{length}
 use Rattle.leaves.proofs.text.white.last_start.Given as goal

@@ -1,8 +1,5 @@
 -- `leaves::text::white::value_after` meets its contract.
-use Prim.Native.Nat.{◌<◌}
-use Rattle.leaves.proofs.text.WhiteLaws.{room_small, white-laws}
-use borrow.Author.Rules.{rules}
-use native.Mathlib.Omega.{arith}
+use Rattle.leaves.proofs.text.WhiteLaws.{white-laws}
 use Rattle.leaves.proofs.text.white.value_after.Goals as goal
 
 pub returns-then-expected-eq0 : goal.returns-then-expected-eq0
