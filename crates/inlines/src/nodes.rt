@@ -22,7 +22,7 @@ use leaves::text::bytes::pick;
 
 // Record `i`, of the level `level`: the rules of it and the inline before it, whose kind is `before`; then its own
 // rules; then its children. A record that is not an inline is passed over.
-#[cycle(validate_inline_nodes_validate_node)]
+#[cycle(nodes)]
 fn validate_node(
     sheet: &[u32],
     bytes: &[u8],
@@ -57,7 +57,7 @@ fn validate_node(
 
 // The inlines from record `from` on that are deeper than `level`. `before` is the kind of the inline before them, 0
 // where there is none.
-#[cycle(validate_inline_nodes_validate_node)]
+#[cycle(nodes)]
 fn validate_inline_nodes(
     sheet: &[u32],
     bytes: &[u8],

@@ -1,0 +1,7 @@
+-- `inlines::nodes::validate_inlines` meets its contract.
+use Rattle.inlines.proofs.NodesLaws.{inlines-done}
+use borrow.Author.Rules.{rules}
+use Rattle.inlines.proofs.nodes.validate_inlines.Goals as goal
+
+pub returns : goal.returns
+returns c = inlines-done _ _ c.final_break-out.ensures c.validate_inline_nodes.ensures
