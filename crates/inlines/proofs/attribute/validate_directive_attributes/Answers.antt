@@ -1,10 +1,6 @@
 -- `inlines::attribute::validate_directive_attributes` meets its contract.
-use Prim.Native.Nat.{◌-◌}
 use Rattle.inlines.proofs.AttributeLaws.{attributes-none, attributes-turn}
-use Rattle.inlines.proofs.WalkLaws.{Loop, loop-end, loop-out, loop-start}
-use Rattle.leaves.proofs.sheet.SkipLaws.{skip-down}
-use Rattle.inlines.specs.Attribute.{validate_directive_attributes}
-use Rattle.leaves.specs.Sheet.Forest.{under}
+use Rattle.inlines.proofs.WalkLaws.{loop-end, loop-out}
 use borrow.Author.Rules.{rules}
 use Rattle.inlines.proofs.attribute.validate_directive_attributes.Goals as goal
 

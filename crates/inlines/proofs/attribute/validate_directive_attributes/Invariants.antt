@@ -1,11 +1,8 @@
 -- `inlines::attribute::validate_directive_attributes` meets its contract.
 use Prim.Native.Nat.{◌-◌}
-use Rattle.inlines.proofs.AttributeLaws.{attributes-none, attributes-turn}
-use Rattle.inlines.proofs.WalkLaws.{Loop, loop-end, loop-out, loop-start}
-use Rattle.leaves.proofs.sheet.SkipLaws.{skip-down}
+use Rattle.inlines.proofs.WalkLaws.{Loop}
 use Rattle.inlines.specs.Attribute.{validate_directive_attributes}
 use Rattle.leaves.specs.Sheet.Forest.{under}
-use borrow.Author.Rules.{rules}
 use Rattle.inlines.proofs.attribute.validate_directive_attributes.Given as goal
 
 abbrev pub invariant-loop-i : goal.invariant-loop-i

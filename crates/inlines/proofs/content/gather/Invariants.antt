@@ -1,7 +1,6 @@
 -- `inlines::content::gather` meets its contract.
 use Prim.Native.Nat.{◌-◌}
-use borrow.Author.Rules.{rules}
-use Rattle.inlines.proofs.GatherLaws.{Gathering, gather-turn, gathering}
+use Rattle.inlines.proofs.GatherLaws.{Gathering}
 use Rattle.inlines.proofs.content.gather.Given as goal
 
 abbrev pub invariant-loop-i : goal.invariant-loop-i

@@ -1,11 +1,8 @@
 -- `inlines::depth::validate_cell_values` meets its contract.
-use Prim.Native.Nat.{◌-◌}
-use Rattle.inlines.proofs.DepthLaws.{each_none, each_turn, fault_in}
-use Rattle.inlines.proofs.WalkLaws.{Loop, loop-end, loop-out, loop-start}
-use Rattle.inlines.specs.Depth.{each_record, validate_cell_values}
+use Rattle.inlines.proofs.DepthLaws.{each_none, each_turn}
+use Rattle.inlines.proofs.WalkLaws.{loop-end, loop-out, loop-start}
+use Rattle.inlines.specs.Depth.{validate_cell_values}
 use Rattle.inlines.specs.Values.{is_unwritable}
-use Rattle.leaves.specs.Report.Rules
-use Rattle.leaves.specs.Sheet.Forest.{under}
 use borrow.Author.Rules.{rules}
 use Rattle.inlines.proofs.depth.validate_cell_values.Goals as goal
 

@@ -1,11 +1,10 @@
 -- `inlines::depth::validate_one_line` meets its contract.
 use Prim.Native.Nat.{◌-◌}
-use Rattle.inlines.proofs.DepthLaws.{each_none, each_turn, fault_in}
-use Rattle.inlines.proofs.WalkLaws.{Loop, loop-end, loop-out, loop-start}
+use Rattle.inlines.proofs.DepthLaws.{fault_in}
+use Rattle.inlines.proofs.WalkLaws.{Loop}
 use Rattle.inlines.specs.Depth.{each_record, validate_one_line}
 use Rattle.leaves.specs.Sheet.Classes.{is_break}
 use Rattle.leaves.specs.Sheet.Forest.{under}
-use borrow.Author.Rules.{rules}
 use Rattle.inlines.proofs.depth.validate_one_line.Given as goal
 
 abbrev pub invariant-loop-i : goal.invariant-loop-i

@@ -1,9 +1,6 @@
 -- `inlines::link::validate_link_text` meets its contract.
-use Prim.Native.Nat.{◌-◌}
-use Rattle.inlines.proofs.LinkLaws.{links-down, links-none, links-turn}
-use Rattle.inlines.proofs.WalkLaws.{Loop, loop-end, loop-out, loop-start}
-use Rattle.inlines.specs.Link.{validate_link_text}
-use Rattle.leaves.specs.Sheet.Forest.{under}
+use Rattle.inlines.proofs.LinkLaws.{links-none, links-turn}
+use Rattle.inlines.proofs.WalkLaws.{loop-end, loop-out}
 use borrow.Author.Rules.{rules}
 use Rattle.inlines.proofs.link.validate_link_text.Goals as goal
 

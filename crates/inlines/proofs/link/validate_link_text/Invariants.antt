@@ -1,10 +1,8 @@
 -- `inlines::link::validate_link_text` meets its contract.
 use Prim.Native.Nat.{◌-◌}
-use Rattle.inlines.proofs.LinkLaws.{links-down, links-none, links-turn}
-use Rattle.inlines.proofs.WalkLaws.{Loop, loop-end, loop-out, loop-start}
+use Rattle.inlines.proofs.WalkLaws.{Loop}
 use Rattle.inlines.specs.Link.{validate_link_text}
 use Rattle.leaves.specs.Sheet.Forest.{under}
-use borrow.Author.Rules.{rules}
 use Rattle.inlines.proofs.link.validate_link_text.Given as goal
 
 abbrev pub invariant-loop-i : goal.invariant-loop-i

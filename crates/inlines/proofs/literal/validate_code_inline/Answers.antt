@@ -1,5 +1,4 @@
 -- `inlines::literal::validate_code_inline` meets its contract.
-use borrow.Author.Rules.{rules}
 use Rattle.inlines.proofs.LiteralLaws.{code-law}
 use Rattle.inlines.proofs.literal.validate_code_inline.Goals as goal
 

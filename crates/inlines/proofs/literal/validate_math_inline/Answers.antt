@@ -1,5 +1,4 @@
 -- `inlines::literal::validate_math_inline` meets its contract.
-use borrow.Author.Rules.{rules}
 use Rattle.inlines.proofs.LiteralLaws.{math-law}
 use Rattle.inlines.proofs.literal.validate_math_inline.Goals as goal
 

@@ -1,5 +1,4 @@
 -- `inlines::literal::validate_text` meets its contract.
-use borrow.Author.Rules.{rules}
 use Rattle.inlines.proofs.LiteralLaws.{text-law}
 use Rattle.inlines.proofs.literal.validate_text.Goals as goal
 

@@ -1,5 +1,4 @@
 -- `inlines::node::validate_emphasis_container` meets its contract.
-use borrow.Author.Rules.{rules}
 use Rattle.inlines.proofs.NodeLaws.{emphasis-law}
 use Rattle.inlines.proofs.node.validate_emphasis_container.Goals as goal
 

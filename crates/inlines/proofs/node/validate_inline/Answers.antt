@@ -1,7 +1,6 @@
 -- `inlines::node::validate_inline` meets its contract.
 use Rattle.inlines.specs.Node.{validate_inline}
 use Rattle.inlines.proofs.NodeLaws.{of_others}
-use borrow.Author.Rules.{rules}
 use Rattle.inlines.proofs.node.validate_inline.Goals as goal
 
 pub returns-then-is_emphasis_container : goal.returns-then-is_emphasis_container

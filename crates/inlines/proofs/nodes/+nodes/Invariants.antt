@@ -1,5 +1,5 @@
 -- The cycle of calls of the inline walk: a loop from inline to inline, and the walk of each one's children.
-use Prim.Native.Nat.{ℕ, ◌+◌, ◌-◌, ◌*◌}
+use Prim.Native.Nat.{◌+◌, ◌-◌, ◌*◌}
 use Rattle.leaves.specs.Sheet.Forest.{under}
 use Rattle.inlines.specs.Nodes.{validate_inline_nodes_after}
 use Rattle.inlines.proofs.WalkLaws.{Loop}

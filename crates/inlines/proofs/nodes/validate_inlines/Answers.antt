@@ -1,6 +1,5 @@
 -- `inlines::nodes::validate_inlines` meets its contract.
 use Rattle.inlines.proofs.NodesLaws.{inlines-done}
-use borrow.Author.Rules.{rules}
 use Rattle.inlines.proofs.nodes.validate_inlines.Goals as goal
 
 pub returns : goal.returns

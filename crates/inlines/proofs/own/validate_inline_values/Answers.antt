@@ -1,7 +1,6 @@
 -- `inlines::own::validate_inline_values` meets its contract.
 use Rattle.inlines.specs.Own.{validate_inline_values}
 use Rattle.inlines.proofs.OwnLaws.{of-no-values}
-use borrow.Author.Rules.{rules}
 use Rattle.inlines.proofs.own.validate_inline_values.Goals as goal
 
 pub returns-in-31 : goal.returns-in-31

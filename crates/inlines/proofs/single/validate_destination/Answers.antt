@@ -1,5 +1,4 @@
 -- `inlines::single::validate_destination` meets its contract.
-use borrow.Author.Rules.{rules}
 use Rattle.inlines.proofs.SingleLaws.{destination-law}
 use Rattle.inlines.proofs.single.validate_destination.Goals as goal
 

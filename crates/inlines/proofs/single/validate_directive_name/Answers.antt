@@ -1,5 +1,4 @@
 -- `inlines::single::validate_directive_name` meets its contract.
-use borrow.Author.Rules.{rules}
 use Rattle.inlines.proofs.SingleLaws.{name-law}
 use Rattle.inlines.proofs.single.validate_directive_name.Goals as goal
 

@@ -1,5 +1,4 @@
 -- `inlines::single::validate_escape` meets its contract.
-use borrow.Author.Rules.{rules}
 use Rattle.inlines.proofs.SingleLaws.{escape-law}
 use Rattle.inlines.proofs.single.validate_escape.Goals as goal
 

@@ -1,5 +1,4 @@
 -- `inlines::single::validate_identifier` meets its contract.
-use borrow.Author.Rules.{rules}
 use Rattle.inlines.proofs.SingleLaws.{identifier-law}
 use Rattle.inlines.proofs.single.validate_identifier.Goals as goal
 

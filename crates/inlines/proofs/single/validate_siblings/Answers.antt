@@ -1,5 +1,4 @@
 -- `inlines::single::validate_siblings` meets its contract.
-use borrow.Author.Rules.{rules}
 use Rattle.inlines.proofs.SingleLaws.{siblings-law}
 use Rattle.inlines.proofs.single.validate_siblings.Goals as goal
 
