@@ -8,6 +8,7 @@ use borrow.Author.Tests.{lt-ltb}
 use lib.ListN.{length}
 use Rattle.leaves.specs.Sheet.Records.{records_of}
 use Rattle.leaves.specs.Sheet.Forest.{Forest, none, tree, deeper, forest_of, under}
+use Rattle.leaves.specs.Refusal.Places.{joined}
 use Rattle.leaves.specs.declared.refusal.places.Open.{Open}
 use Rattle.leaves.specs.Report.Entries.{Lists, start}
 use Rattle.leaves.specs.declared.report.entries.Tally.{Tally}
@@ -23,7 +24,7 @@ unfolding Formed deeper
 formed-deeper bytes l o none g = refl
 formed-deeper bytes l o (tree r kids rest) g =
     let h : l < r.level = rw g.0.level (omega arith) in
-    rw (lt-ltb l r.level h) (ap (tree r kids) (formed-deeper bytes l _ rest g.2))
+    rw (lt-ltb l r.level h) (ap (tree r kids) (formed-deeper bytes l (joined o r.kind) rest g.2))
 
 whole-sheet : (w bytes : List ℕ) → Sound w bytes → under w (records_of w) 0 0 ≡ forest_of w
 unfolding forest_of

@@ -41,7 +41,7 @@ const PATH_WORDS: usize = 64;
 // the path with that word.
 
 // The blocks from record `from` on that are deeper than `level`.
-#[cycle(validate_block_validate_blocks_validate_item_validate_list_items)]
+#[cycle(walk)]
 fn validate_blocks(
     sheet: &[u32],
     bytes: &[u8],
@@ -104,7 +104,7 @@ fn validate_blocks(
 
 // Record `i`, of the level `level`: the rules of it and `before`, the block before it; then its own rules; then its
 // items or blocks. A record that is not a block is passed over.
-#[cycle(validate_block_validate_blocks_validate_item_validate_list_items)]
+#[cycle(walk)]
 fn validate_block(
     sheet: &[u32],
     bytes: &[u8],
@@ -169,7 +169,7 @@ fn validate_block(
 }
 
 // The items of a list of the level `level`. It is ordered where `ordered` is 1, and tight where `tight` is 1.
-#[cycle(validate_block_validate_blocks_validate_item_validate_list_items)]
+#[cycle(walk)]
 fn validate_list_items(
     sheet: &[u32],
     bytes: &[u8],
@@ -229,7 +229,7 @@ fn validate_list_items(
 }
 
 // Item `i`, of the level `level`, in a list of the level `outer`.
-#[cycle(validate_block_validate_blocks_validate_item_validate_list_items)]
+#[cycle(walk)]
 fn validate_item(
     sheet: &[u32],
     bytes: &[u8],

@@ -1,0 +1,7 @@
+-- `blocks::before::validate_taken_block` meets its contract.
+use borrow.Author.Rules.{rules}
+use Rattle.blocks.proofs.BeforeLaws.{taken-law}
+use Rattle.blocks.proofs.before.validate_taken_block.Goals as goal
+
+pub returns : goal.returns
+returns c = taken-law _ _ _ _ _ _ c.written_marker.ensures c.written_marker-2.ensures c.takes_indented_code.ensures c.list_if-out.ensures c.list_if.ensures

@@ -1,0 +1,17 @@
+-- `blocks::block::validate_own` meets its contract.
+use Rattle.inlines.proofs.PathLaws.{begin-front, begin-long}
+use Rattle.blocks.specs.Block.{validate_own}
+use Rattle.blocks.proofs.BlockLaws.{own-others}
+use borrow.Author.Rules.{rules}
+use Rattle.blocks.proofs.block.validate_own.Goals as goal
+
+pub returns-in-11 : goal.returns-in-11
+unfolding validate_own
+returns-in-11 c = (rw c.in-11.is c.validate_footnote_definition.ensures.0, c.validate_footnote_definition.ensures.1)
+
+pub returns-in-12 : goal.returns-in-12
+unfolding validate_own
+returns-in-12 c = (rw c.in-12.is c.validate_table.ensures.0, c.validate_table.ensures.1)
+
+pub returns-in_default : goal.returns-in_default
+returns-in_default c = (own-others _ _ _ _ c.in_default.in_default-own.rest c.validate_container.ensures, search rules)

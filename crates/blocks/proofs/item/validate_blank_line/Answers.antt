@@ -1,0 +1,7 @@
+-- `blocks::item::validate_blank_line` meets its contract.
+use Rattle.blocks.proofs.ItemLaws.{blank-law}
+use borrow.Author.Rules.{rules}
+use Rattle.blocks.proofs.item.validate_blank_line.Goals as goal
+
+pub returns : goal.returns
+returns c = blank-law _ _ _ _ _ _ c.list_if-out.ensures c.list_if-out-2.ensures c.list_if.ensures

@@ -1,0 +1,10 @@
+-- `blocks::number::validate_item_number` meets its contract.
+use Rattle.blocks.proofs.NumberLaws.{number-absent, number-present}
+use borrow.Author.Rules.{rules}
+use Rattle.blocks.proofs.number.validate_item_number.Goals as goal
+
+pub returns-in_default : goal.returns-in_default
+returns-in_default c = number-absent _ _ _ c.in_default.is
+
+pub returns : goal.returns
+returns c = number-present _ _ _ c.in-Present.is c.list_if-out.ensures c.list_if.ensures

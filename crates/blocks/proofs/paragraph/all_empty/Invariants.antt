@@ -1,0 +1,14 @@
+-- `blocks::paragraph::all_empty` meets its contract.
+use Prim.Native.Nat.{◌-◌}
+use Rattle.blocks.proofs.ParagraphLaws.{emptying-end, emptying-out, emptying-stop, emptying-turn}
+use Rattle.inlines.specs.Nodes.{all_empty}
+use Rattle.leaves.proofs.sheet.DecideLaws.{Deciding, deciding-start}
+use Rattle.leaves.proofs.sheet.SkipLaws.{skip-down}
+use borrow.Author.Rules.{rules}
+use Rattle.blocks.proofs.paragraph.all_empty.Given as goal
+
+abbrev pub invariant-loop-i : goal.invariant-loop-i
+invariant-loop-i l = Deciding all_empty l.sheet l.n l.«from» l.level l.i
+
+abbrev pub decreases-loop-i : goal.decreases-loop-i
+decreases-loop-i l = l.n - l.i

@@ -1,0 +1,7 @@
+-- `blocks::paragraph::validate_paragraph` meets its contract.
+use Rattle.blocks.proofs.ParagraphLaws.{paragraph-done}
+use borrow.Author.Rules.{rules}
+use Rattle.blocks.proofs.paragraph.validate_paragraph.Goals as goal
+
+pub returns : goal.returns
+returns c = paragraph-done _ _ _ c.all_empty-empty.ensures c.list_if-out.ensures c.validate_inlines-w.ensures
