@@ -2,7 +2,6 @@
 use mathlib.Core.Path.{ap}
 use mathlib.Core.Bool.{not}
 use Rattle.blocks.proofs.BeforeLaws.{before-other, before-blank, before-block}
-use borrow.Author.Rules.{rules}
 use Rattle.blocks.proofs.before.before_at.Goals as goal
 
 pub returns-then-not-is_block : goal.returns-then-not-is_block

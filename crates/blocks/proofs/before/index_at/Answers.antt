@@ -1,6 +1,5 @@
 -- `blocks::before::index_at` meets its contract.
 use Rattle.blocks.proofs.BeforeLaws.{index-block, index-other}
-use borrow.Author.Rules.{rules}
 use Rattle.blocks.proofs.before.index_at.Goals as goal
 
 pub returns-then-is_block : goal.returns-then-is_block

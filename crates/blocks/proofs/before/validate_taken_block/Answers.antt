@@ -1,5 +1,4 @@
 -- `blocks::before::validate_taken_block` meets its contract.
-use borrow.Author.Rules.{rules}
 use Rattle.blocks.proofs.BeforeLaws.{taken-law}
 use Rattle.blocks.proofs.before.validate_taken_block.Goals as goal
 

@@ -1,7 +1,6 @@
 -- `blocks::block::validate_container` meets its contract.
 use Rattle.blocks.specs.Block.{validate_container}
 use Rattle.blocks.proofs.BlockLaws.{container-others}
-use borrow.Author.Rules.{rules}
 use Rattle.blocks.proofs.block.validate_container.Goals as goal
 
 pub returns-in-5 : goal.returns-in-5

@@ -1,6 +1,5 @@
 -- `blocks::block::validate_heading` meets its contract.
 use Rattle.leaves.proofs.report.EntryLaws.{lists-then}
-use borrow.Author.Rules.{rules}
 use Rattle.blocks.proofs.block.validate_heading.Goals as goal
 
 pub returns : goal.returns

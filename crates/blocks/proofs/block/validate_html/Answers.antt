@@ -1,6 +1,5 @@
 -- `blocks::block::validate_html` meets its contract.
 use Rattle.blocks.proofs.BlockLaws.{html-blocks, html-inlines}
-use borrow.Author.Rules.{rules}
 use Rattle.blocks.proofs.block.validate_html.Goals as goal
 
 pub returns-then-r-eq0 : goal.returns-then-r-eq0

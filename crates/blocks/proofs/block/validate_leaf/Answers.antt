@@ -1,7 +1,6 @@
 -- `blocks::block::validate_leaf` meets its contract.
 use Rattle.blocks.specs.Block.{validate_leaf}
 use Rattle.blocks.proofs.BlockLaws.{leaf-others}
-use borrow.Author.Rules.{rules}
 use Rattle.blocks.proofs.block.validate_leaf.Goals as goal
 
 pub returns-in-1 : goal.returns-in-1

@@ -1,5 +1,4 @@
 -- `blocks::block::validate_own` meets its contract.
-use Rattle.inlines.proofs.PathLaws.{begin-front, begin-long}
 use Rattle.blocks.specs.Block.{validate_own}
 use Rattle.blocks.proofs.BlockLaws.{own-others}
 use borrow.Author.Rules.{rules}

@@ -1,12 +1,8 @@
 -- `blocks::footnote::blank_line_at` meets its contract.
-use Prim.Native.Nat.{◌-◌}
-use lib.ListN.{take}
-use Rattle.leaves.specs.Sheet.Forest.{under}
-use Rattle.blocks.specs.Footnote.{blank_line_at}
 use Rattle.blocks.proofs.FootnoteLaws.{blank_none, blank-listed, blank-passed}
-use Rattle.leaves.proofs.sheet.SkipLaws.{level-of, skip-down, skip-fits}
+use Rattle.leaves.proofs.sheet.SkipLaws.{level-of, skip-fits}
 use Rattle.inlines.proofs.WalkLaws.{loop-out, loop-end}
-use Rattle.inlines.proofs.PathLaws.{Paced, paced-start, paced-room, paced-place, paced-front, paced-long, paced-short, paced-kept, paced-same, paced-few}
+use Rattle.inlines.proofs.PathLaws.{paced-room, paced-kept}
 use borrow.Author.Rules.{rules}
 use Rattle.blocks.proofs.footnote.blank_line_at.Goals as goal
 

@@ -1,7 +1,5 @@
 -- `blocks::footnote::validate_footnote_definition` meets its contract.
 use Rattle.blocks.proofs.FootnoteLaws.{footnote-law}
-use Rattle.inlines.proofs.PathLaws.{begin-front, begin-long}
-use borrow.Author.Rules.{rules}
 use Rattle.blocks.proofs.footnote.validate_footnote_definition.Goals as goal
 
 pub returns : goal.returns

@@ -1,5 +1,4 @@
 -- `blocks::frontmatter::validate_frontmatter` meets its contract.
-use borrow.Author.Rules.{rules}
 use Rattle.blocks.proofs.FrontmatterLaws.{frontmatter-law}
 use Rattle.blocks.proofs.frontmatter.validate_frontmatter.Goals as goal
 

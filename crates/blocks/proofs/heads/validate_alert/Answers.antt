@@ -1,5 +1,4 @@
 -- `blocks::heads::validate_alert` meets its contract.
-use borrow.Author.Rules.{rules}
 use Rattle.blocks.proofs.HeadLaws.{alert-law}
 use Rattle.blocks.proofs.heads.validate_alert.Goals as goal
 

@@ -1,5 +1,4 @@
 -- `blocks::heads::validate_code_block` meets its contract.
-use borrow.Author.Rules.{rules}
 use Rattle.blocks.proofs.HeadLaws.{code-block-law}
 use Rattle.blocks.proofs.heads.validate_code_block.Goals as goal
 

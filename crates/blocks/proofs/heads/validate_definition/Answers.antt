@@ -1,5 +1,4 @@
 -- `blocks::heads::validate_definition` meets its contract.
-use borrow.Author.Rules.{rules}
 use Rattle.blocks.proofs.HeadLaws.{definition-law}
 use Rattle.blocks.proofs.heads.validate_definition.Goals as goal
 

@@ -1,5 +1,4 @@
 -- `blocks::heads::validate_heading` meets its contract.
-use borrow.Author.Rules.{rules}
 use Rattle.blocks.proofs.HeadLaws.{heading-law}
 use Rattle.blocks.proofs.heads.validate_heading.Goals as goal
 

@@ -1,7 +1,5 @@
 -- `blocks::html::validate_tags` meets its contract.
-use native.Mathlib.Omega.{arith}
 use Rattle.blocks.proofs.HtmlLaws.{tags-law}
-use borrow.Author.Rules.{rules}
 use Rattle.blocks.proofs.html.validate_tags.Goals as goal
 
 pub returns : goal.returns

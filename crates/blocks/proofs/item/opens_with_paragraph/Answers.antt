@@ -1,9 +1,5 @@
 -- `blocks::item::opens_with_paragraph` meets its contract.
-use Prim.Native.Nat.{◌-◌}
 use Rattle.blocks.proofs.ItemLaws.{opening-turn, opening-out, opening-end, opening-found}
-use Rattle.blocks.specs.Item.{opens_with_paragraph}
-use Rattle.leaves.proofs.sheet.DecideLaws.{Deciding, deciding-start}
-use Rattle.leaves.proofs.sheet.SkipLaws.{skip-down}
 use borrow.Author.Rules.{rules}
 use Rattle.blocks.proofs.item.opens_with_paragraph.Goals as goal
 

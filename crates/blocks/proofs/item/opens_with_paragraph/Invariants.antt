@@ -1,10 +1,7 @@
 -- `blocks::item::opens_with_paragraph` meets its contract.
 use Prim.Native.Nat.{◌-◌}
-use Rattle.blocks.proofs.ItemLaws.{opening-turn, opening-out, opening-end, opening-found}
 use Rattle.blocks.specs.Item.{opens_with_paragraph}
-use Rattle.leaves.proofs.sheet.DecideLaws.{Deciding, deciding-start}
-use Rattle.leaves.proofs.sheet.SkipLaws.{skip-down}
-use borrow.Author.Rules.{rules}
+use Rattle.leaves.proofs.sheet.DecideLaws.{Deciding}
 use Rattle.blocks.proofs.item.opens_with_paragraph.Given as goal
 
 abbrev pub invariant-loop-i : goal.invariant-loop-i

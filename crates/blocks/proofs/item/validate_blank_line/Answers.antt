@@ -1,6 +1,5 @@
 -- `blocks::item::validate_blank_line` meets its contract.
 use Rattle.blocks.proofs.ItemLaws.{blank-law}
-use borrow.Author.Rules.{rules}
 use Rattle.blocks.proofs.item.validate_blank_line.Goals as goal
 
 pub returns : goal.returns

@@ -1,12 +1,8 @@
 -- `blocks::item::validate_item_blank_lines` meets its contract.
-use Prim.Native.Nat.{◌-◌}
-use lib.ListN.{take}
-use Rattle.leaves.specs.Sheet.Forest.{under}
-use Rattle.blocks.specs.Item.{validate_item_blank_lines}
-use Rattle.blocks.proofs.ItemLaws.{is_last, lines_none, lines-turn}
-use Rattle.leaves.proofs.sheet.SkipLaws.{level-of, skip-down, skip-fits}
+use Rattle.blocks.proofs.ItemLaws.{lines_none, lines-turn}
+use Rattle.leaves.proofs.sheet.SkipLaws.{level-of, skip-fits}
 use Rattle.inlines.proofs.WalkLaws.{loop-out, loop-end}
-use Rattle.inlines.proofs.PathLaws.{Paced, paced-start, paced-room, paced-place, paced-front, paced-long, paced-short, paced-few}
+use Rattle.inlines.proofs.PathLaws.{paced-room}
 use borrow.Author.Rules.{rules}
 use Rattle.blocks.proofs.item.validate_item_blank_lines.Goals as goal
 

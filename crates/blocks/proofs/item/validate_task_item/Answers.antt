@@ -1,6 +1,5 @@
 -- `blocks::item::validate_task_item` meets its contract.
 use Rattle.blocks.proofs.ItemLaws.{task-none, task-law}
-use borrow.Author.Rules.{rules}
 use Rattle.blocks.proofs.item.validate_task_item.Goals as goal
 
 pub returns-then-checked-eq0 : goal.returns-then-checked-eq0

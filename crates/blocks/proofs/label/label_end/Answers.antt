@@ -1,7 +1,5 @@
 -- `blocks::label::label_end` meets its contract.
-use Prim.Native.Nat.{◌-◌}
-use Rattle.blocks.proofs.LabelLaws.{Labelling, labelling-start, labelling-end, labelling-out, labelling-block, labelling-turn}
-use Rattle.leaves.proofs.sheet.SkipLaws.{skip-down}
+use Rattle.blocks.proofs.LabelLaws.{labelling-end, labelling-out, labelling-block, labelling-turn}
 use borrow.Author.Rules.{rules}
 use Rattle.blocks.proofs.label.label_end.Goals as goal
 

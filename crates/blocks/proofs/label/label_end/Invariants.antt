@@ -1,8 +1,6 @@
 -- `blocks::label::label_end` meets its contract.
 use Prim.Native.Nat.{◌-◌}
-use Rattle.blocks.proofs.LabelLaws.{Labelling, labelling-start, labelling-end, labelling-out, labelling-block, labelling-turn}
-use Rattle.leaves.proofs.sheet.SkipLaws.{skip-down}
-use borrow.Author.Rules.{rules}
+use Rattle.blocks.proofs.LabelLaws.{Labelling}
 use Rattle.blocks.proofs.label.label_end.Given as goal
 
 abbrev pub invariant-loop-i : goal.invariant-loop-i

@@ -1,6 +1,5 @@
 -- `blocks::label::validate_directive` meets its contract.
 use Rattle.blocks.proofs.LabelLaws.{label-start, directive-done}
-use borrow.Author.Rules.{rules}
 use Rattle.blocks.proofs.label.validate_directive.Goals as goal
 
 pub validate_directive_attributes-w-requires : goal.validate_directive_attributes-w-requires

@@ -1,7 +1,5 @@
 -- `blocks::list::count_full` meets its contract.
-use Prim.Native.Nat.{◌-◌}
-use Rattle.blocks.proofs.ListLaws.{Filling, filling-start, filling-turn, filling-out, filling-end}
-use Rattle.leaves.proofs.sheet.SkipLaws.{skip-down}
+use Rattle.blocks.proofs.ListLaws.{filling-turn, filling-out, filling-end}
 use borrow.Author.Rules.{rules}
 use Rattle.blocks.proofs.list.count_full.Goals as goal
 

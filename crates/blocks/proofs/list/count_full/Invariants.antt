@@ -1,8 +1,6 @@
 -- `blocks::list::count_full` meets its contract.
 use Prim.Native.Nat.{◌-◌}
-use Rattle.blocks.proofs.ListLaws.{Filling, filling-start, filling-turn, filling-out, filling-end}
-use Rattle.leaves.proofs.sheet.SkipLaws.{skip-down}
-use borrow.Author.Rules.{rules}
+use Rattle.blocks.proofs.ListLaws.{Filling}
 use Rattle.blocks.proofs.list.count_full.Given as goal
 
 abbrev pub invariant-loop-i : goal.invariant-loop-i

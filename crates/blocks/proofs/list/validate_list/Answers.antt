@@ -1,6 +1,5 @@
 -- `blocks::list::validate_list` meets its contract.
 use Rattle.blocks.proofs.ListLaws.{list-tight, list-loose}
-use borrow.Author.Rules.{rules}
 use Rattle.blocks.proofs.list.validate_list.Goals as goal
 
 pub returns-then-tight-eq1 : goal.returns-then-tight-eq1

@@ -1,6 +1,5 @@
 -- `blocks::number::validate_item_number` meets its contract.
 use Rattle.blocks.proofs.NumberLaws.{number-absent, number-present}
-use borrow.Author.Rules.{rules}
 use Rattle.blocks.proofs.number.validate_item_number.Goals as goal
 
 pub returns-in_default : goal.returns-in_default

@@ -1,6 +1,5 @@
 -- `blocks::paragraph::validate_paragraph` meets its contract.
 use Rattle.blocks.proofs.ParagraphLaws.{paragraph-done}
-use borrow.Author.Rules.{rules}
 use Rattle.blocks.proofs.paragraph.validate_paragraph.Goals as goal
 
 pub returns : goal.returns

@@ -1,6 +1,5 @@
 -- `blocks::table::validate_cell` meets its contract.
 use Rattle.blocks.proofs.TableLaws.{cell-done}
-use borrow.Author.Rules.{rules}
 use Rattle.blocks.proofs.table.validate_cell.Goals as goal
 
 pub returns : goal.returns

@@ -1,10 +1,5 @@
 -- `blocks::table::validate_cells` meets its contract.
-use Prim.Native.Nat.{◌-◌}
-use lib.ListN.{take}
-use Rattle.leaves.specs.Sheet.Forest.{under}
-use Rattle.inlines.proofs.WalkLaws.{done-down, levels-fall}
-use Rattle.inlines.proofs.PathLaws.{Paced, paced-start, paced-room, paced-front, paced-long, paced-under, paced-out, paced-end}
-use Rattle.blocks.specs.Table.{validate_cells}
+use Rattle.inlines.proofs.PathLaws.{paced-out, paced-end}
 use Rattle.blocks.proofs.TableLaws.{cells-none, cells-turn}
 use borrow.Author.Rules.{rules}
 use Rattle.blocks.proofs.table.validate_cells.Goals as goal

@@ -2,11 +2,8 @@
 use Prim.Native.Nat.{◌-◌}
 use lib.ListN.{take}
 use Rattle.leaves.specs.Sheet.Forest.{under}
-use Rattle.inlines.proofs.WalkLaws.{done-down, levels-fall}
-use Rattle.inlines.proofs.PathLaws.{Paced, paced-start, paced-room, paced-front, paced-long, paced-under, paced-out, paced-end}
+use Rattle.inlines.proofs.PathLaws.{Paced}
 use Rattle.blocks.specs.Table.{validate_cells}
-use Rattle.blocks.proofs.TableLaws.{cells-none, cells-turn}
-use borrow.Author.Rules.{rules}
 use Rattle.blocks.proofs.table.validate_cells.Given as goal
 
 abbrev pub invariant-loop-i : goal.invariant-loop-i

@@ -2,12 +2,8 @@
 use Prim.Native.Nat.{◌-◌}
 use lib.ListN.{take}
 use Rattle.leaves.specs.Sheet.Forest.{under}
-use Rattle.inlines.proofs.WalkLaws.{done-down, levels-fall}
-use Rattle.leaves.proofs.sheet.SkipLaws.{level-of}
-use Rattle.inlines.proofs.PathLaws.{Paced, paced-start, paced-room, paced-front, paced-long, paced-under, paced-call, paced-out, paced-end}
+use Rattle.inlines.proofs.PathLaws.{Paced}
 use Rattle.blocks.specs.Table.{validate_rows}
-use Rattle.blocks.proofs.TableLaws.{rows_none, rows-turn}
-use borrow.Author.Rules.{rules}
 use Rattle.blocks.proofs.table.validate_rows.Given as goal
 
 abbrev pub invariant-loop-i : goal.invariant-loop-i

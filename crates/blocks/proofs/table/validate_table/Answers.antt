@@ -1,5 +1,4 @@
 -- `blocks::table::validate_table` meets its contract.
-use Rattle.inlines.proofs.PathLaws.{begin-front, begin-long, begin-short}
 use Rattle.leaves.proofs.sheet.TreeLaws.{ends_some}
 use Rattle.blocks.proofs.TableLaws.{table_empty, table_done}
 use borrow.Author.Rules.{rules}

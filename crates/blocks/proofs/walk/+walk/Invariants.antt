@@ -1,5 +1,5 @@
 -- The cycle of calls of the block walk: blocks hold items, items hold blocks, and levels left fall at each call.
-use Prim.Native.Nat.{ℕ, ◌+◌, ◌-◌, ◌*◌}
+use Prim.Native.Nat.{◌+◌, ◌-◌, ◌*◌}
 use lib.ListN.{take}
 use Rattle.leaves.specs.Sheet.Forest.{under}
 use Rattle.inlines.proofs.PathLaws.{Paced}

@@ -1,6 +1,5 @@
 -- `blocks::walk::validate_document` meets its contract.
-use Rattle.blocks.proofs.DocumentLaws.{document-begin, document-done}
-use borrow.Author.Rules.{rules}
+use Rattle.blocks.proofs.DocumentLaws.{document-done}
 use Rattle.blocks.proofs.walk.validate_document.Goals as goal
 
 pub returns : goal.returns
