@@ -160,7 +160,7 @@ all-before : (p : Rec) (m : ℕ) (ts : Forest) → ((k : ℕ) → Stands p k →
 unfolding Placed
 all-before p m none a h = before-none
 all-before p m (tree r kids rest) a h =
-    before-other r kids rest (no-block r.kind (a r.kind h.0)) ∙ ap (λ (t : Forest). tree r kids t) (all-before p _ rest a h.3)
+    before-other r kids rest (no-block r.kind (a r.kind h.0)) ∙ ap (λ (t : Forest). tree r kids t) (all-before p (rank r.kind) rest a h.3)
 
 clean-directive : (bytes q : List ℕ) (sp : Span) (n : ℕ) (name : Text) (ts : Forest) → before_blocks ts ≡ ts → Clean (validate_inlines bytes q ts) → Clean (validate_one_line n q ts) → Clean (validate_directive bytes q n sp name ts)
 unfolding validate_directive

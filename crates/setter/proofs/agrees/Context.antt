@@ -16,7 +16,7 @@ use Rattle.setter.specs.Machine.{in_path, path_of, block_path, position}
 use Rattle.setter.specs.Seen.{siblings, nearest, only_empty}
 use Rattle.setter.specs.Agrees.{Begins}
 use Rattle.setter.proofs.agrees.Flat.{pile, filled}
-use Rattle.setter.proofs.agrees.KindCases.{inliny}
+use Rattle.setter.proofs.agrees.KindCases.{rank, inliny}
 use Rattle.setter.proofs.agrees.Placed.{group_of, Placed, under-inlines}
 
 -- the innermost block's path begins the path
@@ -57,7 +57,7 @@ unfolding only_empty pile all_empty Placed
 empty-pile p m none ks e h = refl
 empty-pile p m (tree r kids rest) ks e h =
     let i : is_inline r.kind ≡ true = (inliny r.kind (under-inlines p r.kind h.0 e)).an_inline in
-    rw i (empty-pile p _ rest (r ∷ ks) e h.3 ∙ sym (and_assoc (all_empty rest) (is_empty_text r) (only_empty ks)) ∙ ap (λ (b : Bool). b && only_empty ks) (and_comm (all_empty rest) (is_empty_text r)))
+    rw i (empty-pile p (rank r.kind) rest (r ∷ ks) e h.3 ∙ sym (and_assoc (all_empty rest) (is_empty_text r) (only_empty ks)) ∙ ap (λ (b : Bool). b && only_empty ks) (and_comm (all_empty rest) (is_empty_text r)))
 
 pub empty-kids : (r : Rec) (ts : Forest) → group_of r ≡ holds_inlines → Placed r 0 ts → only_empty (pile ts []) ≡ all_empty ts
 unfolding only_empty

@@ -92,14 +92,14 @@ unfolding times_opened walk size
 opened j f st i none = rw add-zero (omega arith)
 opened j f st i (tree r kids rest) =
     let n : i + suc (size kids + size rest) ≡ suc i + size kids + size rest = omega arith in
-    rw (n, opened-append) (omega (arith, below_suc j i, opened j (fresh i r) (f ∷ st) (suc i) kids, opened j (with_kid r f) st (suc i + size kids) rest))
+    rw (n, opened-append j) (omega (arith, below_suc j i, opened j (fresh i r) (f ∷ st) (suc i) kids, opened j (with_kid r f) st (suc i + size kids) rest))
 
 closed : (j : ℕ) (f : Frame) (st : List Frame) (i : ℕ) (ts : Forest) → times_closed j (walk f st i ts) + below j i ≡ below j (i + size ts)
 unfolding times_closed walk size
 closed j f st i none = rw add-zero (omega arith)
 closed j f st i (tree r kids rest) =
     let n : i + suc (size kids + size rest) ≡ suc i + size kids + size rest = omega arith in
-    rw (n, closed-append) (omega (arith, below_suc j i, closed j (fresh i r) (f ∷ st) (suc i) kids, closed j (with_kid r f) st (suc i + size kids) rest))
+    rw (n, closed-append j) (omega (arith, below_suc j i, closed j (fresh i r) (f ∷ st) (suc i) kids, closed j (with_kid r f) st (suc i + size kids) rest))
 
 module _ (w : List ℕ) (h : Deep 0 (forest_of w)) (i : ℕ) where
   times : (times_opened i (steps_of w) ≡ below i (records_of w)) × (times_closed i (steps_of w) ≡ below i (records_of w))

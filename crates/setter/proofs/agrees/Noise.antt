@@ -110,11 +110,11 @@ pub clean-footnote : (path : List ℕ) (span : Span) (t : Text) (kids : Forest) 
 unfolding validate_footnote_definition named
 clean-footnote path span t kids = clean-append (clean-noise _ 3 span path refl) (clean_at path 0 kids)
 
-clean_after : (path : List ℕ) (last : List Entry) (ts : Forest) → Clean last → Clean (final_break_after path last ts)
+clean_after : (path : List ℕ) (ts : Forest) (last : List Entry) → Clean last → Clean (final_break_after path last ts)
 unfolding final_break_after named
-clean_after path last none h = h
-clean_after path last (tree r kids rest) h = clean_after path _ rest (clean-either (is_inline r.kind) (clean-noise (eqb r.kind line_break) 30 r.span path refl) h)
+clean_after path none last h = h
+clean_after path (tree r kids rest) last h = clean_after path rest _ (clean-either (is_inline r.kind) (clean-noise (eqb r.kind line_break) 30 r.span path refl) h)
 
 pub clean-final : (path : List ℕ) (ts : Forest) → Clean (final_break path ts)
 unfolding final_break
-clean-final path ts = clean_after path [] ts clean-none
+clean-final path ts = clean_after path ts [] clean-none

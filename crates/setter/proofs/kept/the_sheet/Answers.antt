@@ -2,15 +2,8 @@
 use mathlib.Core.Path.{refl}
 use Rattle.setter.specs.Seen.{columns, nearest, in_link, only_empty, last_mark}
 use Rattle.setter.specs.Kept.{kept_of, marker_behind}
-use Rattle.setter.proofs.kept.the_sheet.Statement.{statement}
-use Rattle.setter.proofs.kept.the_sheet.Tie as tie
+use Rattle.setter.proofs.kept.the_sheet.Goals as goal
 
-returns : tie.Need-returns
+pub returns : goal.returns
 unfolding kept_of columns nearest in_link only_empty last_mark marker_behind
 returns c = refl
-
-pub the-sheet-spec : {M : Type 1} → statement M
-the-sheet-spec =
-    tie.close
-    (tie.spec
-    returns)

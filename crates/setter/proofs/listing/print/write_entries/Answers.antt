@@ -1,0 +1,13 @@
+-- `setter::listing::print::write_entries` meets its contract.
+use Prim.Native.Nat.{◌-◌}
+use Rattle.setter.proofs.listing.PrintLaws.{Printing, printing}
+use Rattle.setter.proofs.listing.print.write_entries.Goals as goal
+
+pub write_line-end-requires : goal.write_line-end-requires
+write_line-end-requires c = search printing
+
+pub loop-i-preserved : goal.loop-i-preserved
+loop-i-preserved c = search printing
+
+pub returns : goal.returns
+returns c = search printing

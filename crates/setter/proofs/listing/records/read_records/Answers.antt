@@ -1,0 +1,10 @@
+-- `setter::listing::records::read_records` meets its contract.
+use Prim.Native.Nat.{◌-◌}
+use Rattle.setter.proofs.listing.RecordLineLaws.{Rows, rows}
+use Rattle.setter.proofs.listing.records.read_records.Goals as goal
+
+pub loop-i-preserved : goal.loop-i-preserved
+loop-i-preserved c = search rows
+
+pub returns : goal.returns
+returns c = search rows
