@@ -1,7 +1,7 @@
 -- The run of the setting machine of document 01, and the block that it stops in. Its openings and closings are in
 -- `Steps`, its stops in `Stops`, its marks in `Marks`.
 -- "It works from the sheet and its text alone, without the checker or its list."
-use Rattle.std.specs.Prelude.{ℕ, suc, ◌+◌, ◌≡◌, Bool, ◌||◌, List, [], ◌∷◌, ◌++◌, eqb}
+use Rattle.std.specs.Prelude.{ℕ, suc, ◌≡◌, Bool, ◌||◌, List, [], ◌∷◌, ◌++◌, eqb}
 use Rattle.leaves.specs.Text.Lists.{if◌then◌else◌}
 use Rattle.leaves.specs.Sheet.Kinds.{is_block, item}
 use Rattle.leaves.specs.Sheet.Records.{records_of}

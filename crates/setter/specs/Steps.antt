@@ -1,7 +1,7 @@
 -- The openings and closings of the setting machine where nothing stops it. "It opens records in order and closes
 -- innermost first: before a record opens, it closes every open one of that level or deeper; after the last, all that
 -- are open, and then it is at the end."
-use Rattle.std.specs.Prelude.{ℕ, suc, ◌+◌, List, [], ◌∷◌, ◌++◌, leb}
+use Rattle.std.specs.Prelude.{ℕ, suc, List, [], ◌∷◌, ◌++◌, leb}
 use Rattle.leaves.specs.Text.Lists.{if◌then◌else◌}
 use Rattle.leaves.specs.Sheet.Records.{records_of}
 use Rattle.leaves.specs.Sheet.Forest.{records_from}

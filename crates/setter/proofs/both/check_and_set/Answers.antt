@@ -1,6 +1,5 @@
 -- `setter::both::check_and_set` meets its contract.
 use Rattle.setter.proofs.BothLaws.{both-done}
-use borrow.Author.Rules.{rules}
 use Rattle.setter.proofs.both.check_and_set.Goals as goal
 
 pub returns : goal.returns

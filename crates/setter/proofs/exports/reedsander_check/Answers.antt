@@ -1,6 +1,5 @@
 -- `setter::exports::reedsander_check` meets its contract.
-use Rattle.setter.proofs.ExportLaws.{check-fits, check-promise}
-use borrow.Author.Rules.{rules}
+use Rattle.setter.proofs.ExportLaws.{check-fits}
 use Rattle.setter.proofs.exports.reedsander_check.Goals as goal
 
 pub packed-requires : goal.packed-requires

@@ -1,6 +1,5 @@
 -- `setter::exports::reedsander_set` meets its contract.
-use Rattle.setter.proofs.ExportLaws.{set-fits, set-promise}
-use borrow.Author.Rules.{rules}
+use Rattle.setter.proofs.ExportLaws.{set-fits}
 use Rattle.setter.proofs.exports.reedsander_set.Goals as goal
 
 pub packed-requires : goal.packed-requires

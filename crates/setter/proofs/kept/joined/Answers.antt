@@ -1,6 +1,5 @@
 -- `setter::kept::joined` meets its contract.
 use Rattle.setter.specs.Kept.{joined_by}
-use borrow.Author.Rules.{rules}
 use Rattle.setter.proofs.kept.joined.Goals as goal
 
 pub returns : goal.returns

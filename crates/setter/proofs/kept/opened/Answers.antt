@@ -1,6 +1,5 @@
 -- `setter::kept::opened` meets its contract.
 use Rattle.setter.specs.Kept.{opened_in}
-use borrow.Author.Rules.{rules}
 use Rattle.setter.proofs.kept.opened.Goals as goal
 
 pub returns : goal.returns

@@ -1,6 +1,5 @@
 -- `setter::machine::run_records` meets its contract.
-use Prim.Native.Nat.{◌+◌, ◌*◌, ◌-◌}
-use Rattle.setter.proofs.RunLaws.{Running, run-start, run-whole, run_end, closes-next, close-inside, close-fits, close-stop, close-turn, opens-next, open-inside, open-fits, open-stop, open_turn}
+use Rattle.setter.proofs.RunLaws.{run-start, run_end, closes-next, close-inside, close-fits, close-stop, close-turn, opens-next, open-fits, open-stop, open_turn}
 use borrow.Author.Rules.{rules}
 use Rattle.setter.proofs.machine.run_records.Goals as goal
 

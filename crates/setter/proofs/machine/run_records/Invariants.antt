@@ -1,7 +1,6 @@
 -- `setter::machine::run_records` meets its contract.
 use Prim.Native.Nat.{◌+◌, ◌*◌, ◌-◌}
-use Rattle.setter.proofs.RunLaws.{Running, run-start, run-whole, run_end, closes-next, close-inside, close-fits, close-stop, close-turn, opens-next, open-inside, open-fits, open-stop, open_turn}
-use borrow.Author.Rules.{rules}
+use Rattle.setter.proofs.RunLaws.{Running}
 use Rattle.setter.proofs.machine.run_records.Given as goal
 
 abbrev pub invariant-loop-i : goal.invariant-loop-i

@@ -1,6 +1,5 @@
 -- `setter::machine::set` meets its contract.
 use Rattle.setter.proofs.SetLaws.{set-refused, set-accepts, set-short, set-run}
-use borrow.Author.Rules.{rules}
 use Rattle.setter.proofs.machine.set.Goals as goal
 
 pub returns-in-Refused : goal.returns-in-Refused

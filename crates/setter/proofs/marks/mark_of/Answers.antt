@@ -1,6 +1,5 @@
 -- `setter::marks::mark_of` meets its contract.
 use Rattle.setter.specs.Marks.{mark_of}
-use borrow.Author.Rules.{rules}
 use Rattle.setter.proofs.marks.mark_of.Goals as goal
 
 pub returns : goal.returns

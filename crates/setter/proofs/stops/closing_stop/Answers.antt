@@ -1,6 +1,5 @@
 -- `setter::stops::closing_stop` meets its contract.
 use Rattle.setter.specs.Stops.{stop_at}
-use borrow.Author.Rules.{rules}
 use Rattle.setter.proofs.stops.closing_stop.Goals as goal
 
 pub returns : goal.returns

@@ -2,7 +2,6 @@
 use mathlib.Core.Path.{ap}
 use mathlib.Core.Bool.{not}
 use Rattle.setter.proofs.listing.FilmLaws.{film-bad, film-many, film-long, film-lines, film-text, film-ready}
-use borrow.Author.Rules.{rules}
 use Rattle.setter.proofs.listing.film.read_film.Goals as goal
 
 pub returns-then-not-good : goal.returns-then-not-good

@@ -1,6 +1,5 @@
 -- `setter::listing::print::write_entries` meets its contract.
-use Prim.Native.Nat.{◌-◌}
-use Rattle.setter.proofs.listing.PrintLaws.{Printing, printing}
+use Rattle.setter.proofs.listing.PrintLaws.{printing}
 use Rattle.setter.proofs.listing.print.write_entries.Goals as goal
 
 pub write_line-end-requires : goal.write_line-end-requires

@@ -1,6 +1,6 @@
 -- `setter::listing::print::write_entries` meets its contract.
 use Prim.Native.Nat.{◌-◌}
-use Rattle.setter.proofs.listing.PrintLaws.{Printing, printing}
+use Rattle.setter.proofs.listing.PrintLaws.{Printing}
 use Rattle.setter.proofs.listing.print.write_entries.Given as goal
 
 abbrev pub invariant-loop-i : goal.invariant-loop-i

@@ -1,7 +1,6 @@
 -- `setter::listing::program::list` meets its contract.
 use native.Mathlib.Omega.{arith}
-use Rattle.setter.proofs.listing.ProgramLaws.{film-printed, ready-few, ready-room, ready-long, ready-records, ready-printed, page}
-use borrow.Author.Rules.{rules}
+use Rattle.setter.proofs.listing.ProgramLaws.{film-printed, ready-few, ready-room, ready-long, ready-printed, page}
 use Rattle.setter.proofs.listing.program.list.Goals as goal
 
 pub returns-then-number-ne0 : goal.returns-then-number-ne0

@@ -1,6 +1,5 @@
 -- `setter::listing::records::read_records` meets its contract.
-use Prim.Native.Nat.{◌-◌}
-use Rattle.setter.proofs.listing.RecordLineLaws.{Rows, rows}
+use Rattle.setter.proofs.listing.RecordLineLaws.{rows}
 use Rattle.setter.proofs.listing.records.read_records.Goals as goal
 
 pub loop-i-preserved : goal.loop-i-preserved

@@ -1,6 +1,6 @@
 -- `setter::listing::records::read_records` meets its contract.
 use Prim.Native.Nat.{◌-◌}
-use Rattle.setter.proofs.listing.RecordLineLaws.{Rows, rows}
+use Rattle.setter.proofs.listing.RecordLineLaws.{Rows}
 use Rattle.setter.proofs.listing.records.read_records.Given as goal
 
 abbrev pub invariant-loop-i : goal.invariant-loop-i
