@@ -7,7 +7,7 @@ use native.Mathlib.Omega.{arith}
 use borrow.Author.Tests.{ltb-false}
 use lib.Dec.{eqb, ltb}
 use lib.ListN.{length}
-use Rattle.leaves.specs.Text.Lists.{if◌then◌else◌}
+use Rattle.leaves.specs.Text.Lists.{when◌then◌else◌}
 use Rattle.leaves.specs.Sheet.Kinds.{is_kind}
 use Rattle.leaves.specs.Sheet.Records.{record_words, records_of}
 use Rattle.leaves.specs.Refusal.Places.{misplaced}
@@ -45,7 +45,7 @@ checked-one ShortReport (Refused r) e = absurd (omega (arith, same_number e, (re
 checked-one ShortReport ShortReport e = refl
 
 -- ---- the record of a refusal
-either : (b : Bool) (j k : Judged) (n : ℕ) → (judged_answer j).value ≤ n → (judged_answer k).value ≤ n → (judged_answer (if b then j else k)).value ≤ n
+either : (b : Bool) (j k : Judged) (n : ℕ) → (judged_answer j).value ≤ n → (judged_answer k).value ≤ n → (judged_answer (when b then j else k)).value ≤ n
 either true j k n g h = g
 either false j k n g h = h
 
@@ -53,15 +53,15 @@ texts-record : (bytes : List ℕ) (i : ℕ) (r : Rec) → (judged_answer (judge_
 unfolding judge_texts
 texts-record bytes i r =
     let ill = text_ill_formed bytes r.first || text_ill_formed bytes r.second in
-    either (text_outside bytes r.first || text_outside bytes r.second) (Refuses (TextOutside i)) (if ill then Refuses (NotUtf8 i) else Accepted) i (omega arith) (either ill (Refuses (NotUtf8 i)) Accepted i (omega arith) (omega arith))
+    either (text_outside bytes r.first || text_outside bytes r.second) (Refuses (TextOutside i)) (when ill then Refuses (NotUtf8 i) else Accepted) i (omega arith) (either ill (Refuses (NotUtf8 i)) Accepted i (omega arith) (omega arith))
 
 judge-record : (bytes : List ℕ) (i : ℕ) (r : Rec) (before : ℕ) (o : Open) → (judged_answer (judge bytes i r before o)).value ≤ i
 unfolding judge
 judge-record bytes i r before o =
     let texts = judge_texts bytes i r in
-    let field = if bad_field r then Refuses (BadField i) else texts in
-    let place = if misplaced o r.kind then Refuses (Misplaced i) else field in
-    let level = if bad_level before r.level then Refuses (BadLevel i) else place in
+    let field = when bad_field r then Refuses (BadField i) else texts in
+    let place = when misplaced o r.kind then Refuses (Misplaced i) else field in
+    let level = when bad_level before r.level then Refuses (BadLevel i) else place in
     either (not (is_kind r.kind)) (Refuses (UnknownKind i)) level i (omega arith)
     (either (bad_level before r.level) (Refuses (BadLevel i)) place i (omega arith)
     (either (misplaced o r.kind) (Refuses (Misplaced i)) field i (omega arith)
@@ -97,7 +97,7 @@ judged-record w bytes = go (ltb most_records (records_of w)) refl
         let one : (judged_answer (judge_from w bytes (records_of w) 0)).value ≤ 65535 = omega (arith, from-record w bytes (records_of w) 0) in
         let two : (judged_answer (tags_from w (records_of w) (records_of w) 0)).value ≤ 65535 = omega (arith, tags-record w (records_of w) (records_of w) 0) in
         let three : (judged_answer judged).value ≤ 65535 = else-record (judge_from w bytes (records_of w) 0) (tags_from w (records_of w) (records_of w) 0) 65535 one two in
-        rw e (either (not (eqb (length w % record_words) 0)) (Refuses OddSheet) (if ltb most_bytes (length bytes) then Refuses LongText else judged) 65535 (omega arith) (either (ltb most_bytes (length bytes)) (Refuses LongText) judged 65535 (omega arith) three))
+        rw e (either (not (eqb (length w % record_words) 0)) (Refuses OddSheet) (when ltb most_bytes (length bytes) then Refuses LongText else judged) 65535 (omega arith) (either (ltb most_bytes (length bytes)) (Refuses LongText) judged 65535 (omega arith) three))
 
 -- ---- the value of an answer: a list has at most three entries for each record, so that its count always fits in half of a number for C
 pub value-word : (w bytes x : List ℕ) → (outcome w bytes x).0.value < 2 ^ 32

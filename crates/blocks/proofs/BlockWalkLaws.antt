@@ -8,7 +8,7 @@ use native.Mathlib.Numerals.{add-one}
 use borrow.Author.Tests.{not-true, not-false, eq-eqb, ne_eqb}
 use lib.Dec.{eqb}
 use lib.ListN.{length, take, set, length-set}
-use Rattle.leaves.specs.Text.Lists.{if◌then◌else◌}
+use Rattle.leaves.specs.Text.Lists.{when◌then◌else◌}
 use Rattle.leaves.specs.Sheet.Kinds.{is_block, list}
 use Rattle.leaves.specs.Sheet.Records.{record_at}
 use Rattle.leaves.specs.Sheet.Forest.{Forest, none, tree, under, count, size}
@@ -97,7 +97,7 @@ pub items-none : (bytes path : List ℕ) (k ordered tight : ℕ) → validate_li
 unfolding validate_list_items
 items-none bytes path k ordered tight = refl
 
-blocks-tree : (bytes path : List ℕ) (k : ℕ) (before : Before) (r : Rec) (kids rest : Forest) (f : Bool) → is_block r.kind ≡ f → validate_blocks bytes path k before (tree r kids rest) ≡ block_at bytes (path ++ k ∷ []) before r kids ⊕ validate_blocks bytes path (if f then k + 1 else k) (if f then before_next before r.kind r.a r.b else before) rest
+blocks-tree : (bytes path : List ℕ) (k : ℕ) (before : Before) (r : Rec) (kids rest : Forest) (f : Bool) → is_block r.kind ≡ f → validate_blocks bytes path k before (tree r kids rest) ≡ block_at bytes (path ++ k ∷ []) before r kids ⊕ validate_blocks bytes path (when f then k + 1 else k) (when f then before_next before r.kind r.a r.b else before) rest
 unfolding validate_blocks block_at
 blocks-tree bytes path k before r kids rest true e = rw (e, add-one k) (sym (join-assoc (validate_taken_block (path ++ k ∷ []) r.span before r.kind r.a r.b) _ _))
 blocks-tree bytes path k before r kids rest false e = rw e (sym (none-join (validate_blocks bytes path k before rest)))
@@ -115,7 +115,7 @@ index-most : (k kind : ℕ) → index_at k kind ≤ k + 1
 unfolding index_at
 index-most k kind = go (is_block kind)
   where
-    go : (f : Bool) → (if f then k + 1 else k) ≤ k + 1
+    go : (f : Bool) → (when f then k + 1 else k) ≤ k + 1
     go true = omega arith
     go false = omega arith
 

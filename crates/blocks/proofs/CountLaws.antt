@@ -7,7 +7,7 @@ use native.Mathlib.Omega.{arith}
 use borrow.Author.Tests.{eqb-true}
 use lib.Dec.{eqb}
 use lib.ListN.{length}
-use Rattle.leaves.specs.Text.Lists.{if◌then◌else◌}
+use Rattle.leaves.specs.Text.Lists.{when◌then◌else◌}
 use Rattle.leaves.specs.Text.Same.{same_bytes}
 use Rattle.leaves.specs.Sheet.Records.{records_of}
 use Rattle.leaves.specs.Sheet.Kinds.{is_block, is_inline, paragraph, heading, block_quote, alert, list, code_block, html_container, definition, footnote_definition, table, frontmatter, leaf_directive, container_directive, blank_line, html_tag}
@@ -64,10 +64,10 @@ unfoldable pub empty_parts : Rec → ℕ
 empty_parts r = bit (is_empty r.first) + bit (is_empty r.second)
 
 unfoldable pub tag_faults : Rec → ℕ
-tag_faults r = if eqb r.kind html_tag then empty_parts r else 0
+tag_faults r = when eqb r.kind html_tag then empty_parts r else 0
 
 unfoldable pub stray_faults : Rec → ℕ
-stray_faults r = if eqb r.kind html_tag then 0 else empty_parts r
+stray_faults r = when eqb r.kind html_tag then 0 else empty_parts r
 
 unfoldable pub strays : Forest → ℕ
 strays none = 0
@@ -84,41 +84,41 @@ names_entries bytes path span (tree opening _ (tree closing _ _)) =
 -- 16, or 17 and 18, of a table
 unfoldable pub table_entries : List ℕ → Span → ℕ → Forest → List Entry
 table_entries path span a rows =
-    if eqb (count rows) 0
+    when eqb (count rows) 0
     then list_if true Rules.table_without_row span path
     else (list_if (eqb (header_width rows) 0) Rules.table_without_cell span path ⊕ list_if (not (eqb a (header_width rows))) Rules.alignment_count span path)
 
 -- of the entries of `validate_own` those with the block's own span
 unfoldable pub own_entries : List ℕ → List ℕ → Rec → Forest → List Entry
 own_entries bytes path r kids =
-    if eqb r.kind footnote_definition
+    when eqb r.kind footnote_definition
     then list_if (is_empty r.first) Rules.empty_footnote_definition r.span path
-    else if eqb r.kind table
+    else when eqb r.kind table
     then table_entries path r.span r.a kids
-    else if eqb r.kind alert
+    else when eqb r.kind alert
     then validate_alert bytes path r.span r.a r.first
-    else if eqb r.kind list
+    else when eqb r.kind list
     then validate_list path r.span r.c kids
-    else if eqb r.kind html_container
+    else when eqb r.kind html_container
     then names_entries bytes path r.span kids
-    else if eqb r.kind container_directive
+    else when eqb r.kind container_directive
     then validate_directive_name bytes path r.span r.first
-    else if eqb r.kind paragraph
+    else when eqb r.kind paragraph
     then list_if (all_empty kids) Rules.empty_paragraph r.span path
-    else if eqb r.kind heading
+    else when eqb r.kind heading
     then validate_heading path r.span r.a
-    else if eqb r.kind code_block
+    else when eqb r.kind code_block
     then validate_code_block bytes path r.span r.a r.b r.first r.second
-    else if eqb r.kind definition
+    else when eqb r.kind definition
     then validate_definition bytes path r.span r.a r.first r.second
-    else if eqb r.kind frontmatter
+    else when eqb r.kind frontmatter
     then validate_frontmatter bytes path r.span r.level r.a r.first
-    else if eqb r.kind leaf_directive
+    else when eqb r.kind leaf_directive
     then validate_directive_name bytes path r.span r.first
     else []
 
 abbrev pub strays_of : Rec → Forest → ℕ
-strays_of r kids = if eqb r.kind html_container then strays kids else 0
+strays_of r kids = when eqb r.kind html_container then strays kids else 0
 
 -- a record among the blocks, behind the block `before`: 1 and 15, its own, and what its parent lists of it
 unfoldable pub block_charge : List ℕ → List ℕ → Before → Rec → Forest → ℕ
@@ -159,7 +159,7 @@ tags-few bytes path span (tree opening under (tree closing under' rest)) =
     simp (length-join, length-if)
     (omega (arith, parts-split opening, parts-split closing, roots-tree tag_faults opening under (tree closing under' rest), roots-tree tag_faults closing under' rest))
 
-when-both : (b c : Bool) (x y : List Entry) → length x ≤ 1 → length (if b && c then x else y) ≤ bit b + length y
+when-both : (b c : Bool) (x y : List Entry) → length x ≤ 1 → length (when b && c then x else y) ≤ bit b + length y
 when-both true true x y h = omega arith
 when-both true false x y h = omega arith
 when-both false c x y h = omega arith
@@ -328,7 +328,7 @@ module _ (bytes : List ℕ) (most : ℕ) (inline : EachInline bytes tag_faults m
                 spent-step bytes own rule tag_faults behind r kids (before_blocks rest),
                 inline own rule behind r kids,
                 spent-most bytes tag_faults most inline own rule 0 kids,
-                beside.label own path rule (if is_inline r.kind then r.kind else behind) k before,
+                beside.label own path rule (when is_inline r.kind then r.kind else behind) k before,
               ))
 
       tree-items : (path : List ℕ) (k ordered tight : ℕ) → length (validate_list_items bytes path k ordered tight (tree r kids rest)) ≤ most * size (tree r kids rest)
@@ -405,29 +405,29 @@ table-most path span a rows = go (eqb (count rows) 0) refl
 -- a block's own entries
 unfoldable own_most : ℕ → ℕ
 own_most k =
-    if eqb k footnote_definition
+    when eqb k footnote_definition
     then 1
-    else if eqb k table
+    else when eqb k table
     then 2
-    else if eqb k alert
+    else when eqb k alert
     then 1
-    else if eqb k list
+    else when eqb k list
     then 2
-    else if eqb k html_container
+    else when eqb k html_container
     then 1
-    else if eqb k container_directive
+    else when eqb k container_directive
     then 1
-    else if eqb k paragraph
+    else when eqb k paragraph
     then 1
-    else if eqb k heading
+    else when eqb k heading
     then 1
-    else if eqb k code_block
+    else when eqb k code_block
     then 2
-    else if eqb k definition
+    else when eqb k definition
     then 2
-    else if eqb k frontmatter
+    else when eqb k frontmatter
     then 2
-    else if eqb k leaf_directive
+    else when eqb k leaf_directive
     then 1
     else 0
 

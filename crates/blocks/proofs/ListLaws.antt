@@ -6,7 +6,7 @@ use Prim.Native.Nat.{ℕ, suc, ◌+◌, ◌<◌, ◌≤◌}
 use native.Mathlib.Omega.{arith}
 use borrow.Author.Tests.{ne_eqb, not-true, not-false}
 use lib.Dec.{eqb, ltb}
-use Rattle.leaves.specs.Text.Lists.{if◌then◌else◌}
+use Rattle.leaves.specs.Text.Lists.{when◌then◌else◌}
 use Rattle.leaves.specs.Sheet.Kinds.{blank_line}
 use Rattle.leaves.specs.Sheet.Records.{record_at}
 use Rattle.leaves.specs.Sheet.Forest.{none, under, size, count}
@@ -35,16 +35,16 @@ full-out : (w : List ℕ) (n i l : ℕ) → i < n → (record_at w i).level ≤ 
 unfolding count_full
 full-out w n i l h d = rw (under-out w n i l h d)
 
-full-in : (w : List ℕ) (n i l : ℕ) → i < n → l < (record_at w i).level → count_full (under w n i l) ≡ (if eqb (record_at w i).kind blank_line then count_full (under w n (behind_kids w n i) l) else suc (count_full (under w n (behind_kids w n i) l)))
+full-in : (w : List ℕ) (n i l : ℕ) → i < n → l < (record_at w i).level → count_full (under w n i l) ≡ (when eqb (record_at w i).kind blank_line then count_full (under w n (behind_kids w n i) l) else suc (count_full (under w n (behind_kids w n i) l)))
 unfolding count_full
 full-in w n i l h d = rw (under-in w n i l h d)
 
 -- one block more, counted or not
-counted-on : (t : Bool) (full k m : ℕ) {all : ℕ} → k ≡ (if t then m else suc m) → full + k ≡ all → (if t then full else full + 1) + m ≡ all
+counted-on : (t : Bool) (full k m : ℕ) {all : ℕ} → k ≡ (when t then m else suc m) → full + k ≡ all → (when t then full else full + 1) + m ≡ all
 counted-on true full k m e a = omega arith
 counted-on false full k m e a = omega arith
 
-counted-few : (t : Bool) (full i j : ℕ) → full ≤ i → i < j → (if t then full else full + 1) ≤ j
+counted-few : (t : Bool) (full i j : ℕ) → full ≤ i → i < j → (when t then full else full + 1) ≤ j
 counted-few true full i j a b = omega arith
 counted-few false full i j a b = omega arith
 
@@ -60,10 +60,10 @@ module _ (w : List ℕ) (n from level : ℕ) where
       pub filling-out : r.level ≤ level → full ≡ count_full (under w n from level)
       filling-out d = let d' : (record_at w i).level ≤ level = rw e at d in omega (arith, full-out w n i level b d', v.all)
 
-      pub filling-turn : {j more : ℕ} → level < r.level → more ≡ (if eqb r.kind blank_line then full else full + 1) → j ≡ i + 1 + size (under w n (i + 1) r.level) → Filling w n from level j more
+      pub filling-turn : {j more : ℕ} → level < r.level → more ≡ (when eqb r.kind blank_line then full else full + 1) → j ≡ i + 1 + size (under w n (i + 1) r.level) → Filling w n from level j more
       filling-turn {j} {more} d m q =
           let d' : level < (record_at w i).level = rw e at d in
-          let m' : more ≡ (if eqb (record_at w i).kind blank_line then full else full + 1) = rw e at m in
+          let m' : more ≡ (when eqb (record_at w i).kind blank_line then full else full + 1) = rw e at m in
           let q' : j ≡ behind_kids w n i = rw e at q in
           rw (q', m')
           (record {

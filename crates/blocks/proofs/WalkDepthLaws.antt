@@ -6,7 +6,7 @@ use Prim.Native.Nat.{ℕ, suc, ◌+◌}
 use native.Mathlib.Omega.{arith}
 use borrow.Author.Tests.{lt-ltb, le-ltb, ltb-true, ltb-false, eqb-true}
 use lib.Dec.{eqb, ltb}
-use Rattle.leaves.specs.Text.Lists.{if◌then◌else◌}
+use Rattle.leaves.specs.Text.Lists.{when◌then◌else◌}
 use Rattle.leaves.specs.Sheet.Kinds.{is_kind, is_block, list, item}
 use Rattle.leaves.specs.Sheet.Forest.{Forest, none, tree, forest_of}
 use Rattle.leaves.specs.declared.sheet.records.Rec.{Rec}
@@ -33,7 +33,7 @@ agree-under : (r : Rec) (l depth : ℕ) → Agree (parent_group r.kind r.a) (l +
 unfolding depth_under
 agree-under r l depth o k g known b m = go (eqb r.kind list) refl
   where
-    go : (t : Bool) → eqb r.kind list ≡ t → ltb 0 (l + 1) ≡ ltb 0 (if t then depth else suc depth)
+    go : (t : Bool) → eqb r.kind list ≡ t → ltb 0 (l + 1) ≡ ltb 0 (when t then depth else suc depth)
     go true e = absurd (no_item k b (items-only o k (g ∙ list-items r.kind r.a e) known m))
     go false e = lt-ltb 0 (l + 1) (omega arith) ∙ sym (lt-ltb 0 (suc depth) (omega arith))
 

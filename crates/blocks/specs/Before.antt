@@ -1,7 +1,7 @@
 -- What a block reports because of the block before it, and which block stands before the next one. A definition has
 -- the name of its function in validate.rs. `path` is the block's own.
 use Rattle.std.specs.Prelude.{ℕ, ◌+◌, Bool, ◌&&◌, ◌||◌, List, eqb}
-use Rattle.leaves.specs.Text.Lists.{if◌then◌else◌}
+use Rattle.leaves.specs.Text.Lists.{when◌then◌else◌}
 use Rattle.leaves.specs.Sheet.Kinds.{is_block, list, code_block, footnote_definition, blank_line}
 use Rattle.leaves.specs.Report.Entries.{Entry, list_if, ◌⊕◌}
 use Rattle.leaves.specs.declared.sheet.records.Span.{Span}
@@ -29,12 +29,12 @@ first = record { kind = 0; a = 0; b = 0 }
 -- The block before the next one. validate.rs: "Blank lines beyond the separator change how no block reads, so the
 -- block before each one is the last one before them."
 unfoldable pub before_next : Before → ℕ → ℕ → ℕ → Before
-before_next before kind a b = if eqb kind blank_line then before else record { kind = kind; a = a; b = b }
+before_next before kind a b = when eqb kind blank_line then before else record { kind = kind; a = a; b = b }
 
 -- For the walk by index: the block before the next tree, and the next tree's index where that is a block. A tree that
 -- is not a block changes neither. A reader need not believe these two: `validate_document` does not cite them.
 unfoldable pub before_at : Before → ℕ → ℕ → ℕ → Before
-before_at before kind a b = if is_block kind then before_next before kind a b else before
+before_at before kind a b = when is_block kind then before_next before kind a b else before
 
 unfoldable pub index_at : ℕ → ℕ → ℕ
-index_at k kind = if is_block kind then k + 1 else k
+index_at k kind = when is_block kind then k + 1 else k

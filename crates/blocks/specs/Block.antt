@@ -3,7 +3,7 @@
 -- kind that `validate_own` does not answer goes to `validate_container`, and from there to `validate_leaf`.
 -- `path` is the block's own.
 use Rattle.std.specs.Prelude.{ℕ, List, [], eqb}
-use Rattle.leaves.specs.Text.Lists.{if◌then◌else◌}
+use Rattle.leaves.specs.Text.Lists.{when◌then◌else◌}
 use Rattle.leaves.specs.Sheet.Kinds.{paragraph, heading, alert, list, code_block, html_container, definition}
 use Rattle.leaves.specs.Sheet.Kinds.{footnote_definition, table, frontmatter, leaf_directive, container_directive}
 use Rattle.leaves.specs.Sheet.Forest.{Forest}
@@ -25,17 +25,17 @@ use Rattle.blocks.specs.Table.{validate_table}
 -- that is kept.
 unfoldable pub validate_leaf : List ℕ → List ℕ → Rec → Forest → List Entry
 validate_leaf bytes path r kids =
-    if eqb r.kind paragraph
+    when eqb r.kind paragraph
     then validate_paragraph bytes path r.span kids
-    else if eqb r.kind heading
+    else when eqb r.kind heading
     then (validate_heading path r.span r.a ⊕ validate_inlines bytes path kids)
-    else if eqb r.kind code_block
+    else when eqb r.kind code_block
     then validate_code_block bytes path r.span r.a r.b r.first r.second
-    else if eqb r.kind definition
+    else when eqb r.kind definition
     then validate_definition bytes path r.span r.a r.first r.second
-    else if eqb r.kind frontmatter
+    else when eqb r.kind frontmatter
     then validate_frontmatter bytes path r.span r.level r.a r.first
-    else if eqb r.kind leaf_directive
+    else when eqb r.kind leaf_directive
     then validate_leaf_directive bytes path r.span r.first kids
     else []
 
@@ -43,26 +43,26 @@ validate_leaf bytes path r kids =
 unfoldable pub validate_html : List ℕ → List ℕ → Span → ℕ → Forest → List Entry
 validate_html bytes path span a kids =
     validate_html_container bytes path span kids
-    ⊕ (if eqb a 0 then [] else validate_inlines bytes path kids)
+    ⊕ (when eqb a 0 then [] else validate_inlines bytes path kids)
 
 -- Alerts, lists, HTML containers and container directives, which hold blocks or items. `validate_leaf` takes the rest.
 unfoldable pub validate_container : List ℕ → List ℕ → Rec → Forest → List Entry
 validate_container bytes path r kids =
-    if eqb r.kind alert
+    when eqb r.kind alert
     then validate_alert bytes path r.span r.a r.first
-    else if eqb r.kind list
+    else when eqb r.kind list
     then validate_list path r.span r.c kids
-    else if eqb r.kind html_container
+    else when eqb r.kind html_container
     then validate_html bytes path r.span r.a kids
-    else if eqb r.kind container_directive
+    else when eqb r.kind container_directive
     then validate_container_directive bytes path r.span r.first kids
     else validate_leaf bytes path r kids
 
 -- Footnote definitions and tables, which report at the paths of what they hold. `validate_container` takes the rest.
 unfoldable pub validate_own : List ℕ → List ℕ → Rec → Forest → List Entry
 validate_own bytes path r kids =
-    if eqb r.kind footnote_definition
+    when eqb r.kind footnote_definition
     then validate_footnote_definition path r.span r.first kids
-    else if eqb r.kind table
+    else when eqb r.kind table
     then validate_table bytes path r.span r.a kids
     else validate_container bytes path r kids

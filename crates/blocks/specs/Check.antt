@@ -1,6 +1,6 @@
 -- The answer of the check, and the report that it leaves.
 use Rattle.std.specs.Prelude.{ℕ, not, List, ◌++◌, ltb, length, drop}
-use Rattle.leaves.specs.Text.Lists.{if◌then◌else◌}
+use Rattle.leaves.specs.Text.Lists.{when◌then◌else◌}
 use Rattle.leaves.specs.Report.Entries.{flat}
 use Rattle.leaves.specs.Refusal.Verdict.{Answer, answer, is_accepted}
 use Rattle.leaves.specs.Refusal.Judge.{judge_sheet, sheet_answer}
@@ -14,8 +14,8 @@ use Rattle.blocks.specs.Walk.{validate_document}
 unfoldable pub outcome : List ℕ → List ℕ → List ℕ → Answer × List ℕ
 outcome w bytes report =
     let es = validate_document w bytes in
-    if not (is_accepted (judge_sheet w bytes))
+    when not (is_accepted (judge_sheet w bytes))
     then (sheet_answer w bytes, report)
-    else if ltb (length report) (length (flat es))
+    else when ltb (length report) (length (flat es))
     then (answer short_report 0, report)
     else (answer 0 (length es), flat es ++ drop (length (flat es)) report)

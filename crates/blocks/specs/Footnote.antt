@@ -2,7 +2,7 @@
 -- All that stands under it is a block. Document 01: "blocks under the sheet, quote, alert, item and footnote
 -- definition".
 use Rattle.std.specs.Prelude.{ℕ, suc, true, ◌&&◌, ◌||◌, List, [], ◌∷◌, ◌++◌, eqb}
-use Rattle.leaves.specs.Text.Lists.{if◌then◌else◌}
+use Rattle.leaves.specs.Text.Lists.{when◌then◌else◌}
 use Rattle.leaves.specs.Sheet.Kinds.{blank_line}
 use Rattle.leaves.specs.Sheet.Forest.{Forest, none, tree, count}
 use Rattle.leaves.specs.Report.Entries.{Entry, list_if, ◌⊕◌}
@@ -16,7 +16,7 @@ unfoldable pub blank_line_at : List ℕ → ℕ → Forest → List Entry
 blank_line_at path k none = []
 blank_line_at path k (tree r kids rest) =
     let later = blank_line_at path (suc k) rest in
-    if eqb r.kind blank_line && (eqb k 0 || eqb (count rest) 0)
+    when eqb r.kind blank_line && (eqb k 0 || eqb (count rest) 0)
     then list_if true Rules.blank_line_in_footnote r.span (path ++ k ∷ [])
     else later
 

@@ -3,7 +3,7 @@
 -- All that stands under an item is a block. Document 01: "blocks under the sheet, quote, alert, item and footnote
 -- definition".
 use Rattle.std.specs.Prelude.{ℕ, suc, Bool, false, not, ◌&&◌, List, [], ◌∷◌, ◌++◌, eqb}
-use Rattle.leaves.specs.Text.Lists.{if◌then◌else◌}
+use Rattle.leaves.specs.Text.Lists.{when◌then◌else◌}
 use Rattle.leaves.specs.Sheet.Kinds.{paragraph, definition, blank_line}
 use Rattle.leaves.specs.Sheet.Forest.{Forest, none, tree, count}
 use Rattle.leaves.specs.Report.Entries.{Entry, list_if, ◌⊕◌}
@@ -31,7 +31,7 @@ unfoldable pub opens_with_paragraph : Forest → Bool
 opens_with_paragraph none = false
 opens_with_paragraph (tree r kids rest) =
     let later = opens_with_paragraph rest in
-    if eqb r.kind definition then later else eqb r.kind paragraph && not (eqb (count kids) 0)
+    when eqb r.kind definition then later else eqb r.kind paragraph && not (eqb (count kids) 0)
 
 -- `validate_task_item`: 14, where the item has a checkbox (A is not 0)
 unfoldable pub validate_task_item : List ℕ → Span → ℕ → Forest → List Entry

@@ -1,6 +1,6 @@
 -- Leaf and container directives, up to the walk of their blocks. `path` is the directive's own.
 use Rattle.std.specs.Prelude.{ℕ, List}
-use Rattle.leaves.specs.Text.Lists.{if◌then◌else◌}
+use Rattle.leaves.specs.Text.Lists.{when◌then◌else◌}
 use Rattle.leaves.specs.Sheet.Kinds.{is_block}
 use Rattle.leaves.specs.Sheet.Forest.{Forest, none, tree}
 use Rattle.leaves.specs.Report.Entries.{Entry, ◌⊕◌}
@@ -18,7 +18,7 @@ unfoldable pub before_blocks : Forest → Forest
 before_blocks none = none
 before_blocks (tree r kids rest) =
     let later = tree r kids (before_blocks rest) in
-    if is_block r.kind then none else later
+    when is_block r.kind then none else later
 
 -- A directive up to the walk of its blocks: 54, 55, the label's inlines, and `rule` for each break in the label. 55
 -- passes over the inlines, and the last two pass over the attributes.

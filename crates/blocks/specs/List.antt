@@ -1,6 +1,6 @@
 -- `validate_list`, up to the walk of its items. `path` is the list's own.
 use Rattle.std.specs.Prelude.{ℕ, suc, Bool, false, not, ◌&&◌, List, eqb, ltb}
-use Rattle.leaves.specs.Text.Lists.{if◌then◌else◌}
+use Rattle.leaves.specs.Text.Lists.{when◌then◌else◌}
 use Rattle.leaves.specs.Sheet.Kinds.{blank_line}
 use Rattle.leaves.specs.Sheet.Forest.{Forest, none, tree, count}
 use Rattle.leaves.specs.Report.Entries.{Entry, list_if, ◌⊕◌}
@@ -10,7 +10,7 @@ use Rattle.leaves.specs.Report.Rules
 -- how many blocks are not blank lines
 unfoldable pub count_full : Forest → ℕ
 count_full none = 0
-count_full (tree r kids rest) = if eqb r.kind blank_line then count_full rest else suc (count_full rest)
+count_full (tree r kids rest) = when eqb r.kind blank_line then count_full rest else suc (count_full rest)
 
 -- There is one item alone, and it holds at most one block beside blank lines.
 unfoldable pub holds_one_block : Forest → Bool

@@ -1,6 +1,6 @@
 -- `validate_table`: a table with its rows and cells. `path` is the table's own; rows and cells count from 0.
 use Rattle.std.specs.Prelude.{ℕ, suc, true, not, List, [], ◌∷◌, ◌++◌, eqb}
-use Rattle.leaves.specs.Text.Lists.{if◌then◌else◌}
+use Rattle.leaves.specs.Text.Lists.{when◌then◌else◌}
 use Rattle.leaves.specs.Sheet.Forest.{Forest, none, tree, count}
 use Rattle.leaves.specs.Report.Entries.{Entry, list_if, ◌⊕◌}
 use Rattle.leaves.specs.declared.sheet.records.Span.{Span}
@@ -38,7 +38,7 @@ header_width (tree r kids rest) = count kids
 -- 16 alone; or 17, 18 and the rows. `a` is the table's A, its alignment count.
 unfoldable pub validate_table : List ℕ → List ℕ → Span → ℕ → Forest → List Entry
 validate_table bytes path span a rows =
-    if eqb (count rows) 0
+    when eqb (count rows) 0
     then list_if true Rules.table_without_row span path
     else (list_if (eqb (header_width rows) 0) Rules.table_without_cell span path
     ⊕ list_if (not (eqb a (header_width rows))) Rules.alignment_count span path

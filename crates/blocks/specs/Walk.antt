@@ -3,7 +3,7 @@
 -- A path has an index for each block, item, row and cell from the sheet down. Document 01: "Path indices count blocks,
 -- items, rows and cells only."
 use Rattle.std.specs.Prelude.{ℕ, suc, Bool, List, [], ◌∷◌, ◌++◌, eqb}
-use Rattle.leaves.specs.Text.Lists.{if◌then◌else◌}
+use Rattle.leaves.specs.Text.Lists.{when◌then◌else◌}
 use Rattle.leaves.specs.Sheet.Kinds.{is_block, list}
 use Rattle.leaves.specs.Sheet.Forest.{Forest, none, tree, count, forest_of}
 use Rattle.leaves.specs.Report.Entries.{Entry, ◌⊕◌}
@@ -20,7 +20,7 @@ use Rattle.blocks.specs.Number.{item_number, validate_item_number}
 unfoldable pub validate_block : List ℕ → List ℕ → Rec → Forest → List Entry → List Entry → List Entry
 validate_block bytes path r kids items blocks =
     validate_own bytes path r kids
-    ⊕ (if eqb r.kind list then items else if holds_blocks r.kind r.a then blocks else [])
+    ⊕ (when eqb r.kind list then items else when holds_blocks r.kind r.a then blocks else [])
 
 -- One item. `ordered` and `tight` are the list's A and C: 1 for an ordered list, and 1 for a tight one. `last`: the
 -- item is the list's last. `blocks` are the entries of its blocks.
@@ -41,7 +41,7 @@ unfoldable mutual
       let blocks = validate_blocks bytes (path ++ k ∷ []) 0 first kids in
       let later = validate_blocks bytes path (suc k) (before_next before r.kind r.a r.b) rest in
       let passed = validate_blocks bytes path k before rest in
-      if is_block r.kind
+      when is_block r.kind
       then (validate_taken_block (path ++ k ∷ []) r.span before r.kind r.a r.b
       ⊕ validate_block bytes (path ++ k ∷ []) r kids items blocks
       ⊕ later)

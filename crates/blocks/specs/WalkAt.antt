@@ -1,7 +1,7 @@
 -- What the walk of one block or item asks of its caller, and what one tree among those of `validate_blocks` lists. A
 -- reader need not believe these: `validate_document` does not cite them.
 use Rattle.std.specs.Prelude.{ℕ, ◌+◌, List, [], ◌≡◌}
-use Rattle.leaves.specs.Text.Lists.{if◌then◌else◌}
+use Rattle.leaves.specs.Text.Lists.{when◌then◌else◌}
 use Rattle.leaves.specs.Sheet.Kinds.{is_block}
 use Rattle.leaves.specs.Sheet.Records.{record_at}
 use Rattle.leaves.specs.Sheet.Forest.{Forest}
@@ -23,7 +23,7 @@ unfoldable pub block_at : List ℕ → List ℕ → Before → Rec → Forest �
 block_at bytes path before r kids =
     let items = validate_list_items bytes path 0 r.a r.c kids in
     let blocks = validate_blocks bytes path 0 first kids in
-    if is_block r.kind
+    when is_block r.kind
     then (validate_taken_block path r.span before r.kind r.a r.b
     ⊕ validate_block bytes path r kids items blocks)
     else []

@@ -1,6 +1,6 @@
 // A list, up to the walk of its items.
 ghost use Rattle.std.specs.Prelude.{◌≡◌, ◌+◌, ◌*◌, ◌≤◌, eqb, length};
-ghost use Rattle.leaves.specs.Text.Lists.{if◌then◌else◌};
+ghost use Rattle.leaves.specs.Text.Lists.{when◌then◌else◌};
 ghost use Rattle.leaves.specs.Sheet.Kinds.{blank_line};
 ghost use Rattle.leaves.specs.Sheet.Records.{record_words};
 ghost use Rattle.leaves.specs.Sheet.Forest.{under};
@@ -18,7 +18,7 @@ use leaves::sheet::records::{Span, level_at, record_at};
 // `full` with one block more, which counts where it is not a blank line.
 fn with_block(full: usize, kind: u32) -> usize
     requires { full ≤ most_records }
-    ensures { result ≡ (if eqb kind blank_line then full else full + 1) }
+    ensures { result ≡ (when eqb kind blank_line then full else full + 1) }
 {
     if kind == kinds::BLANK_LINE {
         return full;

@@ -5,7 +5,7 @@ use mathlib.Core.List.{List}
 use Prim.Native.Nat.{ℕ}
 use borrow.Author.Rules.{rules}
 use lib.Dec.{eqb}
-use Rattle.leaves.specs.Text.Lists.{if◌then◌else◌}
+use Rattle.leaves.specs.Text.Lists.{when◌then◌else◌}
 use Rattle.leaves.specs.Sheet.Kinds.{is_inline, line_break}
 use Rattle.leaves.specs.Sheet.Forest.{Forest, none, tree}
 use Rattle.leaves.specs.Report.Entries.{Lists, list_if}
@@ -58,7 +58,7 @@ module _ (bytes : List ℕ) (outer a : ℕ) where
   after-ends c none = refl
   after-ends c (tree r kids rest) = after-ends (with_inline bytes outer a c r) rest ∙ ap (λ b. ends_with_whitespace_after bytes b rest) (go (is_inline r.kind) refl)
     where
-      go : (t : Bool) → is_inline r.kind ≡ t → (with_inline bytes outer a c r).ends ≡ (if not (is_inline r.kind) || is_empty_text r then c.ends else ends_white bytes r)
+      go : (t : Bool) → is_inline r.kind ≡ t → (with_inline bytes outer a c r).ends ≡ (when not (is_inline r.kind) || is_empty_text r then c.ends else ends_white bytes r)
       go true e = rw e
       go false e = rw e
 
@@ -76,7 +76,7 @@ module _ (bytes : List ℕ) (outer a : ℕ) where
   after_last path c none = refl
   after_last path c (tree r kids rest) = after_last path (with_inline bytes outer a c r) rest ∙ ap (λ es. final_break_after path es rest) (go (is_inline r.kind) refl)
     where
-      go : (t : Bool) → is_inline r.kind ≡ t → list_if (with_inline bytes outer a c r).breaks Rules.final_hard_break (with_inline bytes outer a c r).last path ≡ (if is_inline r.kind then list_if (eqb r.kind line_break) Rules.final_hard_break r.span path else list_if c.breaks Rules.final_hard_break c.last path)
+      go : (t : Bool) → is_inline r.kind ≡ t → list_if (with_inline bytes outer a c r).breaks Rules.final_hard_break (with_inline bytes outer a c r).last path ≡ (when is_inline r.kind then list_if (eqb r.kind line_break) Rules.final_hard_break r.span path else list_if c.breaks Rules.final_hard_break c.last path)
       go true e = rw e
       go false e = rw e
 

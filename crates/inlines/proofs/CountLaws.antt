@@ -8,7 +8,7 @@ use native.Mathlib.Omega.{arith}
 use borrow.Author.Tests.{eqb-true}
 use lib.Dec.{eqb}
 use lib.ListN.{length}
-use Rattle.leaves.specs.Text.Lists.{if◌then◌else◌}
+use Rattle.leaves.specs.Text.Lists.{when◌then◌else◌}
 use Rattle.leaves.specs.Sheet.Kinds.{is_inline, html_tag, attribute, text, escape, emphasis, strong, delete, mark, code, link, autolink, image, link_reference, image_reference, html, soft_break, line_break, math, footnote_reference, inline_footnote, wiki_link, text_directive}
 use Rattle.leaves.specs.Sheet.Classes.{is_break, is_link, is_emphasis_container, names_own_value, names_label}
 use Rattle.leaves.specs.Sheet.Forest.{Forest, none, tree, size}
@@ -34,24 +34,24 @@ use Rattle.inlines.specs.Nodes.{validate_node, validate_inline_nodes_after, vali
 -- of the entries of `validate_inline` those with the inline's own span: all but those of its children (30, 42, 55)
 unfoldable pub own_entries : List ℕ → List ℕ → Rec → Forest → List Entry
 own_entries bytes path r kids =
-    if is_emphasis_container r.kind
+    when is_emphasis_container r.kind
     then (list_if (all_empty kids) Rules.empty_emphasis r.span path
     ⊕ list_if (not (all_empty kids) && (starts_with_whitespace bytes kids || ends_with_whitespace bytes kids)) Rules.white_emphasis r.span path
     ⊕ list_if (holds_joined r.kind r.a kids) Rules.joined_emphasis r.span path)
-    else if eqb r.kind link
+    else when eqb r.kind link
     then validate_destination path r.span r.a r.first
-    else if eqb r.kind link_reference
+    else when eqb r.kind link_reference
     then validate_identifier path Rules.empty_link_reference r.span r.first
-    else if eqb r.kind text_directive
+    else when eqb r.kind text_directive
     then validate_directive_name bytes path r.span r.first
-    else if eqb r.kind inline_footnote
+    else when eqb r.kind inline_footnote
     then list_if (no_inline kids) Rules.empty_inline_footnote r.span path
     else validate_inline_values bytes path r
 
 -- as one of the inlines side by side, behind an inline of the kind `before`: 37, 38 and its own
 unfoldable pub node_entries : List ℕ → List ℕ → ℕ → Rec → Forest → List Entry
 node_entries bytes path before r kids =
-    if is_inline r.kind then validate_siblings path r.span before r.kind r.a ⊕ own_entries bytes path r kids else []
+    when is_inline r.kind then validate_siblings path r.span before r.kind r.a ⊕ own_entries bytes path r kids else []
 
 -- as the last of them: 30
 unfoldable pub break_entries : List ℕ → Rec → List Entry
@@ -98,7 +98,7 @@ spent bytes path rule extra before f =
     + length (validate_cell_values bytes path f)
     + sum_roots extra f
 
-either-length : (b : Bool) (x y : List Entry) → length (if b then x else y) ≤ length x + length y
+either-length : (b : Bool) (x y : List Entry) → length (when b then x else y) ≤ length x + length y
 either-length true x y = omega arith
 either-length false x y = omega arith
 
@@ -108,7 +108,7 @@ unfolding final_break_after sum_roots break_entries
 final-after path last none = omega arith
 final-after path last (tree r kids rest) =
     let now = list_if (eqb r.kind line_break) Rules.final_hard_break r.span path in
-    omega (arith, final-after path (if is_inline r.kind then now else last) rest, either-length (is_inline r.kind) now last)
+    omega (arith, final-after path (when is_inline r.kind then now else last) rest, either-length (is_inline r.kind) now last)
 
 pub final-few : (path : List ℕ) (f : Forest) → length (final_break path f) ≤ sum_roots (λ r. length (break_entries path r)) f
 unfolding final_break
@@ -130,7 +130,7 @@ module _ (bytes path : List ℕ) (r : Rec) (kids : Forest) where
 
   -- the links under it, where it is a link itself
   abbrev held_links : ℕ
-  held_links = if is_link r.kind then length (validate_link_text path kids) else 0
+  held_links = when is_link r.kind then length (validate_link_text path kids) else 0
 
   held : is_link r.kind ≡ true → length (validate_link_text path kids) ≤ held_links
   held e = rw e (le_refl _)
@@ -163,7 +163,7 @@ module _ (bytes path : List ℕ) (r : Rec) (kids : Forest) where
 
 -- ---- the trees of a forest, one after the other
 module _ (bytes path : List ℕ) (rule : ℕ) (extra : Rec → ℕ) where
-  nodes-step : (before : ℕ) (r : Rec) (kids rest : Forest) → length (validate_inline_nodes_after bytes path before (tree r kids rest)) ≡ length (validate_node bytes path before r kids (validate_inline_nodes_after bytes path 0 kids)) + length (validate_inline_nodes_after bytes path (if is_inline r.kind then r.kind else before) rest)
+  nodes-step : (before : ℕ) (r : Rec) (kids rest : Forest) → length (validate_inline_nodes_after bytes path before (tree r kids rest)) ≡ length (validate_node bytes path before r kids (validate_inline_nodes_after bytes path 0 kids)) + length (validate_inline_nodes_after bytes path (when is_inline r.kind then r.kind else before) rest)
   unfolding validate_inline_nodes_after
   nodes-step before r kids rest = length-join _ _
 
@@ -191,7 +191,7 @@ module _ (bytes path : List ℕ) (rule : ℕ) (extra : Rec → ℕ) where
   unfolding spent validate_inline_nodes_after sum_roots validate_directive_attributes validate_link_text validate_one_line validate_cell_values each_record
   spent-none before = refl
 
-  pub spent-step : (before : ℕ) (r : Rec) (kids rest : Forest) → spent bytes path rule extra before (tree r kids rest) ≤ length (charged bytes path rule before r kids) + extra r + spent bytes path rule extra 0 kids + spent bytes path rule extra (if is_inline r.kind then r.kind else before) rest
+  pub spent-step : (before : ℕ) (r : Rec) (kids rest : Forest) → spent bytes path rule extra before (tree r kids rest) ≤ length (charged bytes path rule before r kids) + extra r + spent bytes path rule extra 0 kids + spent bytes path rule extra (when is_inline r.kind then r.kind else before) rest
   unfolding spent
   spent-step before r kids rest =
       omega (
@@ -218,7 +218,7 @@ module _ (bytes : List ℕ) (extra : Rec → ℕ) (most : ℕ) (one : EachInline
   unfolding size
   spent-most before none = omega (arith, spent-none bytes path rule extra before)
   spent-most before (tree r kids rest) =
-      omega (arith, spent-step bytes path rule extra before r kids rest, one path rule before r kids, spent-most 0 kids, spent-most (if is_inline r.kind then r.kind else before) rest)
+      omega (arith, spent-step bytes path rule extra before r kids rest, one path rule before r kids, spent-most 0 kids, spent-most (when is_inline r.kind then r.kind else before) rest)
 
 -- the lists that are asked for of one forest
 pub inlines-spent : (bytes path : List ℕ) (rule : ℕ) (extra : Rec → ℕ) (f : Forest) → length (validate_inlines bytes path f) + length (validate_directive_attributes bytes path f) + length (validate_one_line rule path f) + length (validate_cell_values bytes path f) + sum_roots extra f ≤ spent bytes path rule extra 0 f
@@ -230,31 +230,31 @@ inlines-spent bytes path rule extra f = simp length-join (omega (arith, final-fe
 -- an inline's own entries
 unfoldable own_most : ℕ → ℕ
 own_most k =
-    if is_emphasis_container k
+    when is_emphasis_container k
     then 2
-    else if eqb k link
+    else when eqb k link
     then 1
-    else if eqb k link_reference
+    else when eqb k link_reference
     then 1
-    else if eqb k text_directive
+    else when eqb k text_directive
     then 1
-    else if eqb k inline_footnote
+    else when eqb k inline_footnote
     then 1
-    else if eqb k text
+    else when eqb k text
     then 1
-    else if eqb k image
+    else when eqb k image
     then 1
-    else if eqb k image_reference
+    else when eqb k image_reference
     then 1
-    else if eqb k escape
+    else when eqb k escape
     then 1
-    else if eqb k footnote_reference
+    else when eqb k footnote_reference
     then 1
-    else if eqb k wiki_link
+    else when eqb k wiki_link
     then 1
-    else if eqb k code
+    else when eqb k code
     then 2
-    else if eqb k math
+    else when eqb k math
     then 2
     else 0
 
@@ -271,7 +271,7 @@ one_entry b rule span path = record { few = few-if b rule span path }
 pub few-then : {x y : List Entry} {m n : ℕ} → Few x m → Few y n → Few (x ⊕ y) (m + n)
 few-then p q = record { few = simp length-join (omega arith) }
 
-pub few-either : (b : Bool) {x y : List Entry} {m n : ℕ} → Few x m → Few y n → Few (if b then x else y) (if b then m else n)
+pub few-either : (b : Bool) {x y : List Entry} {m n : ℕ} → Few x m → Few y n → Few (when b then x else y) (when b then m else n)
 few-either true p q = p
 few-either false p q = q
 
@@ -311,7 +311,7 @@ own-most bytes path r kids =
 
 -- as one of the inlines side by side: 37 is of a break, and 38 of a strikethrough
 unfoldable siblings_most : ℕ → ℕ
-siblings_most k = if is_break k then 1 else if eqb k delete then 1 else 0
+siblings_most k = when is_break k then 1 else when eqb k delete then 1 else 0
 
 siblings-most : (path : List ℕ) (span : Span) (before k a : ℕ) → Few (validate_siblings path span before k a) (siblings_most k)
 unfolding validate_siblings siblings_most
@@ -322,7 +322,7 @@ siblings-most path span before k a =
     (λ f. kind-cases Most k delete (one_of_two _ _ _ _ _ _ _ (λ e. absurd (false≢true (sym (and-false (is_break before)) ∙ e))))
     (λ g. record { few = rw (e, f, g) (simp (and-false, length-join, length-if) (omega arith)) })))
 
-few-where : (b : Bool) {x : List Entry} {n : ℕ} → Few x n → Few (if b then x else []) n
+few-where : (b : Bool) {x : List Entry} {n : ℕ} → Few x n → Few (when b then x else []) n
 few-where true p = p
 few-where false p = record { few = omega arith }
 
@@ -331,10 +331,10 @@ unfolding node_entries
 node-most bytes path before r kids = few-where (is_inline r.kind) (few-then (siblings-most path r.span before r.kind r.a) (own-most bytes path r kids))
 
 -- as any other
-pub test-entry : (b : Bool) (rule : ℕ) (span : Span) (path : List ℕ) → Few (list_if b rule span path) (if b then 1 else 0)
+pub test-entry : (b : Bool) (rule : ℕ) (span : Span) (path : List ℕ) → Few (list_if b rule span path) (when b then 1 else 0)
 test-entry b rule span path = record { few = rw length-if (le_refl _) }
 
-pub both_entry : (b c : Bool) (rule : ℕ) (span : Span) (path : List ℕ) → Few (list_if (b && c) rule span path) (if b then 1 else 0)
+pub both_entry : (b c : Bool) (rule : ℕ) (span : Span) (path : List ℕ) → Few (list_if (b && c) rule span path) (when b then 1 else 0)
 both_entry true c rule span path = one_entry c rule span path
 both_entry false c rule span path = test-entry false rule span path
 
@@ -342,14 +342,14 @@ both_entry false c rule span path = test-entry false rule span path
 unfoldable in_cell : ℕ → Bool
 in_cell k = names_own_value k || names_label k || eqb k wiki_link
 
-cell-entry : (own label wiki b c : Bool) (rule : ℕ) (span : Span) (path : List ℕ) → Few (list_if ((own || wiki) && b || (label || wiki) && c) rule span path) (if own || label || wiki then 1 else 0)
+cell-entry : (own label wiki b c : Bool) (rule : ℕ) (span : Span) (path : List ℕ) → Few (list_if ((own || wiki) && b || (label || wiki) && c) rule span path) (when own || label || wiki then 1 else 0)
 cell-entry true label wiki b c rule span path = one_entry _ rule span path
 cell-entry false true wiki b c rule span path = one_entry _ rule span path
 cell-entry false false true b c rule span path = one_entry _ rule span path
 cell-entry false false false b c rule span path = test-entry false rule span path
 
 abbrev pub bit : Bool → ℕ
-bit b = if b then 1 else 0
+bit b = when b then 1 else 0
 
 unfoldable charged_most : ℕ → ℕ
 charged_most k = siblings_most k + own_most k + (bit (eqb k line_break) + (bit (eqb k attribute) + (bit (is_link k) + (bit (is_break k) + bit (in_cell k)))))
@@ -370,7 +370,7 @@ entries_of_inline = 3
 
 -- what a container may list of one of its tags
 abbrev pub tag_most : ℕ → ℕ
-tag_most k = if eqb k html_tag then 2 else 0
+tag_most k = when eqb k html_tag then 2 else 0
 
 kind-most : (k : ℕ) → charged_most k + tag_most k ≤ entries_of_inline
 unfolding charged_most siblings_most own_most in_cell

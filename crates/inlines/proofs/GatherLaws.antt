@@ -6,7 +6,7 @@ use Prim.Native.Nat.{ℕ, ◌+◌, ◌<◌, ◌≤◌}
 use borrow.Author.Rules.{rules}
 use borrow.Author.Tests.{not-true, not-false}
 use lib.Dec.{eqb}
-use Rattle.leaves.specs.Text.Lists.{if◌then◌else◌}
+use Rattle.leaves.specs.Text.Lists.{when◌then◌else◌}
 use Rattle.leaves.specs.Sheet.Kinds.{is_inline, line_break}
 use Rattle.leaves.specs.Sheet.Records.{record_at}
 use Rattle.leaves.specs.Sheet.Forest.{under, size}
@@ -25,7 +25,7 @@ module _ (bytes : List ℕ) (outer a : ℕ) (c : Content) (r : Rec) where
   unfolding with_inline
   with-other e f = let g : is_inline r.kind ≡ false = not-true _ (rw e at f) in rw g
 
-  pub with-one : {p e s t j : Bool} {u : Bool} → p ≡ is_inline r.kind → not p ≡ false → e ≡ is_empty_text r → s ≡ starts_white bytes r → t ≡ ends_white bytes r → u ≡ (if e then c.ends else t) → j ≡ is_joined outer a r.kind r.a → record { some = true; empty = c.empty && e; starts = c.starts || c.empty && not e && s; ends = u; joined = not c.some && j; breaks = eqb r.kind line_break; last = r.span } ≡ with_inline bytes outer a c r
+  pub with-one : {p e s t j : Bool} {u : Bool} → p ≡ is_inline r.kind → not p ≡ false → e ≡ is_empty_text r → s ≡ starts_white bytes r → t ≡ ends_white bytes r → u ≡ (when e then c.ends else t) → j ≡ is_joined outer a r.kind r.a → record { some = true; empty = c.empty && e; starts = c.starts || c.empty && not e && s; ends = u; joined = not c.some && j; breaks = eqb r.kind line_break; last = r.span } ≡ with_inline bytes outer a c r
   unfolding with_inline
   with-one {p} g f e s t u j = let h : is_inline r.kind ≡ true = not-false _ (rw g at f) in rw (h, u, t, s, e, j)
 

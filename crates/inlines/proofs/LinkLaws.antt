@@ -5,7 +5,7 @@ use mathlib.Core.List.{List, []}
 use Prim.Native.Nat.{ℕ, ◌+◌, ◌-◌, ◌<◌}
 use native.Mathlib.Omega.{arith}
 use lib.ListN.{length}
-use Rattle.leaves.specs.Text.Lists.{if◌then◌else◌}
+use Rattle.leaves.specs.Text.Lists.{when◌then◌else◌}
 use Rattle.leaves.specs.Sheet.Records.{record_at}
 use Rattle.leaves.specs.Sheet.Forest.{Forest, none, tree, under, size}
 use Rattle.leaves.specs.Report.Entries.{Entry, Lists, list_if, ◌⊕◌}
@@ -25,10 +25,10 @@ links-none path = refl
 
 -- where the loop goes on: behind the kids of a link that was found, else at the next record
 abbrev go_on : List ℕ → ℕ → ℕ → ℕ → Bool → ℕ
-go_on w n i level found = if found then i + 1 + size (under w n (i + 1) level) else i + 1
+go_on w n i level found = when found then i + 1 + size (under w n (i + 1) level) else i + 1
 
 abbrev links_of : List ℕ → Rec → Forest → List Entry
-links_of path r kids = if is_link r.kind then list_if true Rules.link_in_link r.span path else validate_link_text path kids
+links_of path r kids = when is_link r.kind then list_if true Rules.link_in_link r.span path else validate_link_text path kids
 
 links-tree : (path : List ℕ) (r : Rec) (kids rest : Forest) → validate_link_text path (tree r kids rest) ≡ links_of path r kids ⊕ validate_link_text path rest
 unfolding validate_link_text

@@ -6,7 +6,7 @@ use Prim.Native.Nat.{ℕ, ◌+◌, ◌<◌}
 use native.Mathlib.Omega.{arith}
 use borrow.Author.Tests.{not-true, not-false}
 use lib.ListN.{length}
-use Rattle.leaves.specs.Text.Lists.{if◌then◌else◌}
+use Rattle.leaves.specs.Text.Lists.{when◌then◌else◌}
 use Rattle.leaves.specs.Sheet.Kinds.{is_inline}
 use Rattle.leaves.specs.Sheet.Records.{record_at}
 use Rattle.leaves.specs.Sheet.Forest.{Forest, none, under, size}
@@ -44,7 +44,7 @@ pub nodes-none : (bytes path : List ℕ) (before : ℕ) → validate_inline_node
 unfolding validate_inline_nodes_after
 nodes-none bytes path before = refl
 
-nodes-step : (bytes path : List ℕ) (before : ℕ) (w : List ℕ) (n i l : ℕ) → i < n → l < (record_at w i).level → validate_inline_nodes_after bytes path before (under w n i l) ≡ validate_node bytes path before (record_at w i) (under w n (i + 1) (record_at w i).level) (under_of bytes path w n i (record_at w i).level) ⊕ validate_inline_nodes_after bytes path (if is_inline (record_at w i).kind then (record_at w i).kind else before) (under w n (behind_kids w n i) l)
+nodes-step : (bytes path : List ℕ) (before : ℕ) (w : List ℕ) (n i l : ℕ) → i < n → l < (record_at w i).level → validate_inline_nodes_after bytes path before (under w n i l) ≡ validate_node bytes path before (record_at w i) (under w n (i + 1) (record_at w i).level) (under_of bytes path w n i (record_at w i).level) ⊕ validate_inline_nodes_after bytes path (when is_inline (record_at w i).kind then (record_at w i).kind else before) (under w n (behind_kids w n i) l)
 unfolding validate_inline_nodes_after
 nodes-step bytes path before w n i l b d = rw (under-in w n i l b d)
 
@@ -54,10 +54,10 @@ node-here v b e =
     let p = v.start in
     record { start = record { whole = p.whole; few = p.few; shallow = p.shallow; inside = omega arith; short = p.short }; is = rw e }
 
-pub nodes-turn : (bytes : List ℕ) (before : ℕ) {path w : List ℕ} {n from level : ℕ} {es : List Entry} {s : Tally} {x : List ℕ} {i : ℕ} {t : Tally} {y : List ℕ} → Loop es (validate_inline_nodes_after bytes path before) w path n from level s x i t y → {z : List ℕ} {r : Rec} {f : Bool} {b : ℕ} {q : Walked} → i < n → r ≡ record_at w i → level < r.level → Done w n (i + 1) r.level (validate_node bytes path before (record_at w i) (under w n (i + 1) r.level) (under_of bytes path w n i r.level)) t y q z → f ≡ is_inline r.kind → b ≡ (if f then r.kind else before) → length z ≡ length y → Loop es (validate_inline_nodes_after bytes path b) w path n from level s x q.next q.tally z
+pub nodes-turn : (bytes : List ℕ) (before : ℕ) {path w : List ℕ} {n from level : ℕ} {es : List Entry} {s : Tally} {x : List ℕ} {i : ℕ} {t : Tally} {y : List ℕ} → Loop es (validate_inline_nodes_after bytes path before) w path n from level s x i t y → {z : List ℕ} {r : Rec} {f : Bool} {b : ℕ} {q : Walked} → i < n → r ≡ record_at w i → level < r.level → Done w n (i + 1) r.level (validate_node bytes path before (record_at w i) (under w n (i + 1) r.level) (under_of bytes path w n i r.level)) t y q z → f ≡ is_inline r.kind → b ≡ (when f then r.kind else before) → length z ≡ length y → Loop es (validate_inline_nodes_after bytes path b) w path n from level s x q.next q.tally z
 nodes-turn bytes before {path} {w} {n} {from} {level} {i = i} v {r = r} {f} {b} {q} h e d k g l o =
     let d' : level < (record_at w i).level = rw e at d in
-    let l' : b ≡ (if is_inline (record_at w i).kind then (record_at w i).kind else before) = rw (g, e) at l in
+    let l' : b ≡ (when is_inline (record_at w i).kind then (record_at w i).kind else before) = rw (g, e) at l in
     let k' : Done w n (i + 1) (record_at w i).level _ _ _ q _ = rw e at k in
     rw (l', k'.next) (loop-turn v (skip-tree w n from level v.at h d') (nodes-step bytes path before w n i level h d') k'.lists o)
 

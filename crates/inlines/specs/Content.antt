@@ -2,7 +2,7 @@
 -- The inlines are trees of a forest; trees of another sort (attributes, tags, blocks) are passed over.
 -- `path` is the path of the enclosing block or cell.
 use Rattle.std.specs.Prelude.{ℕ, Bool, true, false, not, ◌&&◌, ◌||◌, List, [], eqb}
-use Rattle.leaves.specs.Text.Lists.{if◌then◌else◌}
+use Rattle.leaves.specs.Text.Lists.{when◌then◌else◌}
 use Rattle.leaves.specs.Sheet.Kinds.{is_inline, line_break}
 use Rattle.leaves.specs.Sheet.Forest.{Forest, none, tree}
 use Rattle.leaves.specs.Report.Entries.{Entry, list_if}
@@ -26,7 +26,7 @@ unfoldable pub starts_with_whitespace : List ℕ → Forest → Bool
 starts_with_whitespace bytes none = false
 starts_with_whitespace bytes (tree r kids rest) =
     let later = starts_with_whitespace bytes rest in
-    if not (is_inline r.kind) || is_empty_text r then later else starts_white bytes r
+    when not (is_inline r.kind) || is_empty_text r then later else starts_white bytes r
 
 -- `ends_with_whitespace`: the last inline that is not an empty text ends with white space.
 -- `last` is the answer for the inlines before these trees.
@@ -34,7 +34,7 @@ unfoldable pub ends_with_whitespace_after : List ℕ → Bool → Forest → Boo
 ends_with_whitespace_after bytes last none = last
 ends_with_whitespace_after bytes last (tree r kids rest) =
     ends_with_whitespace_after bytes
-    (if not (is_inline r.kind) || is_empty_text r then last else ends_white bytes r)
+    (when not (is_inline r.kind) || is_empty_text r then last else ends_white bytes r)
     rest
 
 unfoldable pub ends_with_whitespace : List ℕ → Forest → Bool
@@ -46,7 +46,7 @@ unfoldable pub holds_joined : ℕ → ℕ → Forest → Bool
 holds_joined outer a none = false
 holds_joined outer a (tree r kids rest) =
     let later = holds_joined outer a rest in
-    if is_inline r.kind then is_joined outer a r.kind r.a && no_inline rest else later
+    when is_inline r.kind then is_joined outer a r.kind r.a && no_inline rest else later
 
 -- The first part of `validate_inlines`: 30, where the last inline is a line break.
 -- `last` is the list for the inlines before these trees.
@@ -54,7 +54,7 @@ unfoldable pub final_break_after : List ℕ → List Entry → Forest → List E
 final_break_after path last none = last
 final_break_after path last (tree r kids rest) =
     final_break_after path
-    (if is_inline r.kind then list_if (eqb r.kind line_break) Rules.final_hard_break r.span path else last)
+    (when is_inline r.kind then list_if (eqb r.kind line_break) Rules.final_hard_break r.span path else last)
     rest
 
 unfoldable pub final_break : List ℕ → Forest → List Entry

@@ -1,7 +1,7 @@
 -- What the code gathers in one pass over inlines side by side. No contract of a public function cites these
 -- definitions: `ContentLaws` proves that they agree with those of `Content`.
 use Rattle.std.specs.Prelude.{ℕ, true, false, not, ◌&&◌, ◌||◌, List, eqb}
-use Rattle.leaves.specs.Text.Lists.{if◌then◌else◌}
+use Rattle.leaves.specs.Text.Lists.{when◌then◌else◌}
 use Rattle.leaves.specs.Sheet.Kinds.{is_inline, line_break}
 use Rattle.leaves.specs.Sheet.Forest.{Forest, none, tree}
 use Rattle.leaves.specs.declared.sheet.records.Rec.{Rec}
@@ -26,12 +26,12 @@ no_content = record {
 -- changes nothing.
 unfoldable pub with_inline : List ℕ → ℕ → ℕ → Content → Rec → Content
 with_inline bytes outer a c r =
-    if is_inline r.kind
+    when is_inline r.kind
     then record {
       some = true;
       empty = c.empty && is_empty_text r;
       starts = c.starts || c.empty && not (is_empty_text r) && starts_white bytes r;
-      ends = if is_empty_text r then c.ends else ends_white bytes r;
+      ends = when is_empty_text r then c.ends else ends_white bytes r;
       joined = not c.some && is_joined outer a r.kind r.a;
       breaks = eqb r.kind line_break;
       last = r.span;

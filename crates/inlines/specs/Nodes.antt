@@ -3,7 +3,7 @@
 -- `path` is the path of the enclosing block or cell. The definitions of `Content`, `Own` and `Node` can be used from
 -- here too.
 use Rattle.std.specs.Prelude.{ℕ, List, []}
-use Rattle.leaves.specs.Text.Lists.{if◌then◌else◌}
+use Rattle.leaves.specs.Text.Lists.{when◌then◌else◌}
 use Rattle.leaves.specs.Sheet.Kinds.{is_inline}
 use Rattle.leaves.specs.Sheet.Forest.{Forest, none, tree}
 use Rattle.leaves.specs.Report.Entries.{Entry, ◌⊕◌}
@@ -19,7 +19,7 @@ unfoldable pub use Rattle.inlines.specs.Node.{validate_text_directive, validate_
 -- of its children. Every kind that has children walks them last.
 unfoldable pub validate_node : List ℕ → List ℕ → ℕ → Rec → Forest → List Entry → List Entry
 validate_node bytes path before r kids under =
-    if is_inline r.kind
+    when is_inline r.kind
     then validate_siblings path r.span before r.kind r.a ⊕ validate_inline bytes path r kids ⊕ under
     else []
 
@@ -29,7 +29,7 @@ validate_inline_nodes_after bytes path before none = []
 validate_inline_nodes_after bytes path before (tree r kids rest) =
     let under = validate_inline_nodes_after bytes path 0 kids in
     validate_node bytes path before r kids under
-    ⊕ validate_inline_nodes_after bytes path (if is_inline r.kind then r.kind else before) rest
+    ⊕ validate_inline_nodes_after bytes path (when is_inline r.kind then r.kind else before) rest
 
 unfoldable pub validate_inline_nodes : List ℕ → List ℕ → Forest → List Entry
 validate_inline_nodes bytes path f = validate_inline_nodes_after bytes path 0 f

@@ -1,6 +1,6 @@
 // Links in the text of a link.
 ghost use Rattle.std.specs.Prelude.{◌≡◌, ◌+◌, ◌*◌, ◌<◌, ◌≤◌, length};
-ghost use Rattle.leaves.specs.Text.Lists.{if◌then◌else◌};
+ghost use Rattle.leaves.specs.Text.Lists.{when◌then◌else◌};
 ghost use Rattle.leaves.specs.Sheet.Records.{record_words};
 ghost use Rattle.leaves.specs.Sheet.Forest.{under, size};
 ghost use Rattle.inlines.specs.Link.{validate_link_text};
@@ -16,7 +16,7 @@ use leaves::sheet::{classes, records};
 // next.
 fn past_link(sheet: &[u32], n: usize, i: usize, found: bool, level: u32) -> usize
     requires { (n * record_words ≤ length sheet.now) × (i < n) }
-    ensures { result ≡ (if found then i + 1 + size (under sheet.now n (i + 1) level) else i + 1) }
+    ensures { result ≡ (when found then i + 1 + size (under sheet.now n (i + 1) level) else i + 1) }
 {
     if found {
         return skip(sheet, n, i + 1, level);

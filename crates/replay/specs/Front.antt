@@ -1,6 +1,6 @@
 -- The exported functions by number, each lent the front of some words as its report or its marks.
 use Rattle.std.specs.Prelude.{ℕ, ◌+◌, ◌*◌, ◌^◌, List, ◌++◌, eqb, ltb, length, take, drop}
-use Rattle.leaves.specs.Text.Lists.{if◌then◌else◌}
+use Rattle.leaves.specs.Text.Lists.{when◌then◌else◌}
 use Rattle.blocks.specs.Check.{outcome}
 use Rattle.leaves.specs.Refusal.Verdict.{Answer}
 use Rattle.setter.specs.Setting.{setting_of}
@@ -24,9 +24,9 @@ the_machine = 1
 -- function has the number: no answer, and the words as they were.
 unfoldable pub called_of : ℕ → List ℕ → List ℕ → List ℕ → ℕ × List ℕ
 called_of function w bytes lent =
-    if eqb function the_check
+    when eqb function the_check
     then (packed (outcome w bytes lent).0, (outcome w bytes lent).1)
-    else if eqb function the_machine
+    else when eqb function the_machine
     then (packed (setting_of w bytes lent).0, (setting_of w bytes lent).1)
     else (no_answer, lent)
 
@@ -34,6 +34,6 @@ called_of function w bytes lent =
 -- words as they were.
 unfoldable pub answered_of : ℕ → List ℕ → List ℕ → List ℕ → ℕ → ℕ × List ℕ
 answered_of function w bytes lent m =
-    if ltb (length lent) m
+    when ltb (length lent) m
     then (no_answer, lent)
     else ((called_of function w bytes (take m lent)).0, (called_of function w bytes (take m lent)).1 ++ drop m lent)

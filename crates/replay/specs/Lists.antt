@@ -1,6 +1,6 @@
 -- Stored sheets of one paragraph, each with the list of its inlines.
 use Rattle.std.specs.Prelude.{ℕ, ◌+◌, ◌*◌, Bool, ◌&&◌, List, [], ◌∷◌, eqb, leb, ltb, replicate}
-use Rattle.leaves.specs.Text.Lists.{if◌then◌else◌}
+use Rattle.leaves.specs.Text.Lists.{when◌then◌else◌}
 use Rattle.leaves.specs.Text.Part.{part_of}
 use Rattle.leaves.specs.Sheet.Records.{records_of}
 use Rattle.leaves.specs.Sheet.Forest.{under}
@@ -22,9 +22,9 @@ inlines_of w bytes = validate_inlines bytes (0 ∷ []) (under w (records_of w) 1
 -- the report as it was.
 unfoldable pub listed_of : List ℕ → List ℕ → List ℕ → ℕ × List ℕ
 listed_of w bytes report =
-    if ltb (records_of w) 1
+    when ltb (records_of w) 1
     then (0, report)
-    else if is_accepted (judge_sheet w bytes)
+    else when is_accepted (judge_sheet w bytes)
     then ((after start (inlines_of w bytes)).words, put report start (inlines_of w bytes))
     else (0, report)
 

@@ -1,6 +1,6 @@
 -- Stored calls with a long sheet or a long text.
 use Rattle.std.specs.Prelude.{ℕ, zero, suc, ◌%◌, ◌&&◌, List, eqb, leb, length, replicate}
-use Rattle.leaves.specs.Text.Lists.{if◌then◌else◌}
+use Rattle.leaves.specs.Text.Lists.{when◌then◌else◌}
 use Rattle.leaves.specs.Text.Part.{part_of}
 use Rattle.leaves.specs.Sheet.Kinds.{thematic_break}
 use Rattle.leaves.specs.Sheet.Records.{record_words}
@@ -13,7 +13,7 @@ use Rattle.replay.specs.Checks.{before}
 
 -- a word of a thematic break at level 1, by its field: the kind, the level, and 0 for each field behind them
 unfoldable pub break_word : ℕ → ℕ
-break_word field = if eqb field 0 then thematic_break else if eqb field 1 then 1 else 0
+break_word field = when eqb field 0 then thematic_break else when eqb field 1 then 1 else 0
 
 -- n words of thematic breaks at level 1, one after another
 unfoldable pub breaks_of : ℕ → List ℕ

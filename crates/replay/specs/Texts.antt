@@ -1,7 +1,7 @@
 -- Stored texts, each with the fourteen answers of the functions that take a text.
 use Rattle.std.specs.Prelude.{ℕ, ◌/◌, ◌%◌, Bool, List, eqb}
 use Rattle.std.specs.Bool.{beq}
-use Rattle.leaves.specs.Text.Lists.{if◌then◌else◌}
+use Rattle.leaves.specs.Text.Lists.{when◌then◌else◌}
 use Rattle.leaves.specs.Text.Fence.{holds_fence_line}
 use Rattle.leaves.specs.Text.Lines.{holds_line_ending, is_blank}
 use Rattle.leaves.specs.Text.Edges.{has_blank_edge_line}
@@ -24,7 +24,7 @@ is_set bits weight = eqb (bits / weight % 2) 1
 -- an answer is compared with its bit of `bits` where that bit is set in `mask`
 unfoldable pub compared_bit : ℕ → ℕ → ℕ → Bool → Tally → Tally
 compared_bit mask bits weight answer t =
-    if is_set mask weight then comparing (beq answer (is_set bits weight)) t else t
+    when is_set mask weight then comparing (beq answer (is_set bits weight)) t else t
 
 -- the first seven answers are compared, each with its bit
 unfoldable pub first_seven : List ℕ → ℕ → ℕ → Tally → Tally

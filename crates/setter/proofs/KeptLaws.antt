@@ -8,7 +8,7 @@ use native.Mathlib.Omega.{arith}
 use lib.Dec.{eqb, ltb}
 use lib.ListN.{length}
 use borrow.Author.Tests.{eq-eqb, ltb-true, ltb-false, le-leb}
-use Rattle.leaves.specs.Text.Lists.{if◌then◌else◌}
+use Rattle.leaves.specs.Text.Lists.{when◌then◌else◌}
 use Rattle.leaves.specs.Text.Bytes.{between}
 use Rattle.leaves.specs.Sheet.Kinds.{list, blank_line, item}
 use Rattle.leaves.specs.declared.sheet.records.Rec.{Rec}
@@ -26,7 +26,7 @@ some-marker : (a b : ℕ) → eqb 0 (written_marker a b) ≡ false
 unfolding written_marker
 some-marker a b = go (eqb a 1) (eqb b 4) (eqb b 1) (eqb b 2)
   where
-    go : (t u v w : Bool) → eqb 0 (if t then (if u then 0x29 else 0x2E) else if v then 0x2A else if w then 0x2B else 0x2D) ≡ false
+    go : (t u v w : Bool) → eqb 0 (when t then (when u then 0x29 else 0x2E) else when v then 0x2A else when w then 0x2B else 0x2D) ≡ false
     go true true v w = refl
     go true false v w = refl
     go false u true w = refl
@@ -39,7 +39,7 @@ unfolding marker_behind behind_list
 joins-kept [] r = some-marker r.a r.b
 joins-kept (s ∷ ss) r = go (eqb s.kind blank_line) (eqb s.kind list) (joins-kept ss r)
   where
-    go : (t u : Bool) → eqb (marker_behind ss) (written_marker r.a r.b) ≡ behind_list ss r → eqb (if t then marker_behind ss else if u then written_marker s.a s.b else 0) (written_marker r.a r.b) ≡ (if t then behind_list ss r else u && eqb (written_marker s.a s.b) (written_marker r.a r.b))
+    go : (t u : Bool) → eqb (marker_behind ss) (written_marker r.a r.b) ≡ behind_list ss r → eqb (when t then marker_behind ss else when u then written_marker s.a s.b else 0) (written_marker r.a r.b) ≡ (when t then behind_list ss r else u && eqb (written_marker s.a s.b) (written_marker r.a r.b))
     go true u e = e
     go false true e = refl
     go false false e = some-marker r.a r.b
@@ -70,7 +70,7 @@ unfolding Small
 lowest-small m bytes r s [] h = omega arith
 lowest-small m bytes r s (t ∷ ts) h = go (same_moment m t.moment && t.holds bytes r s) (lowest-small m bytes r s ts h.1)
   where
-    go : (b : Bool) → lowest m bytes r s ts ≤ last_stop → (if b then t.stop else lowest m bytes r s ts) ≤ last_stop
+    go : (b : Bool) → lowest m bytes r s ts ≤ last_stop → (when b then t.stop else lowest m bytes r s ts) ≤ last_stop
     go true later = h.0
     go false later = later
 
@@ -108,7 +108,7 @@ plain-small r bad e =
     let most : r.c ≤ most_c r.kind r.b = ltb-false _ _ (or_right (ltb (most_a r.kind) r.a || ltb (most_b r.kind r.a) r.b) (ltb (most_c r.kind r.b) r.c) (or_left _ (is_surrogate r.kind r.a) numbers)) in
     go (eqb r.kind list) (rw e at most)
   where
-    go : (t : Bool) → r.c ≤ (if t then 1 else 0) → r.c ≤ 1
+    go : (t : Bool) → r.c ≤ (when t then 1 else 0) → r.c ≤ 1
     go true h = h
     go false h = omega arith
 

@@ -10,7 +10,7 @@ use borrow.Author.Tests.{ltb-true, ltb-false, le-leb, lt-leb, leb-true, leb-fals
 use lib.Dec.{eqb, ltb, leb}
 use lib.ListN.{length, get_or, set, replicate, length-set}
 use lib.Seq.{get_or-set_same, get_or-set_other}
-use Rattle.leaves.specs.Text.Lists.{if◌then◌else◌}
+use Rattle.leaves.specs.Text.Lists.{when◌then◌else◌}
 use Rattle.leaves.specs.Sheet.Records.{record_words, records_of, record_at}
 use Rattle.leaves.specs.Sheet.Forest.{records_from}
 use Rattle.leaves.specs.declared.sheet.records.Rec.{Rec}
@@ -171,7 +171,7 @@ module _ (w bytes old : List ℕ) (n : ℕ) (new : List ℕ) (os : List Kept) (d
   next-some : 1 ≤ next_level w n i
   next-some = go (leb n i) refl
     where
-      go : (b : Bool) → leb n i ≡ b → 1 ≤ (if b then 1 else (record_at w i).level)
+      go : (b : Bool) → leb n i ≡ b → 1 ≤ (when b then 1 else (record_at w i).level)
       go true e = omega arith
       go false e = let h : i < n = leb-false n i e in (deep-at w bytes v.ok i (omega (arith, v.all))).some
 
@@ -215,7 +215,7 @@ module _ (w bytes old : List ℕ) (n : ℕ) (new : List ℕ) (os : List Kept) (d
 mark-small : (r : Rec) (before m : ℕ) → (r.b ≡ 1 → r.c ≤ most_own_number) → before ≤ most_own_number + m → item_mark r before ≤ most_own_number + suc m
 mark-small r before m own h = go (eqb r.b 1) refl
   where
-    go : (t : Bool) → eqb r.b 1 ≡ t → (if t then r.c else before + 1) ≤ most_own_number + suc m
+    go : (t : Bool) → eqb r.b 1 ≡ t → (when t then r.c else before + 1) ≤ most_own_number + suc m
     go true e = omega (arith, own (eqb-true _ _ e))
     go false e = omega arith
 

@@ -2,7 +2,7 @@
 -- texts that both accept, with the whole table of stops in it, and not a statement for each stop or rule. Its list is
 -- the entries the check wrote; its run and stop are the machine's on the same sheet and text." The table is `stops`.
 use Rattle.std.specs.Prelude.{ℕ, ◌+◌, ◌<◌, ◌≤◌, ◌≡◌, ◌⊎◌, ◌↔◌, true, List, [], ◌∷◌, ◌++◌, eqb}
-use Rattle.leaves.specs.Text.Lists.{if◌then◌else◌}
+use Rattle.leaves.specs.Text.Lists.{when◌then◌else◌}
 use Rattle.leaves.specs.Sheet.Records.{records_of}
 use Rattle.leaves.specs.Report.Entries.{Entry}
 use Rattle.blocks.specs.Walk.{validate_document}
@@ -32,13 +32,13 @@ Told s p e = (beside s e.rule ≡ true) × Begins p e.path
 -- ---- how often record i is opened, and closed
 unfoldable pub times_opened : ℕ → List Step → ℕ
 times_opened i [] = 0
-times_opened i (opens f around ∷ ss) = (if eqb f.at i then 1 else 0) + times_opened i ss
+times_opened i (opens f around ∷ ss) = (when eqb f.at i then 1 else 0) + times_opened i ss
 times_opened i (closes f around ∷ ss) = times_opened i ss
 
 unfoldable pub times_closed : ℕ → List Step → ℕ
 times_closed i [] = 0
 times_closed i (opens f around ∷ ss) = times_closed i ss
-times_closed i (closes f around ∷ ss) = (if eqb f.at i then 1 else 0) + times_closed i ss
+times_closed i (closes f around ∷ ss) = (when eqb f.at i then 1 else 0) + times_closed i ss
 
 -- a run that goes through the whole sheet
 pub record Whole (w : List ℕ) (r : Run) : Type 0 where

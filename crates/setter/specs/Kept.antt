@@ -1,7 +1,7 @@
 -- What the machine's code keeps of an open record, in place of the records themselves. A reader need not believe these:
 -- the machine's promise does not cite them.
 use Rattle.std.specs.Prelude.{ℕ, ◌+◌, Bool, true, false, ◌&&◌, ◌||◌, List, [], ◌∷◌, eqb, length}
-use Rattle.leaves.specs.Text.Lists.{if◌then◌else◌}
+use Rattle.leaves.specs.Text.Lists.{when◌then◌else◌}
 use Rattle.leaves.specs.Sheet.Kinds.{among, is_inline, list, table, blank_line, link, link_reference}
 use Rattle.leaves.specs.declared.sheet.records.Rec.{Rec}
 use Rattle.leaves.specs.Sheet.Classes.{is_break}
@@ -25,9 +25,9 @@ most_item_mark = most_own_number + most_kids
 -- other kind
 abbrev pub next_marker : Rec → ℕ → ℕ
 next_marker r before =
-    if eqb r.kind blank_line
+    when eqb r.kind blank_line
     then before
-    else if eqb r.kind list
+    else when eqb r.kind list
     then written_marker r.a r.b
     else 0
 
@@ -74,8 +74,8 @@ unfoldable pub opened_in : ℕ → Rec → Kept → Kept
 opened_in i r k =
     record {
       at = i;
-      columns = if eqb r.kind table then r.a else k.columns;
-      nearest = if is_inline r.kind then k.nearest else r.kind;
+      columns = when eqb r.kind table then r.a else k.columns;
+      nearest = when is_inline r.kind then k.nearest else r.kind;
       linked = among r.kind (link ∷ link_reference ∷ []) || k.linked;
       ordered = eqb r.a 1;
       kids = 0;

@@ -2,7 +2,7 @@
 -- `Steps`, its stops in `Stops`, its marks in `Marks`.
 -- "It works from the sheet and its text alone, without the checker or its list."
 use Rattle.std.specs.Prelude.{ℕ, suc, ◌≡◌, Bool, ◌||◌, List, [], ◌∷◌, ◌++◌, eqb}
-use Rattle.leaves.specs.Text.Lists.{if◌then◌else◌}
+use Rattle.leaves.specs.Text.Lists.{when◌then◌else◌}
 use Rattle.leaves.specs.Sheet.Kinds.{is_block, item}
 use Rattle.leaves.specs.Sheet.Records.{records_of}
 use Rattle.leaves.specs.declared.sheet.records.Rec.{Rec}
@@ -21,21 +21,21 @@ in_path kind = is_block kind || eqb kind item
 -- how many blocks or items are among the siblings
 unfoldable pub position : List Rec → ℕ
 position [] = 0
-position (s ∷ ss) = if in_path s.kind then suc (position ss) else position ss
+position (s ∷ ss) = when in_path s.kind then suc (position ss) else position ss
 
 -- the path of the innermost open record, or of the block or item around it
 unfoldable pub path_of : List Frame → List ℕ
 path_of [] = []
 path_of (f ∷ around) =
     let outer = path_of around in
-    if in_path f.of.kind then outer ++ position (siblings around) ∷ [] else outer
+    when in_path f.of.kind then outer ++ position (siblings around) ∷ [] else outer
 
 -- the path of the innermost open block
 unfoldable pub block_path : List Frame → List ℕ
 block_path [] = []
 block_path (f ∷ around) =
     let outer = block_path around in
-    if is_block f.of.kind then path_of (f ∷ around) else outer
+    when is_block f.of.kind then path_of (f ∷ around) else outer
 
 -- what is open at an opening or a closing, its own record first
 abbrev pub open_at : Step → List Frame
@@ -71,7 +71,7 @@ unfoldable pub run_of : List ℕ → List Step → Run
 run_of bytes [] = record { steps = []; end = reached }
 run_of bytes (s ∷ ss) =
     let later = step_then s (run_of bytes ss) in
-    if eqb (stop_of bytes s) 0 then later else record { steps = []; end = stopped (stop_of bytes s) s }
+    when eqb (stop_of bytes s) 0 then later else record { steps = []; end = stopped (stop_of bytes s) s }
 
 -- the run of a sheet and its text
 unfoldable pub run : List ℕ → List ℕ → Run

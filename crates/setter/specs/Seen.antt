@@ -1,7 +1,7 @@
 -- What the stops and the marks of the setting machine go by: what is open around a record, its siblings before it, and
 -- its own children that have closed.
 use Rattle.std.specs.Prelude.{ℕ, ◌+◌, Bool, true, false, ◌&&◌, ◌||◌, List, [], ◌∷◌, eqb, length}
-use Rattle.leaves.specs.Text.Lists.{if◌then◌else◌}
+use Rattle.leaves.specs.Text.Lists.{when◌then◌else◌}
 use Rattle.leaves.specs.Sheet.Kinds.{among, is_inline, list, table, blank_line}
 use Rattle.leaves.specs.Sheet.Kinds.{text, link, link_reference, soft_break, line_break}
 use Rattle.leaves.specs.declared.sheet.records.Rec.{Rec}
@@ -16,12 +16,12 @@ siblings (f ∷ around) = f.kids
 -- A of the nearest open table; 0 where there is none
 unfoldable pub columns : List Frame → ℕ
 columns [] = 0
-columns (f ∷ around) = let outer = columns around in if eqb f.of.kind table then f.of.a else outer
+columns (f ∷ around) = let outer = columns around in when eqb f.of.kind table then f.of.a else outer
 
 -- the kind of the "nearest open non-inline"; 0 for the sheet
 unfoldable pub nearest : List Frame → ℕ
 nearest [] = 0
-nearest (f ∷ around) = let outer = nearest around in if is_inline f.of.kind then outer else f.of.kind
+nearest (f ∷ around) = let outer = nearest around in when is_inline f.of.kind then outer else f.of.kind
 
 -- a link or link reference is open, "at any depth"
 unfoldable pub in_link : List Frame → Bool
@@ -43,7 +43,7 @@ unfoldable pub behind_list : List Rec → Rec → Bool
 behind_list [] r = false
 behind_list (s ∷ ss) r =
     let before = behind_list ss r in
-    if eqb s.kind blank_line
+    when eqb s.kind blank_line
     then before
     else eqb s.kind list && eqb (written_marker s.a s.b) (written_marker r.a r.b)
 
@@ -55,7 +55,7 @@ only_empty (s ∷ ss) = (eqb s.kind text && eqb s.first.len 0) && only_empty ss
 -- the number of an ordered item: its "own number, else the item before plus 1, else 1", where `before` is that of the
 -- item before, and 0 where there is none
 abbrev pub item_mark : Rec → ℕ → ℕ
-item_mark r before = if eqb r.b 1 then r.c else before + 1
+item_mark r before = when eqb r.b 1 then r.c else before + 1
 
 -- the number of the newest of those items; 0 where there is none
 unfoldable pub last_mark : List Rec → ℕ

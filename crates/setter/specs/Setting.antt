@@ -1,6 +1,6 @@
 -- The answer of the setting machine, and the marks that it leaves.
 use Rattle.std.specs.Prelude.{ℕ, not, List, ltb, length}
-use Rattle.leaves.specs.Text.Lists.{if◌then◌else◌}
+use Rattle.leaves.specs.Text.Lists.{when◌then◌else◌}
 use Rattle.leaves.specs.Sheet.Records.{records_of}
 use Rattle.leaves.specs.Refusal.Verdict.{Answer, answer, is_accepted}
 use Rattle.leaves.specs.Refusal.Judge.{judge_sheet, sheet_answer}
@@ -16,8 +16,8 @@ after_run w bytes marks = (run_answer w bytes, marks_of (run w bytes).steps mark
 -- record; then 10 ..; then .. 12 for the setter": "fewer marks than records". "A refusal .. changes no lent word."
 unfoldable pub setting_of : List ℕ → List ℕ → List ℕ → Answer × List ℕ
 setting_of w bytes marks =
-    if not (is_accepted (judge_sheet w bytes))
+    when not (is_accepted (judge_sheet w bytes))
     then (refused_as (sheet_answer w bytes), marks)
-    else if ltb (length marks) (records_of w)
+    else when ltb (length marks) (records_of w)
     then (refused_as (answer short_marks 0), marks)
     else after_run w bytes marks

@@ -2,7 +2,7 @@
 -- innermost first: before a record opens, it closes every open one of that level or deeper; after the last, all that
 -- are open, and then it is at the end."
 use Rattle.std.specs.Prelude.{ℕ, suc, List, [], ◌∷◌, ◌++◌, leb}
-use Rattle.leaves.specs.Text.Lists.{if◌then◌else◌}
+use Rattle.leaves.specs.Text.Lists.{when◌then◌else◌}
 use Rattle.leaves.specs.Sheet.Records.{records_of}
 use Rattle.leaves.specs.Sheet.Forest.{records_from}
 use Rattle.leaves.specs.declared.sheet.records.Rec.{Rec}
@@ -49,14 +49,14 @@ unfoldable pub closings : ℕ → Frame → List Frame → List Step
 closings l f [] = []
 closings l f (g ∷ around) =
     let later = closings l (with_kid f.of g) around in
-    if leb l f.of.level then closes f (g ∷ around) ∷ later else []
+    when leb l f.of.level then closes f (g ∷ around) ∷ later else []
 
 -- what is open after those closings
 unfoldable pub remain : ℕ → Frame → List Frame → Opened
 remain l f [] = record { top = f; around = [] }
 remain l f (g ∷ around) =
     let later = remain l (with_kid f.of g) around in
-    if leb l f.of.level then later else record { top = f; around = g ∷ around }
+    when leb l f.of.level then later else record { top = f; around = g ∷ around }
 
 -- the openings and closings from record i on, where o is open
 unfoldable pub steps_from : Opened → ℕ → List Rec → List Step

@@ -6,7 +6,7 @@ use Prim.Native.Nat.{ℕ, ◌+◌, ◌<◌, ◌≤◌}
 use native.Mathlib.Omega.{arith}
 use borrow.Author.Tests.{ltb-false, eqb-false}
 use lib.Dec.{eqb, ltb}
-use Rattle.leaves.specs.Text.Lists.{if◌then◌else◌}
+use Rattle.leaves.specs.Text.Lists.{when◌then◌else◌}
 use Rattle.leaves.specs.Sheet.Kinds.{is_kind}
 use Rattle.leaves.specs.Refusal.Places.{misplaced}
 use Rattle.leaves.specs.Refusal.Fields.{bad_field}
@@ -31,7 +31,7 @@ pub passed : (bytes : List ℕ) (i : ℕ) (r : Rec) (before : ℕ) (o : Open) �
 unfolding judge judge_texts
 passed bytes i r before o = go (is_kind r.kind) (bad_level before r.level) (misplaced o r.kind) (bad_field r) (text_outside bytes r.first || text_outside bytes r.second) (text_ill_formed bytes r.first || text_ill_formed bytes r.second) refl refl refl refl refl refl
   where
-    go : (k l m f t u : Bool) → is_kind r.kind ≡ k → bad_level before r.level ≡ l → misplaced o r.kind ≡ m → bad_field r ≡ f → (text_outside bytes r.first || text_outside bytes r.second) ≡ t → (text_ill_formed bytes r.first || text_ill_formed bytes r.second) ≡ u → is_accepted (if not k then Refused (UnknownKind i) else if l then Refused (BadLevel i) else if m then Refused (Misplaced i) else if f then Refused (BadField i) else if t then Refused (TextOutside i) else if u then Refused (NotUtf8 i) else Accepted) ≡ true → Passed bytes r before o
+    go : (k l m f t u : Bool) → is_kind r.kind ≡ k → bad_level before r.level ≡ l → misplaced o r.kind ≡ m → bad_field r ≡ f → (text_outside bytes r.first || text_outside bytes r.second) ≡ t → (text_ill_formed bytes r.first || text_ill_formed bytes r.second) ≡ u → is_accepted (when not k then Refused (UnknownKind i) else when l then Refused (BadLevel i) else when m then Refused (Misplaced i) else when f then Refused (BadField i) else when t then Refused (TextOutside i) else when u then Refused (NotUtf8 i) else Accepted) ≡ true → Passed bytes r before o
     go false l m f t u a b c d e g h = absurd (false≢true h)
     go true true m f t u a b c d e g h = absurd (false≢true h)
     go true false true f t u a b c d e g h = absurd (false≢true h)

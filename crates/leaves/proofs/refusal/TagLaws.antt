@@ -9,7 +9,7 @@ use native.Mathlib.Omega.{arith}
 use borrow.Author.Rules.{rules}
 use borrow.Author.Tests.{not-false, lt-ltb, le-ltb, ltb-true, ltb-false, eq-eqb, eqb-true}
 use lib.Dec.{eqb, ltb, leb}
-use Rattle.leaves.specs.Text.Lists.{if◌then◌else◌}
+use Rattle.leaves.specs.Text.Lists.{when◌then◌else◌}
 use Rattle.leaves.specs.Sheet.Kinds.{html_container, html_tag}
 use Rattle.leaves.specs.Sheet.Records.{record_at}
 use Rattle.leaves.specs.Sheet.Forest.{Forest, none, tree, under, size, count_kind}
@@ -175,7 +175,7 @@ pub record Tagging (w : List ℕ) (n i : ℕ) : Type 0 where
 pub tagging-start : (w : List ℕ) (n : ℕ) → Tagging w n 0
 tagging-start w n = record { within = omega arith; same = rw sub-zero }
 
-tags-step : (w : List ℕ) (n i : ℕ) → i < n → tags_from w n (n - i) i ≡ (if lacks_tags w n i then Refused (TagsMissing i) else tags_from w n (n - (i + 1)) (i + 1))
+tags-step : (w : List ℕ) (n i : ℕ) → i < n → tags_from w n (n - i) i ≡ (when lacks_tags w n i then Refused (TagsMissing i) else tags_from w n (n - (i + 1)) (i + 1))
 unfolding tags_from
 tags-step w n i h = let e : n - i ≡ suc (n - (i + 1)) = omega arith in rw (e, add-one i)
 

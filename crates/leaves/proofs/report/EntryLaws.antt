@@ -14,7 +14,7 @@ use borrow.Author.Tests.{leb-true, leb-false, le-leb, lt-leb, not-true, not-fals
 use borrow.Rule.Slice.PartMut.{put_mid}
 use Rattle.leaves.specs.declared.sheet.records.Span.{Span}
 use Rattle.leaves.specs.Report.Entries.{Entry, words, head_words, flat, ◌⊕◌, list_if, cap, capped, start, counted, after, put, Lists, fitting, entries_in}
-use Rattle.leaves.specs.Text.Lists.{if◌then◌else◌, over}
+use Rattle.leaves.specs.Text.Lists.{when◌then◌else◌, over}
 use Rattle.leaves.specs.declared.report.entries.Tally.{Tally}
 use Rattle.leaves.proofs.text.OverLaws.{length_over, over-fits, over-nil, over-not, over-two}
 
@@ -36,7 +36,7 @@ pub length-join : (es fs : List Entry) → length (es ⊕ fs) ≡ length es + le
 unfolding ◌⊕◌
 length-join es fs = length-append es fs
 
-pub length-if : (b : Bool) (rule : ℕ) (span : Span) (path : List ℕ) → length (list_if b rule span path) ≡ (if b then 1 else 0)
+pub length-if : (b : Bool) (rule : ℕ) (span : Span) (path : List ℕ) → length (list_if b rule span path) ≡ (when b then 1 else 0)
 unfolding list_if
 length-if true rule span path = refl
 length-if false rule span path = refl

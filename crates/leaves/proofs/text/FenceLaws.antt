@@ -8,7 +8,7 @@ use lib.Dec.{eqb, leb, eqb-suc-zero}
 use lib.ListN.{replicate}
 use borrow.Author.Tests.{eq-eqb, ne_eqb, eqb-true}
 use Rattle.leaves.specs.Text.Bytes.{is_blank_byte, is_line_ending_byte}
-use Rattle.leaves.specs.Text.Lists.{if◌then◌else◌, any}
+use Rattle.leaves.specs.Text.Lists.{when◌then◌else◌, any}
 use Rattle.leaves.specs.Text.Lines.{longer, is_cr_of_crlf, lines}
 use Rattle.leaves.specs.Text.Fence.{fence_byte, is_fence, holds_fence_line}
 use Rattle.leaves.specs.Text.Same.{same_bytes}
@@ -140,16 +140,16 @@ module _ (c left b : ℕ) (s : List ℕ) {skips ends : Bool} (p : skips ≡ is_c
   unfolding fence_from
   fence-yes = rw (← p, ← q) (go skips ends)
     where
-      go : (t u : Bool) → (not t && u && eqb left 0) ≡ true → true ≡ (if t then fence_from c left s else if u then eqb left 0 || fence_from c 3 s else fence_from c (fence_left c left b) s)
+      go : (t u : Bool) → (not t && u && eqb left 0) ≡ true → true ≡ (when t then fence_from c left s else when u then eqb left 0 || fence_from c 3 s else fence_from c (fence_left c left b) s)
       go true u e = absurd (false≢true e)
       go false true e = rw e
       go false false e = absurd (false≢true e)
 
-  pub fence-no : {left' : ℕ} → (not skips && ends && eqb left 0) ≡ false → left' ≡ (if skips then left else if ends then 3 else fence_left c left b) → fence_from c left (b ∷ s) ≡ fence_from c left' s
+  pub fence-no : {left' : ℕ} → (not skips && ends && eqb left 0) ≡ false → left' ≡ (when skips then left else when ends then 3 else fence_left c left b) → fence_from c left (b ∷ s) ≡ fence_from c left' s
   unfolding fence_from
   fence-no n f = rw (← p, ← q, f) (go skips ends n)
     where
-      go : (t u : Bool) → (not t && u && eqb left 0) ≡ false → (if t then fence_from c left s else if u then eqb left 0 || fence_from c 3 s else fence_from c (fence_left c left b) s) ≡ fence_from c (if t then left else if u then 3 else fence_left c left b) s
+      go : (t u : Bool) → (not t && u && eqb left 0) ≡ false → (when t then fence_from c left s else when u then eqb left 0 || fence_from c 3 s else fence_from c (fence_left c left b) s) ≡ fence_from c (when t then left else when u then 3 else fence_left c left b) s
       go true u e = refl
       go false true e = rw e
       go false false e = refl

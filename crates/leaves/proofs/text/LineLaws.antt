@@ -9,7 +9,7 @@ use lib.Dec.{eqb}
 use lib.ListN.{length, get_or, drop, drop_of_length-le}
 use borrow.Author.Tests.{eqb-true}
 use Rattle.leaves.specs.Text.Bytes.{tab, lf, cr, space, is_blank_byte, is_line_ending_byte}
-use Rattle.leaves.specs.Text.Lists.{if◌then◌else◌, all, first_or, last_or}
+use Rattle.leaves.specs.Text.Lists.{when◌then◌else◌, all, first_or, last_or}
 use Rattle.leaves.specs.Text.Lines.{starts_with, longer, is_cr_of_crlf, lines, is_blank}
 use Rattle.leaves.specs.Text.Edges.{has_blank_edge_line}
 use Rattle.leaves.specs.Text.EdgeScans.{last_blank, Led, Ended}
@@ -126,7 +126,7 @@ pub last_line : (s : List ℕ) → is_blank (last_or [] (lines s)) ≡ last_blan
 last_line s = sym (last-lines true true s ∙ from_start (lines s))
 
 -- what the calls for one byte answer
-pub last_turn : (last blank : Bool) (b : ℕ) (s : List ℕ) {last' blank' skips ends held told : Bool} → last' ≡ (if skips then last else told) → blank' ≡ (if skips then blank else (ends || (blank && held))) → told ≡ (if ends then blank else (blank && held)) → skips ≡ is_cr_of_crlf b s → ends ≡ is_line_ending_byte b → held ≡ is_blank_byte b → last_blank last blank (b ∷ s) ≡ last_blank last' blank' s
+pub last_turn : (last blank : Bool) (b : ℕ) (s : List ℕ) {last' blank' skips ends held told : Bool} → last' ≡ (when skips then last else told) → blank' ≡ (when skips then blank else (ends || (blank && held))) → told ≡ (when ends then blank else (blank && held)) → skips ≡ is_cr_of_crlf b s → ends ≡ is_line_ending_byte b → held ≡ is_blank_byte b → last_blank last blank (b ∷ s) ≡ last_blank last' blank' s
 unfolding last_blank
 last_turn last blank b s p q t u v w = rw (p, q, t, u, v, w)
 
@@ -174,7 +174,7 @@ last-at-solid : (last blank : Bool) (b : ℕ) (s : List ℕ) → is_blank_byte b
 unfolding last_blank
 last-at-solid last blank b s o n = rw (no-cr b s n, n, o, and-false)
 
-last_step : (last blank : Bool) (b : ℕ) (s : List ℕ) → last_blank last blank (b ∷ s) ≡ last_blank (if is_cr_of_crlf b s then last else if is_line_ending_byte b then blank else (blank && is_blank_byte b)) (if is_cr_of_crlf b s then blank else (is_line_ending_byte b || (blank && is_blank_byte b))) s
+last_step : (last blank : Bool) (b : ℕ) (s : List ℕ) → last_blank last blank (b ∷ s) ≡ last_blank (when is_cr_of_crlf b s then last else when is_line_ending_byte b then blank else (blank && is_blank_byte b)) (when is_cr_of_crlf b s then blank else (is_line_ending_byte b || (blank && is_blank_byte b))) s
 unfolding last_blank
 last_step last blank b s = refl
 

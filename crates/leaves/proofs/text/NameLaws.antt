@@ -7,7 +7,7 @@ use native.Mathlib.Omega.{arith}
 use lib.Dec.{eqb}
 use lib.ListN.{length, get_or}
 use Rattle.leaves.specs.Text.Bytes.{hyphen}
-use Rattle.leaves.specs.Text.Lists.{if◌then◌else◌, all}
+use Rattle.leaves.specs.Text.Lists.{when◌then◌else◌, all}
 use Rattle.leaves.specs.Text.Lines.{longer}
 use Rattle.leaves.specs.Text.Name.{runs, is_run, is_directive_name, begins_run, continues_run, is_attribute_name, begins_attribute, continues_attribute}
 use Rattle.leaves.specs.Text.NameScans.{name_from}
@@ -26,7 +26,7 @@ unfolding all is_run
 join true rs = refl
 join false rs = refl
 
-hold : (start : Bool) (b : ℕ) (rs : List (List ℕ)) → runs_from start (longer b rs) ≡ ((if start then begins_run b else continues_run b) && runs_from false rs)
+hold : (start : Bool) (b : ℕ) (rs : List (List ℕ)) → runs_from start (longer b rs) ≡ ((when start then begins_run b else continues_run b) && runs_from false rs)
 unfolding all is_run longer
 hold true b [] = and-true (begins_run b && true)
 hold false b [] = and-true (continues_run b && true)
@@ -48,8 +48,8 @@ unfolding is_directive_name
 directive s = sym (same_runs true s)
 
 -- what the calls for one byte of a name answer
-module _ (start : Bool) (b : ℕ) (s : List ℕ) {begins continues goes_on fits : Bool} (ef : fits ≡ (if eqb b hyphen then not start else goes_on)) (eg : goes_on ≡ (if start then begins else continues)) (eb : begins ≡ begins_run b) (ec : continues ≡ continues_run b) where
-  told : (if eqb b hyphen then not start else if start then begins_run b else continues_run b) ≡ fits
+module _ (start : Bool) (b : ℕ) (s : List ℕ) {begins continues goes_on fits : Bool} (ef : fits ≡ (when eqb b hyphen then not start else goes_on)) (eg : goes_on ≡ (when start then begins else continues)) (eb : begins ≡ begins_run b) (ec : continues ≡ continues_run b) where
+  told : (when eqb b hyphen then not start else when start then begins_run b else continues_run b) ≡ fits
   told = cc
 
   pub name-yes : fits ≡ true → name_from start (b ∷ s) ≡ name_from (eqb b hyphen) s

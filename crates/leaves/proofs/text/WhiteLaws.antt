@@ -9,7 +9,7 @@ use lib.ListN.{length, take, drop, get_or, take-append-drop, length-drop}
 use lib.Seq.{take_all}
 use borrow.Author.Tests.{lt-ltb, le-ltb, ltb-true, leb-true, not-true, not-false, eq-eqb, ne_eqb}
 use Rattle.leaves.specs.Text.Bytes.{between}
-use Rattle.leaves.specs.Text.Lists.{if◌then◌else◌, none, first_or, last_or}
+use Rattle.leaves.specs.Text.Lists.{when◌then◌else◌, none, first_or, last_or}
 use Rattle.leaves.specs.Text.Utf8.{Range, within, trail, table, follow}
 use Rattle.leaves.specs.Text.Scalars.{replacement, lead_bits, trail_bits, emit, decode, scalars}
 use Rattle.leaves.specs.Text.Utf8Scans.{breaks, expected_after}
@@ -112,17 +112,17 @@ pub room-kept : (more low high : ℕ) (o : List Range) (value b v : ℕ) → Val
 room-kept more low high o value b v d e = rw (← long more low high, e) d.small
 
 -- ---- one byte more
-last-emit : (o : List Range) (v d : ℕ) (s : List ℕ) → last_or d (emit o v s) ≡ last_or (if none o then v else d) s
+last-emit : (o : List Range) (v d : ℕ) (s : List ℕ) → last_or d (emit o v s) ≡ last_or (when none o then v else d) s
 unfolding emit last_or none
 last-emit [] v d s = refl
 last-emit (r ∷ o) v d s = refl
 
-last_step : (o : List Range) (v d b : ℕ) (s : List ℕ) → last_or d (decode o v (b ∷ s)) ≡ last_or (if none (expected_after o b) then value_after o v b else if breaks o b then replacement else d) (decode (expected_after o b) (value_after o v b) s)
+last_step : (o : List Range) (v d b : ℕ) (s : List ℕ) → last_or d (decode o v (b ∷ s)) ≡ last_or (when none (expected_after o b) then value_after o v b else when breaks o b then replacement else d) (decode (expected_after o b) (value_after o v b) s)
 unfolding decode expected_after value_after breaks last_or
 last_step [] v d b s = last-emit (follow table b) (lead_bits b) d (decode (follow table b) (lead_bits b) s)
 last_step (r ∷ o) v d b s = go (within r b) refl
   where
-    go : (t : Bool) → within r b ≡ t → last_or d (decode (r ∷ o) v (b ∷ s)) ≡ last_or (if none (expected_after (r ∷ o) b) then value_after (r ∷ o) v b else if breaks (r ∷ o) b then replacement else d) (decode (expected_after (r ∷ o) b) (value_after (r ∷ o) v b) s)
+    go : (t : Bool) → within r b ≡ t → last_or d (decode (r ∷ o) v (b ∷ s)) ≡ last_or (when none (expected_after (r ∷ o) b) then value_after (r ∷ o) v b else when breaks (r ∷ o) b then replacement else d) (decode (expected_after (r ∷ o) b) (value_after (r ∷ o) v b) s)
     go true e = rw e (last-emit o (trail_bits v b) d (decode o (trail_bits v b) s))
     go false e = rw e (last-emit (follow table b) (lead_bits b) replacement (decode (follow table b) (lead_bits b) s))
 
@@ -130,22 +130,22 @@ last-broken : (r : Range) (o : List Range) (v d b : ℕ) (s : List ℕ) → with
 unfolding decode last_or
 last-broken r o v d b s e = rw e
 
-first-emit : (o : List Range) (v d : ℕ) (s : List ℕ) → first_or d (emit o v s) ≡ (if none o then v else first_or d s)
+first-emit : (o : List Range) (v d : ℕ) (s : List ℕ) → first_or d (emit o v s) ≡ (when none o then v else first_or d s)
 unfolding emit first_or none
 first-emit [] v d s = refl
 first-emit (r ∷ o) v d s = refl
 
-first_step : (o : List Range) (v b : ℕ) (s : List ℕ) → first_or replacement (decode o v (b ∷ s)) ≡ (if breaks o b then replacement else if none (expected_after o b) then value_after o v b else first_or replacement (decode (expected_after o b) (value_after o v b) s))
+first_step : (o : List Range) (v b : ℕ) (s : List ℕ) → first_or replacement (decode o v (b ∷ s)) ≡ (when breaks o b then replacement else when none (expected_after o b) then value_after o v b else first_or replacement (decode (expected_after o b) (value_after o v b) s))
 unfolding decode expected_after value_after breaks first_or
 first_step [] v b s = first-emit (follow table b) (lead_bits b) replacement (decode (follow table b) (lead_bits b) s)
 first_step (r ∷ o) v b s = go (within r b) refl
   where
-    go : (t : Bool) → within r b ≡ t → first_or replacement (decode (r ∷ o) v (b ∷ s)) ≡ (if breaks (r ∷ o) b then replacement else if none (expected_after (r ∷ o) b) then value_after (r ∷ o) v b else first_or replacement (decode (expected_after (r ∷ o) b) (value_after (r ∷ o) v b) s))
+    go : (t : Bool) → within r b ≡ t → first_or replacement (decode (r ∷ o) v (b ∷ s)) ≡ (when breaks (r ∷ o) b then replacement else when none (expected_after (r ∷ o) b) then value_after (r ∷ o) v b else first_or replacement (decode (expected_after (r ∷ o) b) (value_after (r ∷ o) v b) s))
     go true e = rw e (first-emit o (trail_bits v b) replacement (decode o (trail_bits v b) s))
     go false e = rw e
 
 -- ---- the last character, from where it begins
-pick : (p : List Range) (w c d : ℕ) (s : List ℕ) → ((x y : ℕ) → none p ≡ false → last_or x (decode p w s) ≡ last_or y (decode p w s)) → last_or (if none p then w else c) (decode p w s) ≡ last_or (if none p then w else d) (decode p w s)
+pick : (p : List Range) (w c d : ℕ) (s : List ℕ) → ((x y : ℕ) → none p ≡ false → last_or x (decode p w s) ≡ last_or y (decode p w s)) → last_or (when none p then w else c) (decode p w s) ≡ last_or (when none p then w else d) (decode p w s)
 unfolding none
 pick [] w c d s later = refl
 pick (r ∷ p) w c d s later = later c d refl
@@ -276,7 +276,7 @@ pub start_none : (o : List Range) (v : ℕ) → false ≡ start_from o v []
 unfolding start_from
 start_none o v = rw start-expected (sym no-white)
 
-pub end-turn : (d : ℕ) (o : List Range) (v b : ℕ) (s : List ℕ) (more low high : ℕ) {r : Bool} {v' d' : ℕ} → d' ≡ (if eqb more 0 then v' else if r then replacement else d) → r ≡ breaks o b → Valued o v b v' → columns more low high ≡ expected_after o b → end_from d o v (b ∷ s) ≡ end_from d' (columns more low high) v' s
+pub end-turn : (d : ℕ) (o : List Range) (v b : ℕ) (s : List ℕ) (more low high : ℕ) {r : Bool} {v' d' : ℕ} → d' ≡ (when eqb more 0 then v' else when r then replacement else d) → r ≡ breaks o b → Valued o v b v' → columns more low high ≡ expected_after o b → end_from d o v (b ∷ s) ≡ end_from d' (columns more low high) v' s
 unfolding end_from
 end-turn d o v b s more low high e f g h = rw (last_step o v d b s, e, f, ← h, whole more low high 0, ← g.is)
 

@@ -3,7 +3,7 @@
 -- then cells; inlines under paragraph, heading, cell and what `Inline::children` lists. Directives: attributes, then
 -- inlines, then (container only) blocks. HTML container: opening tag, closing tag, content of its sort."
 use Rattle.std.specs.Prelude.{ℕ, [], ◌∷◌, eqb}
-use Rattle.leaves.specs.Text.Lists.{if◌then◌else◌}
+use Rattle.leaves.specs.Text.Lists.{when◌then◌else◌}
 use Rattle.leaves.specs.Sheet.Kinds.{among, is_block, is_inline}
 use Rattle.leaves.specs.Sheet.Kinds.{paragraph, heading, block_quote, alert, list, html_container}
 use Rattle.leaves.specs.Sheet.Kinds.{footnote_definition, table, leaf_directive, container_directive}
@@ -49,26 +49,26 @@ holds_nothing = 9
 -- directives, and an HTML container by its A ("HTML container 0 blocks, 1 inlines")
 unfoldable pub other_group : ℕ → ℕ → ℕ
 other_group kind a =
-    if among kind (leaf_directive ∷ text_directive ∷ [])
+    when among kind (leaf_directive ∷ text_directive ∷ [])
     then holds_label
-    else if eqb kind container_directive
+    else when eqb kind container_directive
     then holds_label_and_blocks
-    else if eqb kind html_container
-    then (if eqb a 0 then holds_tags_and_blocks else holds_tags_and_inlines)
+    else when eqb kind html_container
+    then (when eqb a 0 then holds_tags_and_blocks else holds_tags_and_inlines)
     else holds_nothing
 
 -- the group of a parent, by its kind and its A
 unfoldable pub parent_group : ℕ → ℕ → ℕ
 parent_group kind a =
-    if among kind (block_quote ∷ alert ∷ footnote_definition ∷ item ∷ [])
+    when among kind (block_quote ∷ alert ∷ footnote_definition ∷ item ∷ [])
     then holds_blocks
-    else if eqb kind list
+    else when eqb kind list
     then holds_items
-    else if eqb kind table
+    else when eqb kind table
     then holds_rows
-    else if eqb kind row
+    else when eqb kind row
     then holds_cells
-    else if among kind
+    else when among kind
     (paragraph ∷ heading ∷ cell ∷ emphasis ∷ strong ∷ delete ∷ mark
     ∷ link ∷ image ∷ link_reference ∷ image_reference ∷ inline_footnote ∷ [])
     then holds_inlines
@@ -104,18 +104,18 @@ no_group = 7
 -- the group of a child, by its kind
 unfoldable pub child_group : ℕ → ℕ
 child_group kind =
-    if is_block kind
+    when is_block kind
     then block_group
-    else if eqb kind item
+    else when eqb kind item
     then item_group
-    else if eqb kind row
+    else when eqb kind row
     then row_group
-    else if eqb kind cell
+    else when eqb kind cell
     then cell_group
-    else if eqb kind html_tag
+    else when eqb kind html_tag
     then tag_group
-    else if eqb kind attribute
+    else when eqb kind attribute
     then attribute_group
-    else if is_inline kind
+    else when is_inline kind
     then inline_group
     else no_group

@@ -3,7 +3,7 @@
 -- then cells; inlines under paragraph, heading, cell and what `Inline::children` lists. Directives: attributes, then
 -- inlines, then (container only) blocks. HTML container: opening tag, closing tag, content of its sort."
 use Rattle.std.specs.Prelude.{ℕ, suc, ◌+◌, Bool, not, ◌&&◌, ◌||◌, List, [], ◌∷◌, eqb, ltb, leb}
-use Rattle.leaves.specs.Text.Lists.{if◌then◌else◌}
+use Rattle.leaves.specs.Text.Lists.{when◌then◌else◌}
 use Rattle.leaves.specs.Sheet.Kinds.{html_tag}
 use Rattle.leaves.specs.Sheet.Siblings.{gather}
 use Rattle.leaves.specs.Refusal.Groups.{holds_blocks, holds_items, holds_rows, holds_cells, holds_inlines}
@@ -17,31 +17,31 @@ use Rattle.leaves.specs.declared.refusal.places.Open.{Open}
 unfoldable pub holds : ℕ → List ℕ
 holds group =
     -- "blocks under the sheet, quote, alert, item and footnote definition"
-    if eqb group holds_blocks
+    when eqb group holds_blocks
     then block_group ∷ []
     -- "items under list"
-    else if eqb group holds_items
+    else when eqb group holds_items
     then item_group ∷ []
     -- "rows, then cells": rows under table
-    else if eqb group holds_rows
+    else when eqb group holds_rows
     then row_group ∷ []
     -- and cells under row
-    else if eqb group holds_cells
+    else when eqb group holds_cells
     then cell_group ∷ []
     -- "inlines under paragraph, heading, cell and what `Inline::children` lists"
-    else if eqb group holds_inlines
+    else when eqb group holds_inlines
     then inline_group ∷ []
     -- "Directives: attributes, then inlines"
-    else if eqb group holds_label
+    else when eqb group holds_label
     then attribute_group ∷ inline_group ∷ []
     -- "then (container only) blocks"
-    else if eqb group holds_label_and_blocks
+    else when eqb group holds_label_and_blocks
     then attribute_group ∷ inline_group ∷ block_group ∷ []
     -- "HTML container: opening tag, closing tag, content of its sort": blocks
-    else if eqb group holds_tags_and_blocks
+    else when eqb group holds_tags_and_blocks
     then tag_group ∷ block_group ∷ []
     -- or inlines
-    else if eqb group holds_tags_and_inlines
+    else when eqb group holds_tags_and_inlines
     then tag_group ∷ inline_group ∷ []
     -- every other kind has no children
     else []
@@ -51,7 +51,7 @@ unfoldable pub place_in : ℕ → List ℕ → ℕ → ℕ
 place_in first [] child = 0
 place_in first (group ∷ groups) child =
     let later = place_in (suc first) groups child in
-    if eqb child group then first else later
+    when eqb child group then first else later
 
 -- the place of a kind under a group of parents, from 1 on; 0 where it is not allowed there
 unfoldable pub place_of : ℕ → ℕ → ℕ
@@ -71,7 +71,7 @@ joined o kind =
     record {
       group = o.group;
       stage = place_of o.group kind;
-      tags = if eqb kind html_tag then o.tags + 1 else o.tags;
+      tags = when eqb kind html_tag then o.tags + 1 else o.tags;
     }
 
 -- Document 01, refusal 6: "not allowed under its parent, or out of order there; a third HTML tag, or content before the

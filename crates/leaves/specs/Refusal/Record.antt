@@ -1,6 +1,6 @@
 -- The tests of one record. Document 01, 'The call': "then 4 to 9 record by record".
 use Rattle.std.specs.Prelude.{ℕ, zero, suc, ◌+◌, Bool, not, ◌||◌, List, eqb, ltb}
-use Rattle.leaves.specs.Text.Lists.{if◌then◌else◌}
+use Rattle.leaves.specs.Text.Lists.{when◌then◌else◌}
 use Rattle.leaves.specs.Sheet.Kinds.{is_kind}
 use Rattle.leaves.specs.Sheet.Records.{record_at}
 use Rattle.leaves.specs.Refusal.Places.{misplaced}
@@ -32,9 +32,9 @@ bad_level before level = eqb level 0 || ltb most_level level || ltb (before + 1)
 -- the tests 8 and 9: test 8 is made of both texts before test 9
 unfoldable pub judge_texts : List ℕ → ℕ → Rec → Judged
 judge_texts bytes i r =
-    if text_outside bytes r.first || text_outside bytes r.second
+    when text_outside bytes r.first || text_outside bytes r.second
     then Refused (TextOutside i)
-    else if text_ill_formed bytes r.first || text_ill_formed bytes r.second
+    else when text_ill_formed bytes r.first || text_ill_formed bytes r.second
     then Refused (NotUtf8 i)
     else Accepted
 
@@ -42,12 +42,12 @@ judge_texts bytes i r =
 -- it under its parent.
 unfoldable pub judge : List ℕ → ℕ → Rec → ℕ → Open → Judged
 judge bytes i r before o =
-    if not (is_kind r.kind)
+    when not (is_kind r.kind)
     then Refused (UnknownKind i)
-    else if bad_level before r.level
+    else when bad_level before r.level
     then Refused (BadLevel i)
-    else if misplaced o r.kind
+    else when misplaced o r.kind
     then Refused (Misplaced i)
-    else if bad_field r
+    else when bad_field r
     then Refused (BadField i)
     else judge_texts bytes i r

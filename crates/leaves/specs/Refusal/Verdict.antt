@@ -1,6 +1,6 @@
 -- The answer for a sheet: document 01, 'The call': "A refusal returns number and record".
 use Rattle.std.specs.Prelude.{ℕ, Bool, true, false}
-use Rattle.leaves.specs.Text.Lists.{if◌then◌else◌}
+use Rattle.leaves.specs.Text.Lists.{when◌then◌else◌}
 use Rattle.leaves.specs.declared.refusal.verdict.Refusal.{Refusal}
 use Rattle.leaves.specs.declared.refusal.verdict.Refusal.TheVariants.{
   OddSheet,
@@ -49,4 +49,4 @@ is_accepted (Refused refusal) = false
 
 -- the first where it is a refusal, else the other
 unfoldable pub or_else : Judged → Judged → Judged
-or_else j other = if is_accepted j then other else j
+or_else j other = when is_accepted j then other else j

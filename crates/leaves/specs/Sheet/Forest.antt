@@ -1,7 +1,7 @@
 -- The tree that a sheet holds: a record, the records under it, and the siblings after it.
 -- Document 01: "Parent: nearest earlier record one level up."
 use Rattle.std.specs.Prelude.{List, [], ◌∷◌, ◌++◌, ℕ, zero, suc, ◌+◌, ◌-◌, ltb, eqb}
-use Rattle.leaves.specs.Text.Lists.{if◌then◌else◌}
+use Rattle.leaves.specs.Text.Lists.{when◌then◌else◌}
 use Rattle.leaves.specs.declared.sheet.records.Rec.{Rec}
 use Rattle.leaves.specs.Sheet.Records.{record_at, records_of}
 
@@ -12,12 +12,12 @@ pub data Forest : Type 0 where
 -- the leading trees deeper than a level
 unfoldable pub deeper : ℕ → Forest → Forest
 deeper l none = none
-deeper l (tree r kids rest) = let t = tree r kids (deeper l rest) in if ltb l r.level then t else none
+deeper l (tree r kids rest) = let t = tree r kids (deeper l rest) in when ltb l r.level then t else none
 
 -- the trees after those
 unfoldable pub past : ℕ → Forest → Forest
 past l none = none
-past l (tree r kids rest) = let t = past l rest in if ltb l r.level then t else tree r kids rest
+past l (tree r kids rest) = let t = past l rest in when ltb l r.level then t else tree r kids rest
 
 -- a record in front of a forest takes the leading trees that are deeper than itself as its kids
 unfoldable pub grow : Rec → Forest → Forest
@@ -49,7 +49,7 @@ count (tree r kids rest) = suc (count rest)
 -- how many trees side by side have a record of a kind at their top
 unfoldable pub count_kind : ℕ → Forest → ℕ
 count_kind k none = 0
-count_kind k (tree r kids rest) = if eqb r.kind k then suc (count_kind k rest) else count_kind k rest
+count_kind k (tree r kids rest) = when eqb r.kind k then suc (count_kind k rest) else count_kind k rest
 
 -- the records of a forest, in their order
 unfoldable pub records_in : Forest → List Rec

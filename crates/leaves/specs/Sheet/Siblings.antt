@@ -1,6 +1,6 @@
 -- What stands before a record under its parent.
 use Rattle.std.specs.Prelude.{List, ℕ, zero, suc, ◌+◌, eqb}
-use Rattle.leaves.specs.Text.Lists.{if◌then◌else◌}
+use Rattle.leaves.specs.Text.Lists.{when◌then◌else◌}
 use Rattle.leaves.specs.Sheet.Records.{record_at}
 use Rattle.leaves.specs.declared.sheet.records.Rec.{Rec}
 
@@ -13,8 +13,8 @@ gather sheet first next w level zero = sheet
 gather sheet first next w level (suc i) =
     let before = gather sheet first next w level i in
     let r = record_at w i in
-    if eqb (r.level + 1) level
+    when eqb (r.level + 1) level
     then first r
-    else if eqb r.level level
+    else when eqb r.level level
     then next before r
     else before

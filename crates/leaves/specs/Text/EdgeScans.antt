@@ -2,7 +2,7 @@
 -- no promise to a caller cites them.
 use Rattle.std.specs.Prelude.{◌≡◌, ℕ, ◌<◌, ◌≤◌, Bool, true, false, ◌&&◌, ◌||◌, List, [], ◌∷◌, length, get_or, drop}
 use Rattle.leaves.specs.Text.Bytes.{is_blank_byte, is_line_ending_byte}
-use Rattle.leaves.specs.Text.Lists.{if◌then◌else◌, first_or, last_or}
+use Rattle.leaves.specs.Text.Lists.{when◌then◌else◌, first_or, last_or}
 use Rattle.leaves.specs.Text.Lines.{is_cr_of_crlf, lines, is_blank}
 
 -- Whether the last line is blank. `last`: the last line that has a byte or an ending is blank. `blank`: the line being
@@ -12,8 +12,8 @@ last_blank last blank [] = last
 last_blank last blank (b ∷ s) =
     let held = blank && is_blank_byte b in
     last_blank
-    (if is_cr_of_crlf b s then last else if is_line_ending_byte b then blank else held)
-    (if is_cr_of_crlf b s then blank else is_line_ending_byte b || held)
+    (when is_cr_of_crlf b s then last else when is_line_ending_byte b then blank else held)
+    (when is_cr_of_crlf b s then blank else is_line_ending_byte b || held)
     s
 
 -- Only spaces and tabs stand before `at`, and neither stands at it. The first and the last line are blank exactly where

@@ -1,7 +1,7 @@
 -- Lines and line endings. Rules 27, 29, 31 and 45.
 use Rattle.std.specs.Prelude.{ℕ, Bool, false, ◌&&◌, List, [], ◌∷◌, eqb}
 use Rattle.leaves.specs.Text.Bytes.{cr, lf, is_blank_byte, is_line_ending_byte}
-use Rattle.leaves.specs.Text.Lists.{if◌then◌else◌, all, any}
+use Rattle.leaves.specs.Text.Lists.{when◌then◌else◌, all, any}
 
 -- Document 01: "A line ending is held where there is a CR or LF."
 unfoldable pub holds_line_ending : List ℕ → Bool
@@ -34,4 +34,4 @@ unfoldable pub lines : List ℕ → List (List ℕ)
 lines [] = []
 lines (b ∷ s) =
     let later = lines s in
-    if is_cr_of_crlf b s then later else if is_line_ending_byte b then [] ∷ later else longer b later
+    when is_cr_of_crlf b s then later else when is_line_ending_byte b then [] ∷ later else longer b later

@@ -1,7 +1,7 @@
 -- Rules 24, 54 and 55: names and identifiers.
 use Rattle.std.specs.Prelude.{ℕ, Bool, false, ◌&&◌, ◌||◌, List, [], ◌∷◌, eqb}
 use Rattle.leaves.specs.Text.Bytes.{is_letter, is_digit, is_blank_byte, is_line_ending_byte, hyphen, underscore, colon}
-use Rattle.leaves.specs.Text.Lists.{if◌then◌else◌, all}
+use Rattle.leaves.specs.Text.Lists.{when◌then◌else◌, all}
 use Rattle.leaves.specs.Text.Lines.{longer}
 
 -- Rust's `name.split('-')`: what stands before, between and after the hyphens
@@ -9,7 +9,7 @@ unfoldable pub runs : List ℕ → List (List ℕ)
 runs [] = [] ∷ []
 runs (b ∷ s) =
     let later = runs s in
-    if eqb b hyphen then [] ∷ later else longer b later
+    when eqb b hyphen then [] ∷ later else longer b later
 
 -- what a run of a directive's name begins with, and what it goes on with
 abbrev pub begins_run : ℕ → Bool

@@ -1,7 +1,7 @@
 -- How the code reads a text, a byte at a time. The proofs equate each of these with a definition of another file, and
 -- no promise to a caller cites them.
 use Rattle.std.specs.Prelude.{ℕ, Bool, false, not, List, [], ◌∷◌}
-use Rattle.leaves.specs.Text.Lists.{if◌then◌else◌}
+use Rattle.leaves.specs.Text.Lists.{when◌then◌else◌}
 use Rattle.leaves.specs.Text.Utf8.{Range, within, follow, table}
 
 -- a byte is expected, and b does not fit
@@ -12,7 +12,7 @@ breaks (r ∷ expected) b = not (within r b)
 -- What is expected after b: the columns after the first where b fits the first, else what follows b as a first byte.
 unfoldable pub expected_after : List Range → ℕ → List Range
 expected_after [] b = follow table b
-expected_after (r ∷ expected) b = if within r b then expected else follow table b
+expected_after (r ∷ expected) b = when within r b then expected else follow table b
 
 -- how many bytes the code reads one at a time before it looks for chunks of ASCII again
 abbrev pub stretch : ℕ

@@ -1,7 +1,7 @@
 // Bytes by name, and classes of bytes.
 ghost use Rattle.std.specs.Prelude.{◌≡◌};
 ghost use Rattle.leaves.specs.Text.Bytes.{between, is_blank_byte, is_line_ending_byte, is_letter, is_digit};
-ghost use Rattle.leaves.specs.Text.Lists.{if◌then◌else◌};
+ghost use Rattle.leaves.specs.Text.Lists.{when◌then◌else◌};
 
 pub(crate) const TAB: u8 = 9;
 
@@ -28,13 +28,13 @@ pub(crate) const BACKTICK: u8 = 96;
 pub(crate) const PIPE: u8 = 124;
 
 pub fn choose(first: bool, a: bool, b: bool) -> bool
-    ensures { result ≡ (if first then a else b) }
+    ensures { result ≡ (when first then a else b) }
 {
     if first { a } else { b }
 }
 
 pub fn pick(first: bool, a: u32, b: u32) -> u32
-    ensures { result ≡ (if first then a else b) }
+    ensures { result ≡ (when first then a else b) }
 {
     if first { a } else { b }
 }

@@ -1,7 +1,7 @@
 // Frontmatter's fence lines.
 ghost use Rattle.std.specs.Prelude.{◌≡◌};
 ghost use Rattle.leaves.specs.Text.Fence.{fence_byte, holds_fence_line};
-ghost use Rattle.leaves.specs.Text.Lists.{if◌then◌else◌};
+ghost use Rattle.leaves.specs.Text.Lists.{when◌then◌else◌};
 ghost use Rattle.leaves.specs.Text.FenceScans.{fence_from, fence_left};
 
 use crate::text::bytes::{HYPHEN, PLUS};
@@ -41,7 +41,7 @@ fn fence_left(c: u8, left: u8, b: u8) -> u8
 // The same for any byte of a text. `skips`: `b` is the CR of a CRLF, which changes nothing. `ends`: `b` ends the line,
 // so the three bytes of a fence are still to come.
 fn left_after(c: u8, left: u8, b: u8, skips: bool, ends: bool) -> u8
-    ensures { result ≡ (if skips then left else if ends then 3 else fence_left c left b) }
+    ensures { result ≡ (when skips then left else when ends then 3 else fence_left c left b) }
 {
     if skips {
         return left;

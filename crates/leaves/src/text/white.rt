@@ -1,6 +1,6 @@
 // White space at the ends of a text.
 ghost use Rattle.std.specs.Prelude.{◌≡◌, ◌<◌};
-ghost use Rattle.leaves.specs.Text.Lists.{if◌then◌else◌};
+ghost use Rattle.leaves.specs.Text.Lists.{when◌then◌else◌};
 ghost use Rattle.leaves.specs.Text.Utf8Expected.{expected_of};
 ghost use Rattle.leaves.specs.Text.Scalars.{lead_bits, replacement};
 ghost use Rattle.leaves.specs.Text.WhiteScans.{Valued, room, Begins};
@@ -107,7 +107,7 @@ fn wide(b: u8) -> u32
 
 // The last scalar value so far: `value` where a sequence is now whole, U+FFFD where one was broken, else `last`.
 fn last_after(whole: bool, broken: bool, value: u32, last: u32) -> u32
-    ensures { result ≡ (if whole then value else if broken then replacement else last) }
+    ensures { result ≡ (when whole then value else when broken then replacement else last) }
 {
     if whole {
         return value;

@@ -8,7 +8,7 @@ use native.Mathlib.Omega.{arith}
 use lib.Dec.{leb, ltb, eqb}
 use lib.ListN.{length}
 use borrow.Author.Tests.{leb-true, leb-false, lt-ltb, le-ltb, eq-eqb, ne_eqb}
-use Rattle.leaves.specs.Text.Lists.{if◌then◌else◌}
+use Rattle.leaves.specs.Text.Lists.{when◌then◌else◌}
 use Rattle.leaves.specs.Sheet.Kinds.{is_block, list, code_block, blank_line, frontmatter, leaf_directive, container_directive, html_container, item}
 use Rattle.leaves.specs.Sheet.Forest.{Forest, none, tree, size, count}
 use Rattle.leaves.specs.declared.sheet.records.Rec.{Rec}
@@ -195,9 +195,9 @@ depth_same a = go (leb 1 a) refl (leb a 6) refl
 -- what a block lists of its items or blocks
 abbrev held : List ℕ → List ℕ → Rec → Forest → List Entry
 held bytes q r kids =
-    if eqb r.kind list
+    when eqb r.kind list
     then validate_list_items bytes q 0 r.a r.c kids
-    else if Holds.holds_blocks r.kind r.a
+    else when Holds.holds_blocks r.kind r.a
     then validate_blocks bytes q 0 first kids
     else []
 

@@ -5,7 +5,7 @@ use mathlib.Core.Bool.{Bool, true, false}
 use mathlib.Core.List.{List, [], ◌∷◌, ◌++◌, append_assoc}
 use Prim.Native.Nat.{ℕ, suc, ◌+◌}
 use native.Mathlib.Omega.{arith}
-use Rattle.leaves.specs.Text.Lists.{if◌then◌else◌}
+use Rattle.leaves.specs.Text.Lists.{when◌then◌else◌}
 use Rattle.leaves.specs.Sheet.Forest.{Forest, none, tree, size}
 use Rattle.leaves.specs.declared.sheet.records.Rec.{Rec}
 use Rattle.leaves.specs.declared.sheet.records.Span.{Span}
@@ -132,11 +132,11 @@ module _ {bytes : List ℕ} {es : List Entry} where
   pub still : {s : Step} → stop_of bytes s ≡ 0 → Fit bytes es s (Unit {0})
   still e = record { heard = inl e; quiet = λ h. tt }
 
-  pub one-stop : {s : Step} (b : Bool) (n : ℕ) → stop_of bytes s ≡ (if b then suc n else 0) → (b ≡ true → Found es (suc n) (block_path (open_at s))) → Fit bytes es s (b ≡ false)
+  pub one-stop : {s : Step} (b : Bool) (n : ℕ) → stop_of bytes s ≡ (when b then suc n else 0) → (b ≡ true → Found es (suc n) (block_path (open_at s))) → Fit bytes es s (b ≡ false)
   one-stop true n e k = record { heard = inr (rw e (k refl)); quiet = λ h. absurd (let z : suc n ≡ 0 = sym e ∙ h in omega arith) }
   one-stop false n e k = record { heard = inl e; quiet = λ h. refl }
 
-  pub two-stops : {s : Step} (b c : Bool) (n m : ℕ) → stop_of bytes s ≡ (if b then suc n else if c then suc m else 0) → (b ≡ true → Found es (suc n) (block_path (open_at s))) → (c ≡ true → Found es (suc m) (block_path (open_at s))) → Fit bytes es s ((b ≡ false) × (c ≡ false))
+  pub two-stops : {s : Step} (b c : Bool) (n m : ℕ) → stop_of bytes s ≡ (when b then suc n else when c then suc m else 0) → (b ≡ true → Found es (suc n) (block_path (open_at s))) → (c ≡ true → Found es (suc m) (block_path (open_at s))) → Fit bytes es s ((b ≡ false) × (c ≡ false))
   two-stops true c n m e k l = record { heard = inr (rw e (k refl)); quiet = λ h. absurd (let z : suc n ≡ 0 = sym e ∙ h in omega arith) }
   two-stops false true n m e k l = record { heard = inr (rw e (l refl)); quiet = λ h. absurd (let z : suc m ≡ 0 = sym e ∙ h in omega arith) }
   two-stops false false n m e k l = record { heard = inl e; quiet = λ h. (refl, refl) }

@@ -8,7 +8,7 @@ use native.Mathlib.Omega.{arith}
 use native.Mathlib.Nat.{zero-add, add-zero}
 use lib.Dec.{ltb, eqb}
 use borrow.Author.Tests.{eqb-true, eqb-false, ltb-true, ltb-false, lt-ltb, le-ltb}
-use Rattle.leaves.specs.Text.Lists.{if◌then◌else◌}
+use Rattle.leaves.specs.Text.Lists.{when◌then◌else◌}
 use Rattle.leaves.specs.Sheet.Records.{records_of}
 use Rattle.leaves.specs.Sheet.Forest.{Forest, none, tree, forest_of, size, records_in}
 use Rattle.leaves.specs.declared.sheet.records.Rec.{Rec}
@@ -64,12 +64,12 @@ module _ (w : List ℕ) (h : Deep 0 (forest_of w)) where
 
 -- every record is opened once and closed once: those before record i, and those of the forest from i on
 abbrev below : ℕ → ℕ → ℕ
-below j i = (if ltb j i then 1 else 0)
+below j i = (when ltb j i then 1 else 0)
 
-below_suc : (j i : ℕ) → (if eqb i j then 1 else 0) + below j i ≡ below j (suc i)
+below_suc : (j i : ℕ) → (when eqb i j then 1 else 0) + below j i ≡ below j (suc i)
 below_suc j i = go (eqb i j) refl (ltb j i) refl
   where
-    go : (b : Bool) → eqb i j ≡ b → (c : Bool) → ltb j i ≡ c → (if b then 1 else 0) + (if c then 1 else 0) ≡ below j (suc i)
+    go : (b : Bool) → eqb i j ≡ b → (c : Bool) → ltb j i ≡ c → (when b then 1 else 0) + (when c then 1 else 0) ≡ below j (suc i)
     go true e true g = absurd (let p : i ≡ j = eqb-true _ _ e in let q : j < i = ltb-true _ _ g in omega arith)
     go true e false g = let p : i ≡ j = eqb-true _ _ e in rw (lt-ltb j (suc i) (omega arith))
     go false e true g = let q : j < i = ltb-true _ _ g in rw (lt-ltb j (suc i) (omega arith))
@@ -104,7 +104,7 @@ closed j f st i (tree r kids rest) =
 module _ (w : List ℕ) (h : Deep 0 (forest_of w)) (i : ℕ) where
   times : (times_opened i (steps_of w) ≡ below i (records_of w)) × (times_closed i (steps_of w) ≡ below i (records_of w))
   times =
-      let z : below i 0 ≡ 0 = ap (λ (b : Bool). if b then 1 else 0) (le-ltb i 0 (omega arith)) in
+      let z : below i 0 ≡ 0 = ap (λ (b : Bool). when b then 1 else 0) (le-ltb i 0 (omega arith)) in
       let n : 0 + size (forest_of w) ≡ records_of w = zero-add _ ∙ size_of w in
       rw (walk_of w h, ← n) (omega (arith, z, opened i the_sheet [] 0 (forest_of w)), omega (arith, z, closed i the_sheet [] 0 (forest_of w)))
 

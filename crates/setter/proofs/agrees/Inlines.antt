@@ -6,7 +6,7 @@ use mathlib.Core.List.{List, [], ◌∷◌}
 use Prim.Native.Nat.{ℕ, suc, ◌+◌, ◌≤◌}
 use native.Mathlib.Omega.{arith}
 use lib.Dec.{eqb}
-use Rattle.leaves.specs.Text.Lists.{if◌then◌else◌}
+use Rattle.leaves.specs.Text.Lists.{when◌then◌else◌}
 use Rattle.leaves.specs.Text.Lines.{holds_line_ending}
 use Rattle.leaves.specs.Sheet.Kinds.{among, is_inline, cell, leaf_directive, container_directive}
 use Rattle.leaves.specs.Sheet.Forest.{Forest, none, tree, size}
@@ -53,7 +53,7 @@ pub record Spotless (bytes p : List ℕ) (line link : Bool) (b : ℕ) (ts : Fore
 
 -- of the link text: one inline
 abbrev pub linked : List ℕ → Rec → Forest → List Entry
-linked p r kids = if is_link r.kind then list_if true 42 r.span p else validate_link_text p kids
+linked p r kids = when is_link r.kind then list_if true 42 r.span p else validate_link_text p kids
 
 -- the same of one inline
 pub record Shown₁ (bytes : List ℕ) (es : List Entry) (p : List ℕ) (line link : Bool) (b : ℕ) (r : Rec) (kids : Forest) : Type 0 where
@@ -214,7 +214,7 @@ module _ (bytes : List ℕ) (es : List Entry) (f : Frame) (st : List Frame) (i b
       (fits-alone f st i r kids (still o) (fits-leaf _ _ _ _ z) (still c))
 
   -- a text or code: stop 13
-  node-ending : (x : Bool) → group_of r ≡ holds_nothing → is_plain_break r.kind r.a ≡ false → is_break r.kind ≡ false → is_link r.kind ≡ false → open₀ ≡ (if x then 13 else 0) → close₀ ≡ 0 → (n : ℕ) → beside 13 n ≡ true → Sub (list_if x n r.span p) es → (x ≡ false → Clean own₀) → Here
+  node-ending : (x : Bool) → group_of r ≡ holds_nothing → is_plain_break r.kind r.a ≡ false → is_break r.kind ≡ false → is_link r.kind ≡ false → open₀ ≡ (when x then 13 else 0) → close₀ ≡ 0 → (n : ℕ) → beside 13 n ≡ true → Sub (list_if x n r.span p) es → (x ≡ false → Clean own₀) → Here
   node-ending x bare np nb nl o c n g u v =
       let z : kids ≡ none = leaf r 0 kids placed bare in
       fits-map
@@ -222,7 +222,7 @@ module _ (bytes : List ℕ) (es : List Entry) (f : Frame) (st : List Frame) (i b
       (fits-alone f st i r kids (one-stop x 12 o (λ h. sub-if n _ p u h g (at []))) (fits-leaf _ _ _ _ z) (still c))
 
   -- emphasis and its like: stop 10
-  node-emphatic : Inlines bytes kids → group_of r ≡ holds_inlines → is_plain_break r.kind r.a ≡ false → is_break r.kind ≡ false → is_link r.kind ≡ false → in_link (fresh i r ∷ f ∷ st) ≡ in_link (f ∷ st) → open₀ ≡ 0 → close₀ ≡ (if only_empty (pile kids []) then 10 else 0) → own₀ ≡ validate_emphasis_container bytes p r.span r.kind r.a kids → Here
+  node-emphatic : Inlines bytes kids → group_of r ≡ holds_inlines → is_plain_break r.kind r.a ≡ false → is_break r.kind ≡ false → is_link r.kind ≡ false → in_link (fresh i r ∷ f ∷ st) ≡ in_link (f ∷ st) → open₀ ≡ 0 → close₀ ≡ (when only_empty (pile kids []) then 10 else 0) → own₀ ≡ validate_emphasis_container bytes p r.span r.kind r.a kids → Here
   unfolding beside named validate_emphasis_container
   node-emphatic ih a np nb nl k o c n =
       let l = rw n at s.own in
@@ -254,7 +254,7 @@ module _ (bytes : List ℕ) (es : List Entry) (f : Frame) (st : List Frame) (i b
       (still c))
 
   -- links that hold inlines: stop 5
-  node-link : Inlines bytes kids → group_of r ≡ holds_inlines → is_plain_break r.kind r.a ≡ false → is_break r.kind ≡ false → is_link r.kind ≡ true → in_link (fresh i r ∷ f ∷ st) ≡ true → open₀ ≡ (if in_link (f ∷ st) then 5 else 0) → close₀ ≡ 0 → (x : List Entry) → Clean x → own₀ ≡ x ⊕ validate_link_text p kids → Here
+  node-link : Inlines bytes kids → group_of r ≡ holds_inlines → is_plain_break r.kind r.a ≡ false → is_break r.kind ≡ false → is_link r.kind ≡ true → in_link (fresh i r ∷ f ∷ st) ≡ true → open₀ ≡ (when in_link (f ∷ st) then 5 else 0) → close₀ ≡ 0 → (x : List Entry) → Clean x → own₀ ≡ x ⊕ validate_link_text p kids → Here
   unfolding beside
   node-link ih a np nb nl k o c x cx n =
       let l = rw n at s.own in
@@ -274,7 +274,7 @@ module _ (bytes : List ℕ) (es : List Entry) (f : Frame) (st : List Frame) (i b
       (still c))
 
   -- links that hold nothing: stop 5
-  node-auto : group_of r ≡ holds_nothing → is_plain_break r.kind r.a ≡ false → is_break r.kind ≡ false → is_link r.kind ≡ true → open₀ ≡ (if in_link (f ∷ st) then 5 else 0) → close₀ ≡ 0 → Clean own₀ → Here
+  node-auto : group_of r ≡ holds_nothing → is_plain_break r.kind r.a ≡ false → is_break r.kind ≡ false → is_link r.kind ≡ true → open₀ ≡ (when in_link (f ∷ st) then 5 else 0) → close₀ ≡ 0 → Clean own₀ → Here
   unfolding beside
   node-auto bare np nb nl o c n =
       let z : kids ≡ none = leaf r 0 kids placed bare in
@@ -283,7 +283,7 @@ module _ (bytes : List ℕ) (es : List Entry) (f : Frame) (st : List Frame) (i b
       (fits-alone f st i r kids (one-stop (in_link (f ∷ st)) 4 o (λ h. sub-if 42 r.span p (rw nl at (s.links h)) refl refl (at []))) (fits-leaf _ _ _ _ z) (still c))
 
   -- breaks: stops 4 and 11
-  node-break : group_of r ≡ holds_nothing → is_break r.kind ≡ true → is_link r.kind ≡ false → open₀ ≡ (if lined (f ∷ st) then 4 else if is_plain_break r.kind r.a && behind_break f.kids then 11 else 0) → close₀ ≡ 0 → Clean own₀ → Here
+  node-break : group_of r ≡ holds_nothing → is_break r.kind ≡ true → is_link r.kind ≡ false → open₀ ≡ (when lined (f ∷ st) then 4 else when is_plain_break r.kind r.a && behind_break f.kids then 11 else 0) → close₀ ≡ 0 → Clean own₀ → Here
   unfolding beside
   node-break bare ib nl o c n =
       let z : kids ≡ none = leaf r 0 kids placed bare in

@@ -4,7 +4,7 @@ use mathlib.Core.Bool.{Bool, true, false, ◌&&◌, ◌||◌}
 use mathlib.Core.List.{List, [], ◌∷◌, ◌++◌}
 use Prim.Native.Nat.{ℕ, suc}
 use lib.Dec.{eqb}
-use Rattle.leaves.specs.Text.Lists.{if◌then◌else◌}
+use Rattle.leaves.specs.Text.Lists.{when◌then◌else◌}
 use Rattle.leaves.specs.Sheet.Kinds.{is_inline, line_break, blank_line}
 use Rattle.leaves.specs.Sheet.Forest.{Forest, none, tree, count}
 use Rattle.leaves.specs.declared.sheet.records.Rec.{Rec}
@@ -24,7 +24,7 @@ use Rattle.blocks.specs.Html.{validate_tags, validate_html_container}
 use Rattle.setter.specs.Stops.{named}
 use Rattle.setter.proofs.agrees.Fits.{Clean, clean-none, clean-append, clean-noise}
 
-clean-either : (b : Bool) {x y : List Entry} → Clean x → Clean y → Clean (if b then x else y)
+clean-either : (b : Bool) {x y : List Entry} → Clean x → Clean y → Clean (when b then x else y)
 clean-either true p q = p
 clean-either false p q = q
 

@@ -9,7 +9,7 @@ use native.Mathlib.Numerals.{add-one}
 use lib.Dec.{leb, ltb, eqb}
 use lib.ListN.{get_or}
 use borrow.Author.Tests.{eqb-true, leb-true, le-leb, ltb-true}
-use Rattle.leaves.specs.Text.Lists.{if◌then◌else◌}
+use Rattle.leaves.specs.Text.Lists.{when◌then◌else◌}
 use Rattle.leaves.proofs.text.TestLaws.{all_below, each, and_left, and_right}
 use Rattle.leaves.specs.Sheet.Kinds.{among, is_kind, paragraph, heading, block_quote, alert, list, html_container, footnote_definition, table, leaf_directive, container_directive, item, row, cell, emphasis, strong, delete, mark, link, image, link_reference, image_reference, inline_footnote, text_directive}
 use Rattle.leaves.proofs.sheet.KindLaws.{kind-below}
@@ -26,7 +26,7 @@ use Rattle.setter.proofs.agrees.KindCases.{rank, or_cases, InlineKind, inline-ki
 
 -- the group of an open record; the sheet's kind is 0
 unfoldable pub group_of : Rec → ℕ
-group_of r = if eqb r.kind 0 then holds_blocks else parent_group r.kind r.a
+group_of r = when eqb r.kind 0 then holds_blocks else parent_group r.kind r.a
 
 -- a kind that may stand under p
 pub record Stands (p : Rec) (k : ℕ) : Type 0 where
@@ -98,7 +98,7 @@ module _ (g : ℕ) (h : g < 10) where
       (ltb-true _ _ (and_left _ _ f), eqb-true _ _ (and_right (ltb (place_of g k) 4) _ f))
 
 -- ---- there are ten groups
-either : (b : Bool) (x y : ℕ) → x < 10 → y < 10 → (if b then x else y) < 10
+either : (b : Bool) (x y : ℕ) → x < 10 → y < 10 → (when b then x else y) < 10
 either true x y p q = p
 either false x y p q = q
 
@@ -120,7 +120,7 @@ group-of : (r : Rec) → is_kind r.kind ≡ true → parent_group r.kind r.a ≡
 unfolding group_of
 group-of r h = go (eqb r.kind 0) refl
   where
-    go : (b : Bool) → eqb r.kind 0 ≡ b → parent_group r.kind r.a ≡ (if eqb r.kind 0 then holds_blocks else parent_group r.kind r.a)
+    go : (b : Bool) → eqb r.kind 0 ≡ b → parent_group r.kind r.a ≡ (when eqb r.kind 0 then holds_blocks else parent_group r.kind r.a)
     go true e = let z : is_kind 0 ≡ true = rw (eqb-true r.kind 0 e) at h in absurd (false≢true z)
     go false e = rw e
 

@@ -2,7 +2,7 @@
 -- Document 01: "The program reads a sheet on standard input: counts of records and text bytes; a line a record; the
 -- text."
 use Rattle.std.specs.Prelude.{ℕ, ◌+◌, ◌*◌, ◌≡◌, Bool, not, ◌&&◌, ◌||◌, List, ◌++◌, eqb, ltb, length, get_or, drop}
-use Rattle.leaves.specs.Text.Lists.{if◌then◌else◌}
+use Rattle.leaves.specs.Text.Lists.{when◌then◌else◌}
 use Rattle.leaves.specs.Sheet.Records.{record_words}
 use Rattle.leaves.specs.Text.Columns.{line_bytes, is_line, numbers}
 unfoldable pub use Rattle.setter.specs.Listing.Records.{are_records, sheet_of}
@@ -54,13 +54,13 @@ is_big s = ltb most_film_records (record_count s) || ltb most_film_bytes (byte_c
 -- 13, bad column: "malformed line, or text too short or long"; 0 and the number of records where the film is ready
 unfoldable pub film_of : List ℕ → Answer
 film_of s =
-    if not (is_line count_fields s)
+    when not (is_line count_fields s)
     then answer bad_column 0
-    else if is_big s
+    else when is_big s
     then answer big_film 0
-    else if not (are_records (record_count s) (behind_counts s))
+    else when not (are_records (record_count s) (behind_counts s))
     then answer bad_column 0
-    else if not (eqb (length (film_text s)) (byte_count s))
+    else when not (eqb (length (film_text s)) (byte_count s))
     then answer bad_column 0
     else answer 0 (record_count s)
 
@@ -68,7 +68,7 @@ film_of s =
 -- behind them the old words stay; else all stay.
 unfoldable pub filled_sheet : List ℕ → List ℕ → List ℕ
 filled_sheet s old =
-    if is_line count_fields s && not (is_big s)
+    when is_line count_fields s && not (is_big s)
     then film_sheet s ++ drop (record_count s * record_words) old
     else old
 

@@ -2,7 +2,7 @@
 -- Document 01: "The program reads a sheet on standard input .. It prints a line an entry, then diagnostics, stop (0 at
 -- the end), record; a refusal prints number and record only."
 use Rattle.std.specs.Prelude.{ℕ, ◌≡◌, List, [], eqb, replicate}
-use Rattle.leaves.specs.Text.Lists.{if◌then◌else◌}
+use Rattle.leaves.specs.Text.Lists.{when◌then◌else◌}
 use Rattle.leaves.specs.Sheet.Records.{records_of}
 use Rattle.leaves.specs.Refusal.Verdict.{Answer, answer}
 use Rattle.blocks.specs.Walk.{validate_document}
@@ -19,7 +19,7 @@ checked_with w bytes = (outcome w bytes (replicate report_words 0)).0
 -- (1 to 11)
 unfoldable pub sheet_lines : List ℕ → List ℕ → List ℕ
 sheet_lines w bytes =
-    if eqb (checked_with w bytes).number 0
+    when eqb (checked_with w bytes).number 0
     then list_lines (validate_document w bytes) (run_answer w bytes).number (run_answer w bytes).value
     else refusal_line (checked_with w bytes).number (checked_with w bytes).value
 
@@ -27,7 +27,7 @@ sheet_lines w bytes =
 -- above"
 unfoldable pub listing : List ℕ → List ℕ
 listing s =
-    if eqb (film_of s).number 0 then sheet_lines (film_sheet s) (film_text s) else refusal_line (film_of s).number 0
+    when eqb (film_of s).number 0 then sheet_lines (film_sheet s) (film_text s) else refusal_line (film_of s).number 0
 
 -- n bytes are printed for what is read, and what a reader of the page relies on
 pub record Page (s old new : List ℕ) (n : ℕ) : Type 0 where
