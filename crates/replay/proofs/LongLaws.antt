@@ -1,5 +1,5 @@
 -- Calls with a long sheet or a long text.
-use mathlib.Core.Path.{◌≡◌, refl}
+use mathlib.Core.Path.{◌≡◌, refl, sym, ◌∙◌}
 use mathlib.Core.Bool.{Bool, ◌&&◌}
 use mathlib.Core.List.{List}
 use Prim.Native.Nat.{ℕ}
@@ -14,7 +14,9 @@ use Rattle.replay.specs.Tally.{recorded, comparing}
 use Rattle.replay.specs.Words.{first_of, same_words, Gives}
 use Rattle.replay.specs.Front.{answered_of}
 use Rattle.replay.specs.Checks.{before}
-use Rattle.replay.specs.Long.{break_word, untouched, call_of, call_replayed}
+use Rattle.replay.specs.Long.{break_word, long_words, unfilled, zeros, untouched, call_of, call_replayed}
+use Rattle.std.proofs.lemmas.Result.{IfOk-weaker}
+use Rattle.std.specs.Prelude.{Result, Vec, IfOk, replicate}
 
 pub break-kind : (field : ℕ) → field ≡ 0 → 3 ≡ break_word field
 unfolding break_word
@@ -34,5 +36,17 @@ call-record r sheet text front seen lent left zeros function n k m z found answe
     let f : found ≡ (answered_of function front seen lent m).0 = g.first in
     let l : left ≡ (answered_of function front seen lent m).1 = g.second in
     cc
+
+-- A vector that is made of n zeros. It is stated of every n, so that no list of that length is computed.
+pub all-zeros : {A E : Type 0} (r : Result (Vec ℕ A) E) (n : ℕ) (whole : List ℕ) → whole ≡ replicate n 0 → IfOk r (λ v. ((y : ℕ) → y ≡ 0 → y ≡ 0) → v.items ≡ replicate n 0) → IfOk r (λ v. v.items ≡ whole)
+all-zeros r n whole e h = IfOk-weaker r _ _ (λ v f. f (λ y same. same) ∙ sym e) h
+
+pub unfilled-zeros : unfilled ≡ replicate long_words 0
+unfolding unfilled
+unfilled-zeros = refl
+
+pub text-zeros : zeros ≡ replicate 16777217 0
+unfolding zeros
+text-zeros = refl
 
 pub ruleset longs = (break-kind, break-level, break-rest, rules)

@@ -1,5 +1,5 @@
 // A file of stored answers, replayed record by record.
-ghost use Rattle.std.specs.Prelude.{◌≡◌};
+ghost use Rattle.std.specs.Prelude.{◌≡◌, IfOk};
 ghost use Rattle.replay.specs.File.{Stepped, Found};
 ghost use Rattle.replay.specs.Tally.{together};
 
@@ -9,6 +9,9 @@ use crate::line::write_line;
 use crate::piece::{Got, Step, last, next, read_at};
 use crate::tally::Tally;
 use leaves::text::part::part;
+use std::io::Read;
+use std::rt::Files;
+use std::{fs, io};
 
 // Far more records than any file has.
 const RECORDS: usize = 0x10_0000;
@@ -20,8 +23,8 @@ fn room() -> [u8; films::MOST] {
 
 // Reads what stands behind the head of a record, and replays the record. A file that ends inside a record, or has one
 // that is too long, counts as a difference.
-fn replay_behind(
-    fd: i32,
+fn replay_behind<R: Read>(
+    file: &mut R,
     format: Format,
     buffer: &mut [u8; films::MOST],
     sheet: &[u32],
@@ -32,14 +35,14 @@ fn replay_behind(
 {
     let head = head_of(format);
     let n = behind(format, buffer);
-    match read_at(fd, buffer, head, n) {
+    match read_at(file, buffer, head, n) {
         Got::All => next(replay_record(format, part(buffer, 0, head + n), sheet, text, tally)),
         _ => last(tally.differs()),
     }
 }
 
-fn replay_next(
-    fd: i32,
+fn replay_next<R: Read>(
+    file: &mut R,
     format: Format,
     buffer: &mut [u8; films::MOST],
     sheet: &[u32],
@@ -48,22 +51,22 @@ fn replay_next(
 ) -> Step
     ensures { Stepped format sheet.now text.now tally result }
 {
-    match read_at(fd, buffer, 0, head_of(format)) {
-        Got::All => replay_behind(fd, format, buffer, sheet, text, tally),
+    match read_at(file, buffer, 0, head_of(format)) {
+        Got::All => replay_behind(file, format, buffer, sheet, text, tally),
         Got::Nothing => last(tally),
         Got::Less => last(tally.differs()),
     }
 }
 
 // Replays the records of an open file. A file that does not end within RECORDS records counts as a difference.
-fn replay_opened(fd: i32, format: Format, sheet: &[u32], text: &[u8]) -> Tally
+fn replay_opened<R: Read>(file: &mut R, format: Format, sheet: &[u32], text: &[u8]) -> Tally
     ensures { Found format sheet.now text.now result }
 {
     let mut buffer = room();
     let mut tally = Tally::none();
     let mut k: usize = 0;
     while k < RECORDS {
-        let step = replay_next(fd, format, &mut buffer, sheet, text, tally);
+        let step = replay_next(file, format, &mut buffer, sheet, text, tally);
         tally = step.tally;
         if !step.more {
             return tally;
@@ -75,29 +78,35 @@ fn replay_opened(fd: i32, format: Format, sheet: &[u32], text: &[u8]) -> Tally
 
 // Answers what is found in a file. A file that could not be opened counts as a difference. Only a file of calls needs
 // the sheet and the text: they are the long ones.
-pub fn replay(fd: i32, format: Format, sheet: &[u32], text: &[u8]) -> Tally
+pub fn replay<R: Read + Drop>(
+    file: Option<R>,
+    format: Format,
+    sheet: &[u32],
+    text: &[u8],
+) -> Tally
     ensures { Found format sheet.now text.now result }
 {
-    if fd < 0 {
-        return Tally::none().differs();
+    match file {
+        Some(mut file) => replay_opened(&mut file, format, sheet, text),
+        None => Tally::none().differs(),
     }
-    replay_opened(fd, format, sheet, text)
 }
 
 // Opens a file; where it cannot be opened, a line of standard error says why.
-pub fn open(name: &[u8]) -> i32 {
-    let fd = os::open_read(name);
-    if fd < 0 {
-        os::fail(name);
+pub fn open<R: Files + Eprint>(rt: &R, name: &str) -> io::Result<Option<R::File>> {
+    match fs::open(rt, name) {
+        Ok(file) => Ok(Some(file)),
+        Err(error) => {
+            eprintln!(rt; "{name}: {error}")?;
+            Ok(None)
+        }
     }
-    fd
 }
 
-// Closes a file, writes its line, and adds what was found to the total.
-pub fn close(fd: i32, name: &[u8], found: Tally, total: Tally) -> Tally
-    ensures { result ≡ together total found }
+// Writes the line of a file that was replayed, and adds what was found to the total.
+pub fn close<R: Print>(rt: &R, name: &str, found: Tally, total: Tally) -> io::Result<Tally>
+    ensures { IfOk result (λ t. t ≡ together total found) }
 {
-    libc::close(fd);
-    write_line(name, found);
-    total.with(found)
+    write_line(rt, name, found)?;
+    Ok(total.with(found))
 }

@@ -1,7 +1,7 @@
 // A stored call with a long sheet or a long text. It has the function's number, how many words the sheet has, how many
 // bytes the text, how many words are lent to be written into, and how many bytes of those are 0 after the call (4 bytes
 // each); then the answer (8 bytes). The sheet is of thematic breaks, the text of zeros.
-ghost use Rattle.std.specs.Prelude.{◌≡◌, length};
+ghost use Rattle.std.specs.Prelude.{◌≡◌, length, IfOk};
 ghost use Rattle.replay.specs.Long.{break_word, breaks_of, unfilled, zeros, untouched, call_replayed};
 
 use crate::tally::Tally;
@@ -9,6 +9,7 @@ use crate::{bytes, front, words};
 use leaves::sheet::kinds;
 use leaves::sheet::records::RECORD_WORDS;
 use leaves::text::part::part;
+use std::alloc::{AllocError, Global};
 
 // How many bytes a stored call has.
 pub const BYTES: usize = 28;
@@ -27,16 +28,16 @@ const BEFORE: u32 = 0xA5A5_A5A5;
 
 // The long sheet before it is filled, the long text, and what is lent before a call. The proofs of callers do not
 // unfold `unfilled`, `zeros` and `untouched`, and so do not compute such long lists.
-pub fn sheet() -> [u32; SHEET]
-    ensures { result ≡ unfilled }
+pub fn sheet(alloc: Global) -> Result<Vec<u32>, AllocError>
+    ensures { IfOk result (λ sheet. sheet.items ≡ unfilled) }
 {
-    [0u32; SHEET]
+    vec![in alloc; 0u32; SHEET]
 }
 
-pub fn text() -> [u8; TEXT]
-    ensures { result ≡ zeros }
+pub fn text(alloc: Global) -> Result<Vec<u8>, AllocError>
+    ensures { IfOk result (λ text. text.items ≡ zeros) }
 {
-    [0u8; TEXT]
+    vec![in alloc; 0u8; TEXT]
 }
 
 fn lent() -> [u32; LENT]

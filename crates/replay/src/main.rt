@@ -19,68 +19,60 @@ mod texts;
 mod values;
 mod words;
 
-ghost use Rattle.std.specs.Prelude.{[], ◌∷◌};
+ghost use Rattle.std.specs.Prelude.{[], ◌∷◌, IfOk};
 ghost use Rattle.replay.specs.File.{Adds};
 ghost use Rattle.replay.specs.Long.{long_words, breaks_of, zeros};
 
 use crate::format::Format;
 use crate::line::write_line;
 use crate::tally::Tally;
-use libc::STDOUT_FILENO;
+use std::io;
+use std::rt::Files;
 
-// For ARG_MAX the C library answers a quarter of the stack's limit, and no more than this.
-const QUARTER: i64 = 0x60_0000;
-
-fn replay(name: &[u8], format: Format, total: Tally) -> Tally
-    ensures { Adds format (0 ∷ []) [] total result }
+// Replays a file of short records, writes its line, and adds what was found to the total.
+fn replay<R: Files + Print + Eprint>(rt: &R, name: &str, format: Format, total: Tally) -> io::Result<Tally>
+    ensures { IfOk result (λ t. Adds format (0 ∷ []) [] total t) }
 {
-    let fd = file::open(name);
-    let found = file::replay(fd, format, &[0u32; 1], b"");
-    file::close(fd, name, found, total)
+    let found = file::replay(file::open(rt, name)?, format, &[0u32; 1], b"");
+    file::close(rt, name, found, total)
 }
 
-// Replays a file of calls. The long sheet and the long text are on the stack.
-fn replay_long(name: &[u8], total: Tally) -> Tally
-    ensures { Adds Format.Calls (breaks_of long_words) zeros total result }
+// Replays a file of calls. The long sheet and the long text are on the heap.
+fn replay_long<R: Files + Print + Eprint + AllocGlobal>(
+    rt: &R,
+    name: &str,
+    total: Tally,
+) -> io::Result<Tally>
+    ensures { IfOk result (λ t. Adds Format.Calls (breaks_of long_words) zeros total t) }
 {
-    let mut sheet = long::sheet();
-    let text = long::text();
+    let mut sheet = long::sheet(rt.alloc())?;
+    let text = long::text(rt.alloc())?;
     long::breaks(&mut sheet);
-    let fd = file::open(name);
-    let found = file::replay(fd, Format::Calls, &sheet, &text);
-    file::close(fd, name, found, total)
+    let found = file::replay(file::open(rt, name)?, Format::Calls, &sheet, &text);
+    file::close(rt, name, found, total)
 }
 
 // Replays the files whose records are short.
-fn replay_short_files() -> Tally {
+fn replay_short_files<R: Files + Print + Eprint>(rt: &R) -> io::Result<Tally> {
     let mut total = Tally::none();
-    total = replay(b"utf8", Format::Texts, total);
-    total = replay(b"white", Format::Texts, total);
-    total = replay(b"lines", Format::Texts, total);
-    total = replay(b"names", Format::Texts, total);
-    total = replay(b"pipes", Format::Texts, total);
-    total = replay(b"pairs", Format::Pairs, total);
-    total = replay(b"punctuation", Format::Punctuation, total);
-    total = replay(b"parts", Format::Parts, total);
-    total = replay(b"sheets", Format::Sheets, total);
-    total = replay(b"inlines", Format::Lists, total);
-    total = replay(b"checks", Format::Checks, total);
-    replay(b"films", Format::Films, total)
+    total = replay(rt, "utf8", Format::Texts, total)?;
+    total = replay(rt, "white", Format::Texts, total)?;
+    total = replay(rt, "lines", Format::Texts, total)?;
+    total = replay(rt, "names", Format::Texts, total)?;
+    total = replay(rt, "pipes", Format::Texts, total)?;
+    total = replay(rt, "pairs", Format::Pairs, total)?;
+    total = replay(rt, "punctuation", Format::Punctuation, total)?;
+    total = replay(rt, "parts", Format::Parts, total)?;
+    total = replay(rt, "sheets", Format::Sheets, total)?;
+    total = replay(rt, "inlines", Format::Lists, total)?;
+    total = replay(rt, "checks", Format::Checks, total)?;
+    replay(rt, "films", Format::Films, total)
 }
 
-// `replay_long` has the long text in its frame. It is called twice, so that the compiler does not make that frame a
-// part of this one: this one must be small until the stack is tested.
-fn main() {
-    io::write_all(STDOUT_FILENO, b"file records compared differ\n");
-    let mut total = replay_short_files();
-    if libc::sysconf(libc::_SC_ARG_MAX) < QUARTER {
-        io::write_all(
-            STDOUT_FILENO,
-            b"the stack is too small for a long text: `ulimit -s 65536` makes it large enough\n",
-        );
-        return;
-    }
-    total = replay_long(b"long_checks", total);
-    total = replay_long(b"long_sets", total);
-    write_line(b"all", total);
+fn main(rt: HostRuntime) -> io::Result<()> {
+    println!(rt; "file records compared differ")?;
+    let mut total = replay_short_files(&rt)?;
+    total = replay_long(&rt, "long_checks", total)?;
+    total = replay_long(&rt, "long_sets", total)?;
+    write_line(&rt, "all", total)
 }

@@ -1,4 +1,4 @@
-// The functions that C and Rust call.
+// The functions that C and Rust call: the crate `setter_c` exports them under their names.
 ghost use Rattle.std.specs.Prelude.{◌^◌, ◌<◌};
 ghost use Rattle.leaves.specs.Refusal.Verdict.{answer};
 ghost use Rattle.setter.specs.Exports.{Halves, CheckPromise, SetPromise};
@@ -20,8 +20,7 @@ fn packed(number: u32, value: usize) -> u64
 }
 
 // The check. Its promise is the check's, for the answer and for the whole report.
-#[unsafe(no_mangle)]
-pub extern "C" fn reedsander_check(sheet: &[u32], text: &[u8], report: &mut [u32]) -> u64
+pub fn reedsander_check(sheet: &[u32], text: &[u8], report: &mut [u32]) -> u64
     ensures { CheckPromise sheet.now text.now report.old result report.new }
 {
     let checked = check(sheet, text, report);
@@ -29,8 +28,7 @@ pub extern "C" fn reedsander_check(sheet: &[u32], text: &[u8], report: &mut [u32
 }
 
 // The setting machine. Its promise is the machine's, for the answer and for every mark.
-#[unsafe(no_mangle)]
-pub extern "C" fn reedsander_set(sheet: &[u32], text: &[u8], marks: &mut [u32]) -> u64
+pub fn reedsander_set(sheet: &[u32], text: &[u8], marks: &mut [u32]) -> u64
     ensures { SetPromise sheet.now text.now marks.old result marks.new }
 {
     let set = set(sheet, text, marks);

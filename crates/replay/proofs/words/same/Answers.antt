@@ -1,0 +1,18 @@
+-- `replay::words::same` meets its contract.
+use Prim.Native.Nat.{◌*◌, ◌-◌}
+use lib.ListN.{length}
+use Rattle.replay.specs.Words.{word_or, same_words}
+use Rattle.replay.proofs.WordLaws.{Agreeing}
+use Rattle.replay.proofs.WordLaws.{words}
+use Rattle.replay.proofs.words.same.Goals as goal
+
+pub returns-then-words-k : goal.returns-then-words-k
+unfolding same_words
+returns-then-words-k c = search words
+
+pub loop-k-preserved : goal.loop-k-preserved
+loop-k-preserved c = search words
+
+pub returns : goal.returns
+unfolding same_words
+returns c = search words

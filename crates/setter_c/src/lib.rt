@@ -1,0 +1,23 @@
+// The static library: the two functions of `setter::exports`, under the names by which C and Rust call them, with the
+// same promises.
+#![tactic(auto)]
+
+ghost use Rattle.setter.specs.Exports.{CheckPromise, SetPromise};
+
+use setter::exports;
+
+// The check. Its promise is the check's, for the answer and for the whole report.
+#[unsafe(no_mangle)]
+pub extern "C" fn reedsander_check(sheet: &[u32], text: &[u8], report: &mut [u32]) -> u64
+    ensures { CheckPromise sheet.now text.now report.old result report.new }
+{
+    exports::reedsander_check(sheet, text, report)
+}
+
+// The setting machine. Its promise is the machine's, for the answer and for every mark.
+#[unsafe(no_mangle)]
+pub extern "C" fn reedsander_set(sheet: &[u32], text: &[u8], marks: &mut [u32]) -> u64
+    ensures { SetPromise sheet.now text.now marks.old result marks.new }
+{
+    exports::reedsander_set(sheet, text, marks)
+}
