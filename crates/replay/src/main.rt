@@ -19,9 +19,9 @@ mod texts;
 mod values;
 mod words;
 
-ghost use Rattle.std.specs.Prelude.{[], ◌∷◌, IfOk};
+ghost use Rattle.std.specs.Prelude.{◌≡◌, [], ◌∷◌, IfOk};
 ghost use Rattle.replay.specs.File.{Adds};
-ghost use Rattle.replay.specs.Long.{long_words, breaks_of, zeros};
+ghost use Rattle.replay.specs.Long.{long_words, breaks_of, unfilled, zeros};
 
 use crate::format::Format;
 use crate::line::write_line;
@@ -37,6 +37,23 @@ fn replay<R: Files + Print + Eprint>(rt: &R, name: &str, format: Format, total: 
     file::close(rt, name, found, total)
 }
 
+// Replays a file of calls with the long sheet, which is filled first, and the long text.
+fn replay_calls<R: Files + Print + Eprint>(
+    rt: &R,
+    name: &str,
+    sheet: &mut [u32],
+    text: &[u8],
+    total: Tally,
+) -> io::Result<Tally>
+    requires sheet { sheet.old ≡ unfilled }
+    requires text { text.now ≡ zeros }
+    ensures { IfOk result (λ t. Adds Format.Calls (breaks_of long_words) zeros total t) }
+{
+    long::breaks(sheet);
+    let found = file::replay(file::open(rt, name)?, Format::Calls, sheet, text);
+    file::close(rt, name, found, total)
+}
+
 // Replays a file of calls. The long sheet and the long text are on the heap.
 fn replay_long<R: Files + Print + Eprint + AllocGlobal>(
     rt: &R,
@@ -47,9 +64,7 @@ fn replay_long<R: Files + Print + Eprint + AllocGlobal>(
 {
     let mut sheet = long::sheet(rt.alloc())?;
     let text = long::text(rt.alloc())?;
-    long::breaks(&mut sheet);
-    let found = file::replay(file::open(rt, name)?, Format::Calls, &sheet, &text);
-    file::close(rt, name, found, total)
+    replay_calls(rt, name, &mut sheet, &text, total)
 }
 
 // Replays the files whose records are short.
