@@ -4,7 +4,7 @@ use mathlib.Core.Bool.{Bool, ◌&&◌}
 use mathlib.Core.List.{List}
 use Prim.Native.Nat.{ℕ, ◌+◌, ◌*◌}
 use borrow.Author.Rules.{rules}
-use lib.Dec.{eqb, leb}
+use lib.Dec.{eqb}
 use lib.ListN.{replicate}
 use Rattle.leaves.specs.Text.Part.{part_of}
 use Rattle.replay.specs.declared.tally.Tally.{Tally}

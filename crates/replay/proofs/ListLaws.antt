@@ -6,7 +6,7 @@ use Prim.Native.Nat.{ℕ, ◌+◌, ◌*◌, ◌<◌, ◌≤◌}
 use borrow.Author.Rules.{rules}
 use borrow.Author.Tests.{lt-ltb, le-ltb, not-true, not-false}
 use lib.Dec.{eqb, leb}
-use lib.ListN.{length, replicate}
+use lib.ListN.{replicate}
 use Rattle.leaves.specs.Text.Part.{part_of}
 use Rattle.leaves.specs.Sheet.Records.{records_of}
 use Rattle.leaves.specs.Sheet.Forest.{under}
@@ -26,7 +26,7 @@ use Rattle.replay.specs.Bytes.{pair_at}
 use Rattle.replay.specs.Tally.{recorded, comparing}
 use Rattle.replay.specs.Words.{words_of, first_of, same_words, Gives}
 use Rattle.replay.specs.Sheets.{sheet_in}
-use Rattle.replay.specs.Lists.{inlines_of, listed_of, list_of, list_replayed}
+use Rattle.replay.specs.Lists.{listed_of, list_of, list_replayed}
 
 module _ (w bytes report : List ℕ) where
   pub listed-none : records_of w < 1 → Gives (listed_of w bytes report) 0 report

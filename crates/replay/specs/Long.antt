@@ -1,5 +1,5 @@
 -- Stored calls with a long sheet or a long text.
-use Rattle.std.specs.Prelude.{ℕ, zero, suc, ◌%◌, ◌&&◌, List, eqb, leb, length, replicate}
+use Rattle.std.specs.Prelude.{ℕ, ◌%◌, ◌&&◌, List, eqb, leb, length, replicate}
 use Rattle.leaves.specs.Text.Lists.{when◌then◌else◌}
 use Rattle.leaves.specs.Text.Part.{part_of}
 use Rattle.leaves.specs.Sheet.Kinds.{thematic_break}

@@ -78,12 +78,7 @@ fn replay_opened<R: Read>(file: &mut R, format: Format, sheet: &[u32], text: &[u
 
 // Answers what is found in a file. A file that could not be opened counts as a difference. Only a file of calls needs
 // the sheet and the text: they are the long ones.
-pub fn replay<R: Read + Drop>(
-    file: Option<R>,
-    format: Format,
-    sheet: &[u32],
-    text: &[u8],
-) -> Tally
+pub fn replay<R: Read + Drop>(file: Option<R>, format: Format, sheet: &[u32], text: &[u8]) -> Tally
     ensures { Found format sheet.now text.now result }
 {
     match file {

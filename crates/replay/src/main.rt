@@ -30,7 +30,12 @@ use std::io;
 use std::rt::Files;
 
 // Replays a file of short records, writes its line, and adds what was found to the total.
-fn replay<R: Files + Print + Eprint>(rt: &R, name: &str, format: Format, total: Tally) -> io::Result<Tally>
+fn replay<R: Files + Print + Eprint>(
+    rt: &R,
+    name: &str,
+    format: Format,
+    total: Tally,
+) -> io::Result<Tally>
     ensures { IfOk result (λ t. Adds format (0 ∷ []) [] total t) }
 {
     let found = file::replay(file::open(rt, name)?, format, &[0u32; 1], b"");

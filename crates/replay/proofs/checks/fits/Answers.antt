@@ -1,6 +1,5 @@
 -- `replay::checks::fits` meets its contract.
 use Rattle.replay.specs.Checks.{fits_of}
-use borrow.Author.Rules.{rules}
 use Rattle.replay.proofs.checks.fits.Goals as goal
 
 pub returns : goal.returns

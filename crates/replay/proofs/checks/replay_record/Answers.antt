@@ -1,6 +1,5 @@
 -- `replay::checks::replay_record` meets its contract.
 use Rattle.replay.proofs.CheckLaws.{checks-record}
-use borrow.Author.Rules.{rules}
 use Rattle.replay.proofs.checks.replay_record.Goals as goal
 
 pub returns : goal.returns

@@ -1,6 +1,5 @@
 -- `replay::films::replay_film` meets its contract.
 use Rattle.replay.proofs.FilmLaws.{film-record}
-use borrow.Author.Rules.{rules}
 use Rattle.replay.proofs.films.replay_film.Goals as goal
 
 pub returns : goal.returns

@@ -1,8 +1,5 @@
 -- `replay::films::same` meets its contract.
-use Prim.Native.Nat.{◌-◌}
-use lib.ListN.{length, get_or}
-use Rattle.replay.specs.Films.{before, same_printed}
-use Rattle.replay.proofs.WordLaws.{Agreeing}
+use Rattle.replay.specs.Films.{same_printed}
 use Rattle.replay.proofs.WordLaws.{words}
 use Rattle.replay.proofs.films.same.Goals as goal
 

@@ -1,9 +1,8 @@
 -- `replay::films::same` meets its contract.
 use Prim.Native.Nat.{◌-◌}
 use lib.ListN.{length, get_or}
-use Rattle.replay.specs.Films.{before, same_printed}
+use Rattle.replay.specs.Films.{before}
 use Rattle.replay.proofs.WordLaws.{Agreeing}
-use Rattle.replay.proofs.WordLaws.{words}
 use Rattle.replay.proofs.films.same.Given as goal
 
 abbrev pub invariant-loop-k : goal.invariant-loop-k

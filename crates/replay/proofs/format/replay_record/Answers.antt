@@ -1,5 +1,4 @@
 -- `replay::format::replay_record` meets its contract.
-use borrow.Author.Rules.{rules}
 use Rattle.replay.specs.Format.{replayed}
 use Rattle.replay.proofs.format.replay_record.Goals as goal
 

@@ -1,7 +1,5 @@
 -- `replay::front::answer` meets its contract.
-use lib.ListN.{length-take}
 use Rattle.replay.proofs.FrontLaws.{fronts}
-use native.Mathlib.Omega.{arith}
 use Rattle.replay.proofs.front.answer.Goals as goal
 
 pub returns-then-lent-m : goal.returns-then-lent-m

@@ -1,6 +1,5 @@
 -- `replay::lists::replay_record` meets its contract.
 use Rattle.replay.proofs.ListLaws.{list-record}
-use borrow.Author.Rules.{rules}
 use Rattle.replay.proofs.lists.replay_record.Goals as goal
 
 pub returns : goal.returns

@@ -1,10 +1,6 @@
 -- `replay::long::breaks` meets its contract.
-use Prim.Native.Nat.{◌-◌, ◌%◌}
-use lib.ListN.{length, length-set}
-use Rattle.replay.specs.Long.{break_word, breaks_of}
-use Rattle.replay.proofs.WordLaws.{Filling}
+use Rattle.replay.specs.Long.{breaks_of}
 use Rattle.replay.proofs.WordLaws.{words}
-use native.Mathlib.Omega.{arith}
 use Rattle.replay.proofs.long.breaks.Goals as goal
 
 pub loop-k-init : goal.loop-k-init

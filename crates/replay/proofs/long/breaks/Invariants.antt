@@ -1,10 +1,8 @@
 -- `replay::long::breaks` meets its contract.
 use Prim.Native.Nat.{◌-◌, ◌%◌}
-use lib.ListN.{length, length-set}
-use Rattle.replay.specs.Long.{break_word, breaks_of}
+use lib.ListN.{length}
+use Rattle.replay.specs.Long.{break_word}
 use Rattle.replay.proofs.WordLaws.{Filling}
-use Rattle.replay.proofs.WordLaws.{words}
-use native.Mathlib.Omega.{arith}
 use Rattle.replay.proofs.long.breaks.Given as goal
 
 abbrev pub invariant-loop-k : goal.invariant-loop-k

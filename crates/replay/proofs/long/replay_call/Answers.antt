@@ -1,6 +1,5 @@
 -- `replay::long::replay_call` meets its contract.
 use Rattle.replay.proofs.LongLaws.{call-record}
-use borrow.Author.Rules.{rules}
 use Rattle.replay.proofs.long.replay_call.Goals as goal
 
 pub returns : goal.returns

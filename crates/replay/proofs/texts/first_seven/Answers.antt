@@ -1,6 +1,5 @@
 -- `replay::texts::first_seven` meets its contract.
 use Rattle.replay.proofs.TextLaws.{first-answers}
-use borrow.Author.Rules.{rules}
 use Rattle.replay.proofs.texts.first_seven.Goals as goal
 
 pub returns : goal.returns

@@ -1,6 +1,5 @@
 -- `replay::texts::last_seven` meets its contract.
 use Rattle.replay.proofs.TextLaws.{last-answers}
-use borrow.Author.Rules.{rules}
 use Rattle.replay.proofs.texts.last_seven.Goals as goal
 
 pub returns : goal.returns

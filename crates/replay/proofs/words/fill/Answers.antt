@@ -1,10 +1,6 @@
 -- `replay::words::fill` meets its contract.
-use Prim.Native.Nat.{◌-◌}
-use lib.ListN.{length, length-set}
-use Rattle.replay.specs.Words.{word_of, words_of}
-use Rattle.replay.proofs.WordLaws.{Filling}
+use Rattle.replay.specs.Words.{words_of}
 use Rattle.replay.proofs.WordLaws.{words}
-use native.Mathlib.Omega.{arith}
 use Rattle.replay.proofs.words.fill.Goals as goal
 
 pub loop-k-init : goal.loop-k-init

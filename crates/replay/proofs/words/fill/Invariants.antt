@@ -1,10 +1,8 @@
 -- `replay::words::fill` meets its contract.
 use Prim.Native.Nat.{◌-◌}
-use lib.ListN.{length, length-set}
-use Rattle.replay.specs.Words.{word_of, words_of}
+use lib.ListN.{length}
+use Rattle.replay.specs.Words.{word_of}
 use Rattle.replay.proofs.WordLaws.{Filling}
-use Rattle.replay.proofs.WordLaws.{words}
-use native.Mathlib.Omega.{arith}
 use Rattle.replay.proofs.words.fill.Given as goal
 
 abbrev pub invariant-loop-k : goal.invariant-loop-k

@@ -1,7 +1,5 @@
 -- `replay::words::first` meets its contract.
-use lib.ListN.{length-take}
 use Rattle.replay.proofs.WordLaws.{words}
-use native.Mathlib.Omega.{arith}
 use Rattle.replay.proofs.words.first.Goals as goal
 
 pub returns-then-words-n : goal.returns-then-words-n

@@ -1,8 +1,5 @@
 -- `replay::words::same` meets its contract.
-use Prim.Native.Nat.{◌*◌, ◌-◌}
-use lib.ListN.{length}
-use Rattle.replay.specs.Words.{word_or, same_words}
-use Rattle.replay.proofs.WordLaws.{Agreeing}
+use Rattle.replay.specs.Words.{same_words}
 use Rattle.replay.proofs.WordLaws.{words}
 use Rattle.replay.proofs.words.same.Goals as goal
 

@@ -1,9 +1,8 @@
 -- `replay::words::same` meets its contract.
 use Prim.Native.Nat.{◌*◌, ◌-◌}
 use lib.ListN.{length}
-use Rattle.replay.specs.Words.{word_or, same_words}
+use Rattle.replay.specs.Words.{word_or}
 use Rattle.replay.proofs.WordLaws.{Agreeing}
-use Rattle.replay.proofs.WordLaws.{words}
 use Rattle.replay.proofs.words.same.Given as goal
 
 abbrev pub invariant-loop-k : goal.invariant-loop-k

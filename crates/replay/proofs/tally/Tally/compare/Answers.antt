@@ -1,6 +1,5 @@
 -- `replay::tally::Tally::compare` meets its contract.
 use Rattle.replay.specs.Tally.{comparing}
-use borrow.Author.Rules.{rules}
 use Rattle.replay.proofs.tally.Tally.compare.Goals as goal
 
 pub returns : goal.returns

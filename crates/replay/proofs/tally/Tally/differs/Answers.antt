@@ -1,6 +1,5 @@
 -- `replay::tally::Tally::differs` meets its contract.
 use Rattle.replay.specs.Tally.{differing}
-use borrow.Author.Rules.{rules}
 use Rattle.replay.proofs.tally.Tally.differs.Goals as goal
 
 pub returns : goal.returns

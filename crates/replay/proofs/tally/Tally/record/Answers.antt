@@ -1,6 +1,5 @@
 -- `replay::tally::Tally::record` meets its contract.
 use Rattle.replay.specs.Tally.{recorded}
-use borrow.Author.Rules.{rules}
 use Rattle.replay.proofs.tally.Tally.record.Goals as goal
 
 pub returns : goal.returns

@@ -1,6 +1,5 @@
 -- `replay::tally::Tally::with` meets its contract.
 use Rattle.replay.specs.Tally.{together}
-use borrow.Author.Rules.{rules}
 use Rattle.replay.proofs.tally.Tally.with.Goals as goal
 
 pub returns : goal.returns
