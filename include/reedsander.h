@@ -1,5 +1,5 @@
 /* Reedsander: the checker of grade notes, and the setting machine. Both are in
- * libsetter.a, which `rt staticlib setter` proves and writes. */
+ * libsetter.a, which `./staticlib` proves and writes. */
 #ifndef REEDSANDER_H
 #define REEDSANDER_H
 

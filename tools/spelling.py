@@ -15,6 +15,8 @@ import re
 import sys
 
 LETTER = r"A-Za-z0-9_'\u2080-\u2089\-"
+# A law of that file has a name that a definition which it cites gets.
+BEFORE = {"crates/leaves/proofs/text/FieldLaws.antt": ("is_digit", "digit-is")}
 TOKEN = re.compile(rf"(?<![{LETTER}])[a-z][A-Za-z0-9]*[A-Z][A-Za-z0-9]*(?![{LETTER}])")
 
 
@@ -69,8 +71,11 @@ def main(look):
     for p in files(".", (".antt", ".rt", ".edit", ".md"), ["crates", "docs", "examples", "README.md"]):
         if os.path.basename(p) == "PORT.md":
             continue
-        text = read(p)
-        to = TOKEN.sub(lambda m: new.get(m.group(), m.group()), text)
+        text = to = read(p)
+        old, other = BEFORE.get(os.path.relpath(p), ("", ""))
+        if old:
+            to = re.sub(rf"(?<![{LETTER}]){old}(?![{LETTER}])", other, to)
+        to = TOKEN.sub(lambda m: new.get(m.group(), m.group()), to)
         if to != text:
             with open(p, "w", encoding="utf-8") as f:
                 f.write(to)

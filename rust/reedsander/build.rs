@@ -2,8 +2,8 @@
 //!
 //! `REEDSANDER_LIB_DIR` names a folder that holds `libsetter.a`; a
 //! relative name is seen from the repository's root, the folder that holds
-//! `rust/`. Without it `rt staticlib setter` is run there, which proves
-//! the checker and the setting machine and writes the library.
+//! `rust/`. Without it `./staticlib` is run there, which proves the checker and
+//! the setting machine and writes the library.
 //!
 //! The library is copied to cargo's own folder, so that what was built stays
 //! whole when the root's `target/` is removed.
@@ -15,6 +15,9 @@ use std::{
 };
 
 const LIBRARY: &str = "libsetter.a";
+
+/// The crates that the library is made of.
+const CRATES: [&str; 5] = ["leaves", "inlines", "blocks", "setter", "setter_c"];
 
 fn main() {
     println!("cargo:rerun-if-env-changed=REEDSANDER_LIB_DIR");
@@ -49,18 +52,21 @@ fn given(folder: &Path) -> PathBuf {
 
 /// The library as the checker's own sources give it.
 fn proved(root: &Path) -> PathBuf {
-    for source in ["crates", "crates.txt"] {
-        println!("cargo:rerun-if-changed={}", root.join(source).display());
+    println!("cargo:rerun-if-changed={}", root.join("crates.txt").display());
+    for name in CRATES {
+        for folder in ["src", "specs", "proofs"] {
+            let sources = root.join("crates").join(name).join(folder);
+            if sources.is_dir() {
+                println!("cargo:rerun-if-changed={}", sources.display());
+            }
+        }
     }
-    let status = Command::new("rt")
-        .args(["staticlib", "setter"])
-        .current_dir(root)
-        .status();
+    let status = Command::new("sh").arg(root.join("staticlib")).status();
     match status {
         Ok(status) if status.success() => root.join("target/staticlib").join(LIBRARY),
-        Ok(status) => panic!("rt staticlib setter: {status}"),
-        Err(error) => panic!(
-            "rt: {error}; without it, REEDSANDER_LIB_DIR names the folder that holds {LIBRARY}"
+        Ok(status) => panic!(
+            "staticlib: {status}; without rt, REEDSANDER_LIB_DIR names the folder that holds {LIBRARY}"
         ),
+        Err(error) => panic!("sh: {error}"),
     }
 }
