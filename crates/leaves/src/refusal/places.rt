@@ -85,8 +85,8 @@ pub(crate) fn opened(group: u32) -> Open
 
 // The same after one more child, of the kind.
 pub(crate) fn joined(table: &[[u32; 7]; 10], groups: &[[u32; 2]; 54], o: Open, kind: u32) -> Open
-    requires table_value { (table.now ≡ place_table) × (groups.now ≡ kind_groups) }
-    requires kind_value { (is_kind kind ≡ true) × (misplaced o kind ≡ false) }
+    requires tables { (table.now ≡ place_table) × (groups.now ≡ kind_groups) }
+    requires fits { (is_kind kind ≡ true) × (misplaced o kind ≡ false) }
     ensures { result ≡ joined o kind }
 {
     let stage = place_of(table, groups, o.group, kind);

@@ -20,4 +20,4 @@ unfolding validate_container
 returns-in-16 c = rw c.in-16.is c.validate_directive.ensures
 
 pub returns-in_default : goal.returns-in_default
-returns-in_default c = container-others _ _ _ _ c.in_default.in_default-own.rest c.validate_leaf.ensures
+returns-in_default c = container-others _ _ _ _ (assumption c.in_default) c.validate_leaf.ensures

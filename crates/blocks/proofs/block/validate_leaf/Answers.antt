@@ -28,4 +28,4 @@ unfolding validate_leaf
 returns-in-15 c = rw c.in-15.is c.validate_directive.ensures
 
 pub returns-in_default : goal.returns-in_default
-returns-in_default c = leaf-others _ _ _ _ c.in_default.in_default-own.rest
+returns-in_default c = leaf-others _ _ _ _ (assumption c.in_default)

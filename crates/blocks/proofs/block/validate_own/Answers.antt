@@ -13,4 +13,4 @@ unfolding validate_own
 returns-in-12 c = (rw c.in-12.is c.validate_table.ensures.0, c.validate_table.ensures.1)
 
 pub returns-in_default : goal.returns-in_default
-returns-in_default c = (own-others _ _ _ _ c.in_default.in_default-own.rest c.validate_container.ensures, search rules)
+returns-in_default c = (own-others _ _ _ _ (assumption c.in_default) c.validate_container.ensures, search rules)

@@ -24,4 +24,4 @@ unfolding validate_inline
 returns-in-50 c = rw c.in-50.is c.validate_inline_footnote.ensures
 
 pub returns-in_default : goal.returns-in_default
-returns-in_default c = of_others _ _ _ _ c.is_emphasis_container.ensures c.if-is_emphasis_container.false c.in_default.in_default-own.rest c.validate_inline_values.ensures
+returns-in_default c = of_others _ _ _ _ c.is_emphasis_container.ensures c.if-is_emphasis_container.false (assumption c.in_default) c.validate_inline_values.ensures

@@ -36,4 +36,4 @@ unfolding validate_inline_values
 returns-in-48 c = rw c.in-48.is c.validate_math_inline.ensures
 
 pub returns-in_default : goal.returns-in_default
-returns-in_default c = of-no-values _ _ _ c.in_default.in_default-own.rest
+returns-in_default c = of-no-values _ _ _ (assumption c.in_default)

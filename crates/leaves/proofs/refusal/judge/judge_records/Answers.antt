@@ -9,8 +9,8 @@ loop-i-init c = search records-judged
 pub returns-then-not-is_accepted : goal.returns-then-not-is_accepted
 returns-then-not-is_accepted c = search records-judged
 
-pub joined-requires-clause-kind_value : goal.joined-requires-clause-kind_value
-joined-requires-clause-kind_value c = let p = (judging-passed _ _ _ _ _ _ (search rules) c.loop-i.invariant c.judge-j.ensures c.record_at-r.ensures c.slot_of-slot.ensures.is c.is_accepted.ensures (search records-judged)) in (p.kind, p.place)
+pub joined-requires-clause-fits : goal.joined-requires-clause-fits
+joined-requires-clause-fits c = let p = (judging-passed _ _ _ _ _ _ (search rules) c.loop-i.invariant c.judge-j.ensures c.record_at-r.ensures c.slot_of-slot.ensures.is c.is_accepted.ensures (search records-judged)) in (p.kind, p.place)
 
 pub parent_group-requires : goal.parent_group-requires
 parent_group-requires c = let p = (judging-passed _ _ _ _ _ _ (search rules) c.loop-i.invariant c.judge-j.ensures c.record_at-r.ensures c.slot_of-slot.ensures.is c.is_accepted.ensures (search records-judged)) in (search rules, p.kind)
