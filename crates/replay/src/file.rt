@@ -1,5 +1,5 @@
 // A file of stored answers, replayed record by record.
-ghost use Rattle.std.specs.Prelude.{◌≡◌, IfOk};
+ghost use Rattle.std.specs.Prelude.{◌≡◌};
 ghost use Rattle.replay.specs.File.{Stepped, Found};
 ghost use Rattle.replay.specs.Tally.{together};
 
@@ -9,9 +9,9 @@ use crate::line::write_line;
 use crate::piece::{Got, Step, last, next, read_at};
 use crate::tally::Tally;
 use leaves::text::part::part;
+use std::fs;
 use std::io::Read;
 use std::rt::Files;
-use std::{fs, io};
 
 // Far more records than any file has.
 const RECORDS: usize = 0x10_0000;
@@ -87,21 +87,22 @@ pub fn replay<R: Read + Drop>(file: Option<R>, format: Format, sheet: &[u32], te
     }
 }
 
-// Opens a file; where it cannot be opened, a line of standard error says why.
-pub fn open<R: Files + Eprint>(rt: &R, name: &str) -> io::Result<Option<R::File>> {
+// Opens a file; where it cannot be opened, a line of standard error says why, if it can be written.
+pub fn open<R: Files + Eprint>(rt: &R, name: &str) -> Option<R::File> {
     match fs::open(rt, name) {
-        Ok(file) => Ok(Some(file)),
+        Ok(file) => Some(file),
         Err(error) => {
-            eprintln!(rt; "{name}: {error}")?;
-            Ok(None)
+            let _ = eprintln!(rt; "{name}: {error}");
+            None
         }
     }
 }
 
-// Writes the line of a file that was replayed, and adds what was found to the total.
-pub fn close<R: Print>(rt: &R, name: &str, found: Tally, total: Tally) -> io::Result<Tally>
-    ensures { IfOk result (λ t. t ≡ together total found) }
+// Writes the line of a file that was replayed, and adds what was found to the total. A line that cannot be written
+// changes no count.
+pub fn close<R: Print>(rt: &R, name: &str, found: Tally, total: Tally) -> Tally
+    ensures { result ≡ together total found }
 {
-    write_line(rt, name, found)?;
-    Ok(total.with(found))
+    let _ = write_line(rt, name, found);
+    total.with(found)
 }

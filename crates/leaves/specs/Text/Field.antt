@@ -1,6 +1,6 @@
 -- A field of the program's lines, as it is written and as it is read.
 -- Document 01: "Fields are decimal, at most 4,294,967,295, right-justified in 11 places, no leading zeros".
--- Writing and reading agree (proofs/text/FieldReadLaws.antt): a written number is read back (`Written-Read`), bytes
+-- Writing and reading agree (proofs/text/FieldReadLaws.antt): a written number is read back (`written_read`), bytes
 -- that are read as a number are that number written (`read-written`), and no number is written as malformed bytes
 -- (`malformed-unwritten`).
 use Rattle.std.specs.Prelude.{ℕ, zero, suc, ◌+◌, ◌-◌, ◌*◌, ◌/◌, ◌%◌, Bool, true, false, ◌&&◌, ◌||◌, List, [], ◌∷◌, ◌++◌, eqb, ltb, leb, length, get_or}
