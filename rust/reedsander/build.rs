@@ -52,7 +52,9 @@ fn given(folder: &Path) -> PathBuf {
 
 /// The library as the checker's own sources give it.
 fn proved(root: &Path) -> PathBuf {
-    println!("cargo:rerun-if-changed={}", root.join("crates.txt").display());
+    for file in ["crates.txt", "staticlib"] {
+        println!("cargo:rerun-if-changed={}", root.join(file).display());
+    }
     for name in CRATES {
         for folder in ["src", "specs", "proofs"] {
             let sources = root.join("crates").join(name).join(folder);
