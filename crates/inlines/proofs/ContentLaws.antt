@@ -3,13 +3,13 @@ use mathlib.Core.Path.{◌≡◌, refl, ap, sym, ◌∙◌}
 use mathlib.Core.Bool.{Bool, true, false, not, ◌&&◌, ◌||◌, and_assoc, and-true, and-false, or-true, or-false, not-not}
 use mathlib.Core.List.{List}
 use Prim.Native.Nat.{ℕ}
-use borrow.Author.Rules.{rules}
 use lib.Dec.{eqb}
 use Rattle.leaves.specs.Text.Lists.{when◌then◌else◌}
 use Rattle.leaves.specs.Sheet.Kinds.{is_inline, line_break}
 use Rattle.leaves.specs.Sheet.Forest.{Forest, none, tree}
-use Rattle.leaves.specs.Report.Entries.{Lists, list_if}
-use Rattle.leaves.specs.declared.report.entries.Tally.{Tally}
+use Rattle.leaves.specs.Report.Entries.{list_if}
+use Rattle.leaves.specs.Report.Listed.{Adds}
+use Rattle.leaves.specs.declared.report.entries.Report.{Report}
 use Rattle.inlines.specs.ContentGathered.{no_content, with_inline, content_after, content_of}
 use Rattle.inlines.specs.Content.{no_inline, all_empty, starts_with_whitespace, ends_with_whitespace_after, ends_with_whitespace, holds_joined, final_break_after, final_break}
 use Rattle.leaves.specs.Report.Rules
@@ -106,7 +106,5 @@ module _ (bytes : List ℕ) (outer a : ℕ) where
     says_last path = rw is (after_last path no_content f)
 
 -- ---- rule 30, by what was gathered
-pub break-law : (bytes path : List ℕ) (outer a : ℕ) (f : Forest) {s t : Tally} {x y : List ℕ} {c : Content} → c ≡ content_of bytes outer a f → Lists s t x y (list_if c.breaks Rules.final_hard_break c.last path) → Lists s t x y (final_break path f)
+pub break-law : (bytes path : List ℕ) (outer a : ℕ) (f : Forest) {x y : Report} {c : Content} → c ≡ content_of bytes outer a f → Adds x y (list_if c.breaks Rules.final_hard_break c.last path) → Adds x y (final_break path f)
 break-law bytes path outer a f is l = rw (says_last bytes outer a f is path) at l
-
-pub ruleset breaking = (break-law, rules)

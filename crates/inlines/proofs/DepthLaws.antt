@@ -3,16 +3,18 @@ use mathlib.Core.Path.{◌≡◌, refl, sym, ap, ◌∙◌}
 use mathlib.Core.Bool.{Bool}
 use mathlib.Core.List.{List, []}
 use Prim.Native.Nat.{ℕ, ◌+◌, ◌<◌}
-use lib.ListN.{length}
 use Rattle.leaves.specs.Sheet.Records.{record_at}
 use Rattle.leaves.specs.Sheet.Forest.{Forest, none, tree, under}
-use Rattle.leaves.specs.Report.Entries.{Entry, Lists, list_if, ◌⊕◌}
+use Rattle.leaves.specs.Sheet.Trees.{trees, Reads}
+use Rattle.leaves.specs.Report.Entries.{Entry, list_if, ◌⊕◌}
 use Rattle.leaves.specs.declared.sheet.records.Rec.{Rec}
-use Rattle.leaves.specs.declared.report.entries.Tally.{Tally}
+use Rattle.leaves.specs.declared.sheet.trees.Records.{Records}
 use Rattle.leaves.proofs.report.EntryLaws.{join-assoc}
-use Rattle.inlines.proofs.WalkLaws.{Loop, loop-turn, spine-kids, spine-tree}
-use Rattle.leaves.proofs.sheet.SkipLaws.{skip-turn}
+use Rattle.leaves.proofs.sheet.TreesLaws.{passing-step, reads-deep, trees-moved}
+use Rattle.inlines.proofs.WalkLaws.{Loop, loop-turn, loop-path, spine-kids, spine-tree}
 use Rattle.inlines.specs.Depth.{each_record}
+use Rattle.leaves.specs.Report.Listed.{path_of, Adds}
+use Rattle.leaves.specs.declared.report.entries.Report.{Report}
 
 pub each_none : (entries : Rec → List Entry) → each_record entries none ≡ []
 unfolding each_record
@@ -28,11 +30,17 @@ each_step entries w n i l b d =
     ∙ join-assoc (entries (record_at w i)) _ _
     ∙ ap (λ es. entries (record_at w i) ⊕ es) (sym (spine-kids (each_record entries) (λ r kids. entries r ⊕ each_record entries kids) (each_none entries) (each-tree entries) w n i l b d))
 
+-- a record is read, and the records behind it are those that are left
+each-read : (entries : Rec → List Entry) {y z : Records} {level : ℕ} {r : Rec} → Reads y z level r → each_record entries (trees y level) ≡ entries r ⊕ each_record entries (trees z level)
+each-read entries {y} {z} {level} {r} reads =
+    let e = trees-moved level reads.moved in
+    let i = reads.is in
+    rw (e, i) (each_step entries y.sheet.now y.n y.next level reads.inside (reads-deep reads))
+
 -- a turn: one record was tested, and listed where the test holds
 abbrev pub fault_in : (Rec → Bool) → ℕ → List ℕ → Rec → List Entry
 fault_in test rule path r = list_if (test r) rule r.span path
 
-pub each_turn : (test : Rec → Bool) (rule : ℕ) {w path : List ℕ} {n from level : ℕ} {es : List Entry} {s : Tally} {x : List ℕ} {i : ℕ} {t : Tally} {y : List ℕ} → Loop es (each_record (fault_in test rule path)) w path n from level s x i t y → {u : Tally} {z : List ℕ} {r : Rec} {f : Bool} → i < n → r ≡ record_at w i → level < r.level → f ≡ test r → Lists t u y z (list_if f rule r.span path) → length z ≡ length y → Loop es (each_record (fault_in test rule path)) w path n from level s x (i + 1) u z
-each_turn test rule {w} {path} {n} {from} {level} {i = i} v b e d g k o =
-    let d' : level < (record_at w i).level = rw e at d in
-    loop-turn v (skip-turn w n from level v.at b refl d') (each_step (fault_in test rule path) w n i level b d') (rw (g, e) at k) o
+pub each_turn : (test : Rec → Bool) (rule : ℕ) {es : List Entry} {level : ℕ} {x y z : Records} {p q o : Report} {r : Rec} {f : Bool} → Loop es (each_record (fault_in test rule (path_of p))) level x y p q → Reads y z level r → f ≡ test r → Adds q o (list_if f rule r.span (path_of q)) → Loop es (each_record (fault_in test rule (path_of p))) level x z p o
+each_turn test rule {p = p} v reads g k =
+    loop-turn v (passing-step v.passing reads) (each-read (fault_in test rule (path_of p)) reads) (rw (g, loop-path v) at k)

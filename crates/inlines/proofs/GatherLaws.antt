@@ -1,23 +1,23 @@
 -- The pass over inlines side by side gathers what the definition does.
-use mathlib.Core.Path.{◌≡◌}
+use mathlib.Core.Path.{◌≡◌, refl, sym, ap, ◌∙◌}
 use mathlib.Core.Bool.{Bool, true, false, not, ◌&&◌, ◌||◌}
 use mathlib.Core.List.{List}
-use Prim.Native.Nat.{ℕ, ◌+◌, ◌<◌, ◌≤◌}
+use Prim.Native.Nat.{ℕ, ◌+◌}
+use Rattle.leaves.specs.Sheet.Forest.{size}
+use Rattle.leaves.specs.Sheet.Trees.{trees, Moved, Reads, Ends}
+use Rattle.leaves.specs.declared.sheet.trees.Records.{Records}
+use Rattle.leaves.proofs.sheet.TreesLaws.{reads-tree, behind-moved}
 use borrow.Author.Rules.{rules}
 use borrow.Author.Tests.{not-true, not-false}
 use lib.Dec.{eqb}
 use Rattle.leaves.specs.Text.Lists.{when◌then◌else◌}
 use Rattle.leaves.specs.Sheet.Kinds.{is_inline, line_break}
-use Rattle.leaves.specs.Sheet.Records.{record_at}
-use Rattle.leaves.specs.Sheet.Forest.{under, size}
 use Rattle.leaves.specs.declared.sheet.records.Rec.{Rec}
-use Rattle.leaves.proofs.sheet.ForestLaws.{under-in, under-out, under-end}
 use Rattle.leaves.specs.Sheet.Empty.{is_empty_text}
 use Rattle.inlines.specs.Values.{starts_white, ends_white}
 use Rattle.leaves.specs.Sheet.Classes.{is_joined}
 use Rattle.inlines.specs.ContentGathered.{no_content, with_inline, content_after, content_of}
 use Rattle.inlines.specs.declared.content.Content.{Content}
-use Rattle.leaves.proofs.sheet.SkipLaws.{Skipping, skip-start, skip-tree, skip-down, behind_kids}
 
 -- ---- one inline more, or a record of another sort
 module _ (bytes : List ℕ) (outer a : ℕ) (c : Content) (r : Rec) where
@@ -29,31 +29,24 @@ module _ (bytes : List ℕ) (outer a : ℕ) (c : Content) (r : Rec) where
   unfolding with_inline
   with-one {p} g f e s t u j = let h : is_inline r.kind ≡ true = not-false _ (rw g at f) in rw (h, u, t, s, e, j)
 
--- ---- the pass
-pub record Gathering (bytes : List ℕ) (outer a : ℕ) (w : List ℕ) (n from level i : ℕ) (c : Content) : Type 0 where
-  pub at : Skipping w n from level i
-  pub is : content_after bytes outer a c (under w n i level) ≡ content_of bytes outer a (under w n from level)
+-- ---- the pass: it began at x and stands at y
+pub record Gathering (outer a level : ℕ) (x y : Records) (c : Content) : Type 0 where
+  pub bytes : y.bytes ≡ x.bytes
+  pub is : content_after x.bytes.now outer a c (trees y level) ≡ content_of x.bytes.now outer a (trees x level)
 
-module _ (bytes : List ℕ) (outer a : ℕ) (w : List ℕ) (n from level : ℕ) where
-  pub gather-start : {c : Content} → c ≡ no_content → from ≤ n → Gathering bytes outer a w n from level from c
+module _ (outer a level : ℕ) {x : Records} where
+  pub gather-start : {c : Content} → c ≡ no_content → Gathering outer a level x x c
   unfolding content_of
-  gather-start e h = record { at = skip-start w n from level h; is = rw e }
+  gather-start e = record { bytes = refl; is = rw e }
 
-  module _ {i : ℕ} {c : Content} (v : Gathering bytes outer a w n from level i c) where
-    pub gather-turn : {r : Rec} {d : Content} {j : ℕ} → i < n → r ≡ record_at w i → level < r.level → d ≡ with_inline bytes outer a c r → j ≡ i + 1 + size (under w n (i + 1) r.level) → Gathering bytes outer a w n from level j d
+  module _ {y z : Records} {c : Content} (v : Gathering outer a level x y c) where
+    pub gather-turn : {u : Records} {r : Rec} {d : Content} → Reads y z level r → d ≡ with_inline z.bytes.now outer a c r → Moved z u (z.next + size (trees z r.level)) → Gathering outer a level x u d
     unfolding content_after
-    gather-turn {r} {d} {j} b e l f g =
-        let l' : level < (record_at w i).level = rw e at l in
-        let g' : j ≡ behind_kids w n i = rw e at g in
-        let f' : d ≡ with_inline bytes outer a c (record_at w i) = rw e at f in
-        rw (g', f') (record { at = skip-tree w n from level v.at b l'; is = rw (under-in w n i level b l') at v.is })
+    gather-turn {r = r} {d} reads e m =
+        let b : z.bytes ≡ x.bytes = reads.moved.bytes ∙ v.bytes in
+        let e' : d ≡ with_inline x.bytes.now outer a c r = rw b at e in
+        rw e' (record { bytes = (behind-moved reads m).bytes ∙ v.bytes; is = rw (reads-tree reads m) at v.is })
 
-    pub gather-out : {r : Rec} → i < n → r ≡ record_at w i → r.level ≤ level → c ≡ content_of bytes outer a (under w n from level)
+    pub gather-end : Ends y z level → c ≡ content_of x.bytes.now outer a (trees x level)
     unfolding content_after
-    gather-out {r} b e l = let l' : (record_at w i).level ≤ level = rw e at l in rw (under-out w n i level b l') at v.is
-
-    pub gather-end : n ≤ i → c ≡ content_of bytes outer a (under w n from level)
-    unfolding content_after
-    gather-end b = rw (under-end w n i level b) at v.is
-
-pub ruleset gathering = (with-other, with-one, gather-start, gather-turn, gather-out, gather-end, skip-down, rules)
+    gather-end e = rw e.none at v.is

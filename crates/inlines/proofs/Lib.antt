@@ -9,7 +9,6 @@ pub mod LiteralLaws
 pub mod NodeLaws
 pub mod NodesLaws
 pub mod OwnLaws
-pub mod PathLaws
 pub mod SingleLaws
 pub mod ValueLaws
 pub mod WalkLaws

@@ -1,67 +1,64 @@
 -- The walk from inline to inline: one law for each way through its functions.
-use mathlib.Core.Path.{◌≡◌, refl}
+use mathlib.Core.Path.{◌≡◌, refl, ◌∙◌}
 use mathlib.Core.Bool.{Bool, true, false, not}
 use mathlib.Core.List.{List, []}
-use Prim.Native.Nat.{ℕ, ◌+◌, ◌<◌}
-use native.Mathlib.Omega.{arith}
+use Prim.Native.Nat.{ℕ, ◌+◌}
 use borrow.Author.Tests.{not-true, not-false}
-use lib.ListN.{length}
 use Rattle.leaves.specs.Text.Lists.{when◌then◌else◌}
 use Rattle.leaves.specs.Sheet.Kinds.{is_inline}
-use Rattle.leaves.specs.Sheet.Records.{record_at}
-use Rattle.leaves.specs.Sheet.Forest.{Forest, none, under, size}
-use Rattle.leaves.specs.Report.Entries.{Entry, Lists, ◌⊕◌}
+use Rattle.leaves.specs.Sheet.Forest.{Forest, none, tree, size}
+use Rattle.leaves.specs.Sheet.Trees.{trees, Moved, Reads}
+use Rattle.leaves.specs.Report.Entries.{Entry, ◌⊕◌}
 use Rattle.leaves.specs.declared.sheet.records.Rec.{Rec}
-use Rattle.leaves.specs.declared.report.entries.Tally.{Tally}
-use Rattle.leaves.proofs.sheet.ForestLaws.{under-in}
-use Rattle.leaves.proofs.report.EntryLaws.{lists-none, lists-then}
+use Rattle.leaves.specs.declared.sheet.trees.Records.{Records}
+use Rattle.leaves.proofs.sheet.TreesLaws.{passing-tree, reads-tree}
+use Rattle.leaves.proofs.report.ListedLaws.{adds-none, adds-then}
 use Rattle.inlines.specs.Single.{validate_siblings}
 use Rattle.inlines.specs.Nodes.{final_break, validate_inline, validate_node, validate_inline_nodes_after, validate_inline_nodes, validate_inlines}
 use Rattle.inlines.specs.Walk.{Done}
-use Rattle.inlines.specs.NodesHere.{Here}
-use Rattle.inlines.specs.declared.walk.Walked.{Walked}
-use Rattle.inlines.proofs.WalkLaws.{Loop, loop-turn}
-use Rattle.leaves.proofs.sheet.SkipLaws.{behind_kids, skip-tree}
+use Rattle.inlines.proofs.WalkLaws.{Loop, loop-turn, loop-path, loop-bytes}
+use Rattle.leaves.specs.Report.Listed.{path_of, Adds}
+use Rattle.leaves.specs.declared.report.entries.Report.{Report}
 
 -- ---- one record: what its children list, by a call
-abbrev pub under_of : List ℕ → List ℕ → List ℕ → ℕ → ℕ → ℕ → List Entry
-under_of bytes path w n i level = validate_inline_nodes_after bytes path 0 (under w n (i + 1) level)
+abbrev pub under_of : List ℕ → List ℕ → Forest → List Entry
+under_of bytes path kids = validate_inline_nodes_after bytes path 0 kids
 
-module _ (bytes path w : List ℕ) (n i level before : ℕ) {s : Tally} {x : List ℕ} {r : Rec} {f : Bool} (e : r ≡ record_at w i) (g : f ≡ is_inline r.kind) where
-  pub node-other : {j : ℕ} → not f ≡ true → j ≡ i + 1 + size (under w n (i + 1) level) → Done w n (i + 1) level (validate_node bytes path before (record_at w i) (under w n (i + 1) level) (under_of bytes path w n i level)) s x (record { next = j; tally = s }) x
+module _ {k j : Records} {x : Report} (r : Rec) (before : ℕ) {f : Bool} (g : f ≡ is_inline r.kind) where
+  pub node-other : not f ≡ true → Moved k j (k.next + size (trees k r.level)) → Done k j r.level x x (validate_node k.bytes.now (path_of x) before r (trees k r.level) (under_of k.bytes.now (path_of x) (trees k r.level)))
   unfolding validate_node
-  node-other h j = let no-inline : is_inline (record_at w i).kind ≡ false = not-true _ (rw (g, e) at h) in record { next = j; lists = rw no-inline lists-none }
+  node-other h m = let no-inline : is_inline r.kind ≡ false = not-true _ (rw g at h) in record { moved = m; adds = rw no-inline adds-none }
 
-  pub node_done : {t u : Tally} {y z o : List ℕ} {q : Walked} → not f ≡ false → Here w path n i level → Lists s t x y (validate_siblings path r.span before r.kind r.a) → Lists t u y z (validate_inline bytes path r (under w n (i + 1) r.level)) → Done w n (i + 1) level (under_of bytes path w n i level) u z q o → Done w n (i + 1) level (validate_node bytes path before (record_at w i) (under w n (i + 1) level) (under_of bytes path w n i level)) s x q o
+  pub node_done : {y z o : Report} → not f ≡ false → Adds x y (validate_siblings (path_of x) r.span before r.kind r.a) → Adds y z (validate_inline k.bytes.now (path_of y) r (trees k r.level)) → Done k j r.level z o (under_of k.bytes.now (path_of z) (trees k r.level)) → Done k j r.level x o (validate_node k.bytes.now (path_of x) before r (trees k r.level) (under_of k.bytes.now (path_of x) (trees k r.level)))
   unfolding validate_node
-  node_done {t} {u} {y} {z} h at a b d =
-      let inline : is_inline (record_at w i).kind ≡ true = not-false _ (rw (g, e) at h) in
-      let own : Lists t u y z (validate_inline bytes path (record_at w i) (under w n (i + 1) level)) = rw at.is (rw e at b) in
-      record { next = d.next; lists = rw inline (lists-then (rw e at a) (lists-then own d.lists)) }
+  node_done h a b d =
+      let inline : is_inline r.kind ≡ true = not-false _ (rw g at h) in
+      record { moved = d.moved; adds = rw inline (adds-then a (adds-then (rw a.path at b) (rw (b.path, a.path) at d.adds))) }
 
 -- ---- from one to the next
 pub nodes-none : (bytes path : List ℕ) (before : ℕ) → validate_inline_nodes_after bytes path before none ≡ []
 unfolding validate_inline_nodes_after
 nodes-none bytes path before = refl
 
-nodes-step : (bytes path : List ℕ) (before : ℕ) (w : List ℕ) (n i l : ℕ) → i < n → l < (record_at w i).level → validate_inline_nodes_after bytes path before (under w n i l) ≡ validate_node bytes path before (record_at w i) (under w n (i + 1) (record_at w i).level) (under_of bytes path w n i (record_at w i).level) ⊕ validate_inline_nodes_after bytes path (when is_inline (record_at w i).kind then (record_at w i).kind else before) (under w n (behind_kids w n i) l)
+abbrev kind_after : ℕ → Rec → ℕ
+kind_after before r = when is_inline r.kind then r.kind else before
+
+nodes-tree : (bytes path : List ℕ) (before : ℕ) (r : Rec) (kids rest : Forest) → validate_inline_nodes_after bytes path before (tree r kids rest) ≡ validate_node bytes path before r kids (under_of bytes path kids) ⊕ validate_inline_nodes_after bytes path (kind_after before r) rest
 unfolding validate_inline_nodes_after
-nodes-step bytes path before w n i l b d = rw (under-in w n i l b d)
+nodes-tree bytes path before r kids rest = refl
 
--- what a call for record i is given
-pub node-here : {es : List Entry} {h : Forest → List Entry} {path w : List ℕ} {n from level : ℕ} {s : Tally} {x : List ℕ} {i : ℕ} {t : Tally} {y : List ℕ} → Loop es h w path n from level s x i t y → {r : Rec} → i < n → r ≡ record_at w i → Here w path n i r.level
-node-here v b e =
-    let p = v.start in
-    record { start = record { whole = p.whole; few = p.few; shallow = p.shallow; inside = omega arith; short = p.short }; is = rw e }
+module _ (before : ℕ) (r : Rec) {f : Bool} (g : f ≡ is_inline r.kind) where
+  pub kind-inline : f ≡ true → r.kind ≡ kind_after before r
+  kind-inline h = rw (← g, h)
 
-pub nodes-turn : (bytes : List ℕ) (before : ℕ) {path w : List ℕ} {n from level : ℕ} {es : List Entry} {s : Tally} {x : List ℕ} {i : ℕ} {t : Tally} {y : List ℕ} → Loop es (validate_inline_nodes_after bytes path before) w path n from level s x i t y → {z : List ℕ} {r : Rec} {f : Bool} {b : ℕ} {q : Walked} → i < n → r ≡ record_at w i → level < r.level → Done w n (i + 1) r.level (validate_node bytes path before (record_at w i) (under w n (i + 1) r.level) (under_of bytes path w n i r.level)) t y q z → f ≡ is_inline r.kind → b ≡ (when f then r.kind else before) → length z ≡ length y → Loop es (validate_inline_nodes_after bytes path b) w path n from level s x q.next q.tally z
-nodes-turn bytes before {path} {w} {n} {from} {level} {i = i} v {r = r} {f} {b} {q} h e d k g l o =
-    let d' : level < (record_at w i).level = rw e at d in
-    let l' : b ≡ (when is_inline (record_at w i).kind then (record_at w i).kind else before) = rw (g, e) at l in
-    let k' : Done w n (i + 1) (record_at w i).level _ _ _ q _ = rw e at k in
-    rw (l', k'.next) (loop-turn v (skip-tree w n from level v.at h d') (nodes-step bytes path before w n i level h d') k'.lists o)
+  pub kind-other : f ≡ false → before ≡ kind_after before r
+  kind-other h = rw (← g, h)
+
+pub nodes-turn : (before : ℕ) {es : List Entry} {level : ℕ} {x y z u : Records} {p q o : Report} {r : Rec} {b : ℕ} → Loop es (validate_inline_nodes_after x.bytes.now (path_of p) before) level x y p q → Reads y z level r → Done z u r.level q o (validate_node z.bytes.now (path_of q) before r (trees z r.level) (under_of z.bytes.now (path_of q) (trees z r.level))) → b ≡ kind_after before r → Loop es (validate_inline_nodes_after x.bytes.now (path_of p) b) level x u p o
+nodes-turn before {x = x} {p = p} {r = r} v reads d l =
+    rw l (loop-turn v (passing-tree v.passing reads d.moved) (rw (reads-tree reads d.moved) (nodes-tree x.bytes.now (path_of p) before r _ _)) (rw (loop-path v, loop-bytes v reads) at d.adds))
 
 -- `validate_inlines`
-pub inlines-done : (bytes path : List ℕ) {w : List ℕ} {n from level : ℕ} {s t : Tally} {x y z : List ℕ} {q : Walked} → Lists s t x y (final_break path (under w n from level)) → Done w n from level (validate_inline_nodes_after bytes path 0 (under w n from level)) t y q z → Done w n from level (validate_inlines bytes path (under w n from level)) s x q z
+pub inlines-done : {k j : Records} {level : ℕ} {x y z : Report} → Adds x y (final_break (path_of x) (trees k level)) → Done k j level y z (validate_inline_nodes_after k.bytes.now (path_of y) 0 (trees k level)) → Done k j level x z (validate_inlines k.bytes.now (path_of x) (trees k level))
 unfolding validate_inlines validate_inline_nodes
-inlines-done bytes path a d = record { next = d.next; lists = lists-then a d.lists }
+inlines-done a d = record { moved = d.moved; adds = adds-then a (rw a.path at d.adds) }

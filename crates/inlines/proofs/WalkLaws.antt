@@ -1,5 +1,5 @@
 -- Loops over the trees deeper than a level, from tree to tree.
-use mathlib.Core.Path.{◌≡◌, refl, sym, ◌∙◌}
+use mathlib.Core.Path.{◌≡◌, refl, sym, ap, ◌∙◌}
 use mathlib.Core.Bool.{Bool, true, false}
 use mathlib.Core.List.{List, []}
 use Prim.Native.Nat.{ℕ, ◌+◌, ◌-◌, ◌*◌, ◌<◌, ◌≤◌}
@@ -7,18 +7,19 @@ use native.Mathlib.Nat.{sub-add-eq}
 use native.Mathlib.Omega.{arith}
 use borrow.Author.Tests.{ltb-true, ltb-false}
 use lib.Dec.{ltb}
-use lib.ListN.{length}
-use Rattle.leaves.specs.Sheet.Records.{record_at, records_of}
-use Rattle.leaves.specs.Refusal.Formed.{Sound}
+use Rattle.leaves.specs.Sheet.Records.{record_at}
 use Rattle.leaves.specs.Sheet.Forest.{Forest, none, tree, deeper, past, forest_at, under, size}
-use Rattle.leaves.specs.Report.Entries.{Entry, Lists, ◌⊕◌}
+use Rattle.leaves.specs.Sheet.Trees.{trees, Moved, Reads, Ends}
+use Rattle.leaves.specs.Report.Entries.{Entry, ◌⊕◌}
+use Rattle.leaves.specs.Report.Listed.{path_of, Adds}
 use Rattle.leaves.specs.declared.sheet.records.Rec.{Rec}
-use Rattle.leaves.specs.declared.report.entries.Tally.{Tally}
-use Rattle.leaves.proofs.sheet.ForestLaws.{past-in, past-out, deeper-in, deeper-out, past-at, under-in, under-out, under-end}
-use Rattle.leaves.proofs.report.EntryLaws.{join-assoc, none-join, lists-none, lists-then}
-use Rattle.inlines.specs.Walk.{Start, Left, Done}
-use Rattle.inlines.specs.declared.walk.Walked.{Walked}
-use Rattle.leaves.proofs.sheet.SkipLaws.{Skipping, skip-end, skip-out, skip-start}
+use Rattle.leaves.specs.declared.sheet.trees.Records.{Records}
+use Rattle.leaves.specs.declared.report.entries.Report.{Report}
+use Rattle.leaves.proofs.sheet.ForestLaws.{past-in, past-out, deeper-in, deeper-out, past-at, under-in}
+use Rattle.leaves.proofs.sheet.TreesLaws.{Passing, passing-start, passing-end, reads-deep, reads-kids, trees-moved}
+use Rattle.leaves.proofs.report.EntryLaws.{join-assoc, join-none, none-join}
+use Rattle.leaves.proofs.report.ListedLaws.{adds-none, adds-then}
+use Rattle.inlines.specs.Walk.{Done}
 
 -- ---- a list that goes from tree to tree
 module _ (h : Forest → List Entry) (g : Rec → Forest → List Entry) (at_none : h none ≡ []) (at-tree : (r : Rec) (kids rest : Forest) → h (tree r kids rest) ≡ g r kids ⊕ h rest) where
@@ -43,47 +44,48 @@ module _ (h : Forest → List Entry) (g : Rec → Forest → List Entry) (at_non
     pub spine-kids : h (under w n (i + 1) l) ≡ h (under w n (i + 1) (record_at w i).level) ⊕ h (under w n (i + 1 + size (under w n (i + 1) (record_at w i).level)) l)
     spine-kids = rw (past-at, ← sub-add-eq n (i + 1)) at (spine-split l (record_at w i).level (omega arith) (forest_at w (n - (i + 1)) (i + 1)))
 
-pub done-down : {w : List ℕ} {n i level : ℕ} {es : List Entry} {s : Tally} {x y : List ℕ} {q : Walked} → i < n → Done w n (i + 1) level es s x q y → n - q.next < n - i
-done-down {i = i} {q = q} b d = let f : i < q.next = rw d.next (omega arith) in omega arith
+    -- where a record lists what its kids list as trees, the records after it list the whole
+    spine-on : g (record_at w i) (under w n (i + 1) (record_at w i).level) ≡ h (under w n (i + 1) (record_at w i).level) → h (under w n i l) ≡ h (under w n (i + 1) l)
+    spine-on e = spine-tree ∙ rw e (sym spine-kids)
 
--- ---- a loop that lists es stands at record i, with the tally t and the report y: what lists the rest, h, lists the whole
-pub record Loop (es : List Entry) (h : Forest → List Entry) (w path : List ℕ) (n from level : ℕ) (s : Tally) (x : List ℕ) (i : ℕ) (t : Tally) (y : List ℕ) : Type 0 where
-  pub start : Start w path n from
-  pub at : Skipping w n from level i
-  pub same : length y ≡ length x
-  pub lists : (u : Tally) (z : List ℕ) → Lists t u y z (h (under w n i level)) → Lists s u x z es
+  -- the same of a record that was read
+  pub reads-on : {y z : Records} {level : ℕ} {r : Rec} → Reads y z level r → g r (trees z r.level) ≡ h (trees z r.level) → h (trees y level) ≡ h (trees z level)
+  reads-on {y} {z} {level} {r} reads e =
+      let t : trees z level ≡ under y.sheet.now y.n (y.next + 1) level = trees-moved level reads.moved in
+      rw t (spine-on y.sheet.now y.n y.next level reads.inside (reads-deep reads) (rw (reads-kids reads, reads.is) at e))
 
-module _ {w path : List ℕ} {n from level : ℕ} where
-  pub loop-start : (h : Forest → List Entry) (s : Tally) (x : List ℕ) → Start w path n from → Loop (h (under w n from level)) h w path n from level s x from s x
-  loop-start h s x p = record { start = p; at = skip-start w n from level p.inside; same = refl; lists = λ u z k. k }
+-- ---- a loop that lists es began at the records x, with the report p, and stands at y, with the report q: what lists the
+-- rest, h, lists what the whole still lacks
+pub record Loop (es : List Entry) (h : Forest → List Entry) (level : ℕ) (x y : Records) (p q : Report) : Type 0 where
+  pub passing : Passing x y level
+  pub before : List Entry
+  pub adds : Adds p q before
+  pub rest : before ⊕ h (trees y level) ≡ es
 
-  module _ {es : List Entry} {h : Forest → List Entry} {s : Tally} {x : List ℕ} {i : ℕ} {t : Tally} {y : List ℕ} (v : Loop es h w path n from level s x i t y) where
-    -- some entries are listed, and the rest, g, from record j on
-    pub loop-turn : {g : Forest → List Entry} {u : Tally} {z : List ℕ} {fs : List Entry} {j : ℕ} → Skipping w n from level j → h (under w n i level) ≡ fs ⊕ g (under w n j level) → Lists t u y z fs → length z ≡ length y → Loop es g w path n from level s x j u z
-    loop-turn m q k e =
+module _ {level : ℕ} {x : Records} {p : Report} where
+  pub loop-start : (h : Forest → List Entry) → Loop (h (trees x level)) h level x x p p
+  loop-start h = record { passing = passing-start x level; before = []; adds = adds-none; rest = none-join _ }
+
+  module _ {es : List Entry} {h : Forest → List Entry} {y : Records} {q : Report} (v : Loop es h level x y p q) where
+    -- the path is the one that the walk began with
+    pub loop-path : path_of q ≡ path_of p
+    loop-path = v.adds.path
+
+    -- .. and so is the text
+    pub loop-bytes : {z : Records} {r : Rec} → Reads y z level r → z.bytes ≡ x.bytes
+    loop-bytes reads = reads.moved.bytes ∙ v.passing.moved.bytes
+
+    -- some entries are listed, and the rest, g, of the records that u has next
+    pub loop-turn : {g : Forest → List Entry} {u : Records} {o : Report} {fs : List Entry} → Passing x u level → h (trees y level) ≡ fs ⊕ g (trees u level) → Adds q o fs → Loop es g level x u p o
+    loop-turn {g} {u} {fs = fs} m e k =
         record {
-          start = v.start;
-          at = m;
-          same = e ∙ v.same;
-          lists = λ a c f. v.lists a c (rw q (lists-then k f));
+          passing = m;
+          before = v.before ⊕ fs;
+          adds = adds-then v.adds k;
+          rest = join-assoc v.before fs (g (trees u level)) ∙ ap (λ gs. v.before ⊕ gs) (sym e) ∙ v.rest;
         }
 
-    pub loop-out : {r : Rec} → h none ≡ [] → i < n → r ≡ record_at w i → r.level ≤ level → Done w n from level es s x (record { next = i; tally = t }) y
-    loop-out z b e d = let f : (record_at w i).level ≤ level = rw e at d in record { next = skip-out w n from level v.at b refl f; lists = v.lists t y (rw (under-out w n i level b f, z) lists-none) }
-
-    pub loop-end : h none ≡ [] → n ≤ i → Done w n from level es s x (record { next = i; tally = t }) y
-    loop-end z b = record { next = skip-end w n from level v.at b; lists = v.lists t y (rw (under-end w n i level b, z) lists-none) }
-
--- ---- the levels left. A call for a record of the level m hands on one less: there is one to take, the rest is enough under that record, and the number of the cycle falls (twice the levels left for a loop, one more for a record).
-pub record Falls (left m : ℕ) : Type 0 where
-  pub some : 1 ≤ left
-  pub rest : Left (left - 1) m
-  pub less : 2 * (left - 1) + 1 < 2 * left
-
--- a loop over the trees deeper than `level` stands at such a record, i, and no record is deeper than 64
-pub levels-fall : {w path : List ℕ} {n from left level : ℕ} → Start w path n from → Left left level → {i m : ℕ} → i < n → m ≡ (record_at w i).level → level < m → Falls left m
-levels-fall start enough {i} b e d = let most = start.shallow i b in record { some = omega arith; rest = record { enough = omega arith }; less = omega arith }
-
--- ---- what acceptance gives a walk
-pub start_of : {w bytes path : List ℕ} {n from : ℕ} → Sound w bytes → n ≡ records_of w → from ≤ n → length path ≤ 64 → Start w path n from
-start_of sound e b s = rw e (record { whole = omega (arith, sound.whole); few = sound.few; shallow = sound.shallow; inside = rw e at b; short = s })
+    pub loop-end : {z : Records} → h none ≡ [] → Ends y z level → Done x z level p q es
+    loop-end e k =
+        let r : v.before ≡ es = sym (join-none v.before) ∙ rw (k.none, e) at v.rest in
+        record { moved = passing-end v.passing k; adds = rw r at v.adds }

@@ -6,7 +6,6 @@ pub mod Link
 pub mod Literal
 pub mod Node
 pub mod Nodes
-pub mod NodesHere
 pub mod Own
 pub mod Single
 pub mod Values

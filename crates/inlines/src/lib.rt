@@ -12,4 +12,3 @@ pub mod nodes;
 mod own;
 pub mod single;
 mod values;
-pub mod walk;

@@ -1,2 +1,3 @@
 pub mod EntryExamples
 pub mod EntryLaws
+pub mod ListedLaws

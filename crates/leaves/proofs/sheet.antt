@@ -6,3 +6,4 @@ pub mod SiblingLaws
 pub mod SkipLaws
 pub mod TextLaws
 pub mod TreeLaws
+pub mod TreesLaws

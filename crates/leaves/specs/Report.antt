@@ -1,2 +1,4 @@
 pub mod Entries
+pub mod Listed
 pub mod Rules
+pub mod RuleNumbers

@@ -5,3 +5,4 @@ pub mod Kinds
 pub mod Records
 pub mod Siblings
 pub mod Texts
+pub mod Trees

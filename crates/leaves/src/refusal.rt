@@ -2,7 +2,7 @@
 mod fields;
 mod groups;
 pub mod judge;
-mod limits;
+pub(crate) mod limits;
 pub mod places;
 mod record;
 mod tags;

@@ -5,3 +5,4 @@ pub mod forest;
 pub mod kinds;
 pub mod records;
 pub mod texts;
+pub mod trees;

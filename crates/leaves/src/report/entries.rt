@@ -4,6 +4,8 @@ ghost use Rattle.leaves.specs.Report.Entries.{words, head_words, list_if, capped
 ghost use Rattle.leaves.specs.Text.Lists.{over};
 ghost use Rattle.leaves.specs.Refusal.Limits.{most_level};
 
+use crate::refusal::limits::MOST_LEVEL;
+use crate::report::rules::Rule;
 use crate::sheet::records::Span;
 
 // The most that a sum of the tally can be; no report has so many words.
@@ -115,4 +117,68 @@ pub fn list_if(
 {
     write_if(fault, report, tally.words, rule, span, path);
     count_if(fault, tally, path.len())
+}
+
+// A report that a walk writes, with the list's tally. The walk stands at a record of the level `level`, whose path is
+// the first `depth` words of `path`; before the first record both are 0.
+#[derive(Drop)]
+pub struct Report<'a> {
+    pub words: &'a mut [u32],
+    pub tally: Tally,
+    pub path: [u32; MOST_LEVEL as usize],
+    pub depth: usize,
+    pub level: u32,
+    pub ghost room: { length path ≡ most_level },
+    pub ghost short: { depth ≤ level },
+    pub ghost shallow: { level ≤ most_level },
+}
+
+impl<'a> Report<'a> {
+    ghost use Rattle.std.specs.Prelude.{◌<◌};
+    ghost use Rattle.leaves.specs.Report.RuleNumbers.{rule_number};
+    ghost use Rattle.leaves.specs.Report.Listed.{path_of, Adds, Enters, Leaves};
+
+    // A report of no entries, before the first record.
+    pub fn new(words: &'a mut [u32]) -> Self
+        ensures loan { result.words.ghost_name ≡ words.entry.ghost_name }
+        ensures words { result.words.now ≡ words.old }
+        ensures tally { result.tally ≡ start }
+        ensures top { (result.depth ≡ 0) × (result.level ≡ 0) }
+    {
+        Report {
+            words,
+            tally: none(),
+            path: [0; MOST_LEVEL as usize],
+            depth: 0,
+            level: 0,
+        }
+    }
+
+    // Where `fault` holds, counts the diagnostic, and writes its entry behind those before it if the whole entry fits.
+    pub fn list_if(&mut self, fault: bool, rule: Rule, span: Span)
+        ensures { Adds self.old self.new (list_if fault (rule_number rule) span (path_of self.old)) }
+    {
+        let path = &self.path[..self.depth];
+        write_if(fault, self.words, self.tally.words, rule.number(), span, path);
+        self.tally = count_if(fault, self.tally, self.depth);
+    }
+
+    // Goes on to a record of the level `level`, which is the child number `index` of the one before.
+    pub fn enter(&mut self, index: u32, level: u32)
+        requires { (self.old.level < level) × (level ≤ most_level) }
+        ensures { Enters self.old self.new index level }
+    {
+        self.path[self.depth] = index;
+        self.depth += 1;
+        self.level = level;
+    }
+
+    // Goes back to the record that holds this one, and has the level `level`.
+    pub fn leave(&mut self, level: u32)
+        requires { (0 < self.old.depth) × (self.old.depth ≤ level + 1) × (level ≤ most_level) }
+        ensures { Leaves self.old self.new level }
+    {
+        self.depth -= 1;
+        self.level = level;
+    }
 }

@@ -1,14 +1,13 @@
 -- `inlines::attribute::validate_directive_attributes` meets its contract.
 use Rattle.inlines.proofs.AttributeLaws.{attributes-none, attributes-turn}
-use Rattle.inlines.proofs.WalkLaws.{loop-end, loop-out}
-use borrow.Author.Rules.{rules}
+use Rattle.inlines.proofs.WalkLaws.{loop-start, loop-end}
 use Rattle.inlines.proofs.attribute.validate_directive_attributes.Goals as goal
 
-pub returns-then-r-level : goal.returns-then-r-level
-returns-then-r-level c = loop-out c.loop-i.invariant (attributes-none _ _) (search rules) c.record_at-r.ensures c.if-r-level.true
+pub loop-r-init : goal.loop-r-init
+loop-r-init c = loop-start _
 
-pub loop-i-preserved : goal.loop-i-preserved
-loop-i-preserved c = attributes-turn _ c.loop-i.invariant (search rules) c.record_at-r.ensures c.if-r-level.false c.is_bad_attribute-fault.ensures c.list_if-out.ensures c.skip-i.ensures (search rules)
+pub loop-r-preserved : goal.loop-r-preserved
+loop-r-preserved c = attributes-turn c.loop-r.invariant c.in-Some.ensures.some c.is_bad_attribute-fault.ensures c.list_if.ensures c.skip.ensures
 
 pub returns : goal.returns
-returns c = loop-end c.loop-i.invariant (attributes-none _ _) (search rules)
+returns c = loop-end c.loop-r.invariant (attributes-none _ _) c.in_default.ensures.none

@@ -1,16 +1,12 @@
 -- `inlines::content::gather` meets its contract.
-use borrow.Author.Rules.{rules}
-use Rattle.inlines.proofs.GatherLaws.{gather-turn, gathering}
+use Rattle.inlines.proofs.GatherLaws.{gather-start, gather-turn, gather-end}
 use Rattle.inlines.proofs.content.gather.Goals as goal
 
-pub loop-i-init : goal.loop-i-init
-loop-i-init c = search gathering
+pub loop-r-init : goal.loop-r-init
+loop-r-init c = gather-start _ _ _ c.no_content-c.ensures
 
-pub returns-then-r-level : goal.returns-then-r-level
-returns-then-r-level c = search gathering
-
-pub loop-i-preserved : goal.loop-i-preserved
-loop-i-preserved c = gather-turn _ _ _ _ _ _ _ c.loop-i.invariant (search rules) c.record_at-r.ensures c.if-r-level.false c.with_inline-c.ensures c.skip-i.ensures
+pub loop-r-preserved : goal.loop-r-preserved
+loop-r-preserved c = gather-turn _ _ _ c.loop-r.invariant c.in-Some.ensures.some c.with_inline-c.ensures c.skip.ensures
 
 pub returns : goal.returns
-returns c = search gathering
+returns c = gather-end _ _ _ c.loop-r.invariant c.in_default.ensures.none

@@ -3,8 +3,8 @@ use Prim.Native.Nat.{◌-◌}
 use Rattle.inlines.proofs.GatherLaws.{Gathering}
 use Rattle.inlines.proofs.content.gather.Given as goal
 
-abbrev pub invariant-loop-i : goal.invariant-loop-i
-invariant-loop-i l = Gathering l.bytes l.outer l.a l.sheet l.n l.«from» l.level l.i l.c
+abbrev pub invariant-loop-r : goal.invariant-loop-r
+invariant-loop-r l = Gathering l.outer l.a l.level l.initial.records l.records l.c
 
-abbrev pub decreases-loop-i : goal.decreases-loop-i
-decreases-loop-i l = l.n - l.i
+abbrev pub decreases-loop-r : goal.decreases-loop-r
+decreases-loop-r l = l.records.n - l.records.next

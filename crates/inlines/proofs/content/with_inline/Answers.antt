@@ -1,9 +1,12 @@
 -- `inlines::content::with_inline` meets its contract.
-use Rattle.inlines.proofs.GatherLaws.{gathering}
+use borrow.Author.Rules.{rules}
+use Rattle.inlines.specs.ContentGathered.{with_inline}
+use Rattle.inlines.proofs.GatherLaws.{with-other, with-one}
 use Rattle.inlines.proofs.content.with_inline.Goals as goal
 
 pub returns-then-not-is_inline : goal.returns-then-not-is_inline
-returns-then-not-is_inline c = search gathering
+returns-then-not-is_inline c = search (with-other, rules)
 
 pub returns : goal.returns
-returns c = search gathering
+unfolding with_inline
+returns c = search (with-one, rules)

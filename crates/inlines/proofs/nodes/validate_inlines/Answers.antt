@@ -3,4 +3,4 @@ use Rattle.inlines.proofs.NodesLaws.{inlines-done}
 use Rattle.inlines.proofs.nodes.validate_inlines.Goals as goal
 
 pub returns : goal.returns
-returns c = inlines-done _ _ c.final_break-out.ensures c.validate_inline_nodes.ensures
+returns c = inlines-done c.final_break.ensures c.validate_inline_nodes.ensures

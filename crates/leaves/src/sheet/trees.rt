@@ -1,0 +1,89 @@
+// The records of a sheet as a walk reads them: one after another, tree by tree.
+ghost use Rattle.std.specs.Prelude.{◌*◌, ◌<◌, ◌≤◌, ℕ, length};
+ghost use Rattle.leaves.specs.Sheet.Records.{record_at, record_words};
+ghost use Rattle.leaves.specs.Refusal.Limits.{most_records, most_level};
+
+use crate::sheet::records;
+use crate::sheet::records::{RECORD_WORDS, Rec};
+
+// The first `n` records of a sheet that keeps to the limits, the sheet's text, and the number of the record that is
+// read next.
+#[derive(Clone, Copy)]
+pub struct Records<'a> {
+    pub sheet: &'a [u32],
+    pub bytes: &'a [u8],
+    pub n: usize,
+    pub next: usize,
+    pub ghost whole: { n * record_words ≤ length sheet.now },
+    pub ghost few: { n ≤ most_records },
+    pub ghost shallow: { (i : ℕ) → i < n → (record_at sheet.now i).level ≤ most_level },
+    pub ghost inside: { next ≤ n },
+}
+
+impl<'a> Records<'a> {
+    ghost use Rattle.std.specs.Prelude.{◌≡◌, ◌+◌, eqb, IfSome, IfNone};
+    ghost use Rattle.leaves.specs.Sheet.Records.{records_of};
+    ghost use Rattle.leaves.specs.Sheet.Forest.{count, size};
+    ghost use Rattle.leaves.specs.Sheet.Trees.{trees, Whole, Moved, Reads, Ends};
+    ghost use Rattle.leaves.specs.Refusal.Formed.{Sound};
+
+    // All records of an accepted sheet.
+    pub fn of_sheet(sheet: &'a [u32], bytes: &'a [u8]) -> Self
+        requires { Sound sheet.now bytes.now }
+        ensures { Whole sheet.now bytes.now result }
+    {
+        Records {
+            sheet,
+            bytes,
+            n: sheet.len() / RECORD_WORDS,
+            next: 0,
+        }
+    }
+
+    // The next record, and goes on behind it, where it is deeper than `level`. So a loop over this goes through all
+    // records of the trees side by side, and one that skips what stands under each goes from tree to tree.
+    pub fn next_under(&mut self, level: u32) -> Option<Rec>
+        ensures some { IfSome result (λ r. Reads self.old self.new level r) }
+        ensures none { IfNone result (Ends self.old self.new level) }
+    {
+        if self.next == self.n {
+            return None;
+        }
+        let r = records::record_at(self.sheet, self.next);
+        if r.level <= level {
+            return None;
+        }
+        self.next += 1;
+        Some(r)
+    }
+
+    // Whether no record deeper than `level` is next.
+    pub fn end(&self, level: u32) -> bool
+        ensures { result ≡ eqb (count (trees self.now level)) 0 }
+    {
+        if self.next == self.n {
+            return true;
+        }
+        records::level_at(self.sheet, self.next) <= level
+    }
+
+    // Goes on behind the trees that are deeper than `level`.
+    pub fn skip(&mut self, level: u32)
+        ensures { Moved self.old self.new (self.old.next + size (trees self.old level)) }
+    {
+        while let Some(_) = self.next_under(level) {}
+    }
+
+    // How many trees deeper than `level` stand side by side.
+    pub fn count(&self, level: u32) -> usize
+        ensures { result ≡ count (trees self.now level) }
+    {
+        let mut records = *self;
+        let mut trees: usize = 0;
+        while let Some(r) = records.next_under(level) {
+            records.skip(r.level);
+            trees += 1;
+        }
+        trees
+    }
+}
