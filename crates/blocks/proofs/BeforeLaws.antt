@@ -6,18 +6,19 @@ use Prim.Native.Nat.{ℕ, ◌+◌}
 use borrow.Author.Tests.{not-true, not-false, eq-eqb, ne_eqb}
 use lib.Dec.{eqb}
 use Rattle.leaves.specs.Sheet.Kinds.{is_block, list, code_block, blank_line}
-use Rattle.leaves.specs.Report.Entries.{Lists, list_if}
 use Rattle.leaves.specs.declared.sheet.records.Span.{Span}
-use Rattle.leaves.specs.declared.report.entries.Tally.{Tally}
-use Rattle.leaves.proofs.report.EntryLaws.{lists-then}
 use Rattle.leaves.specs.Report.Rules
 use Rattle.blocks.specs.Before.{before_at, before_next, index_at, takes_indented_code, validate_taken_block}
 use Rattle.leaves.specs.Text.Marker.{written_marker}
 use Rattle.blocks.specs.declared.before.Before.{Before}
+use Rattle.leaves.specs.Report.Entries.{list_if}
+use Rattle.leaves.specs.Report.Listed.{path_of, Adds, Enters, Leaves}
+use Rattle.leaves.specs.declared.report.entries.Report.{Report}
+use Rattle.leaves.proofs.report.ListedLaws.{adds-none, adds-then}
 
-pub taken-law : (path : List ℕ) (span : Span) {s t u : Tally} {x y z : List ℕ} (before : Before) (kind a b : ℕ) {m n : ℕ} {q : Bool} → m ≡ written_marker before.a before.b → n ≡ written_marker a b → q ≡ takes_indented_code before.kind before.a → Lists s t x y (list_if (eqb before.kind list && eqb kind list && eqb m n) Rules.adjacent_lists span path) → Lists t u y z (list_if (eqb kind code_block && eqb a 1 && q) Rules.indented_code_taken span path) → Lists s u x z (validate_taken_block path span before kind a b)
+pub taken-law : (span : Span) {x y z : Report} (before : Before) (kind a b : ℕ) {m n : ℕ} {q : Bool} → m ≡ written_marker before.a before.b → n ≡ written_marker a b → q ≡ takes_indented_code before.kind before.a → Adds x y (list_if (eqb before.kind list && eqb kind list && eqb m n) Rules.adjacent_lists span (path_of x)) → Adds y z (list_if (eqb kind code_block && eqb a 1 && q) Rules.indented_code_taken span (path_of y)) → Adds x z (validate_taken_block (path_of x) span before kind a b)
 unfolding validate_taken_block
-taken-law path span before kind a b e f g l m = lists-then (rw (e, f) at l) (rw g at m)
+taken-law span before kind a b e f g l m = adds-then (rw (e, f) at l) (rw (g, l.path) at m)
 
 -- ---- the block before the next tree, and its index
 module _ (before : Before) (kind a b : ℕ) {f : Bool} (e : f ≡ is_block kind) where

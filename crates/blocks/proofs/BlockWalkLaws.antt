@@ -1,5 +1,6 @@
 -- The walk from block to block: one law for each way through its functions.
-use mathlib.Core.Path.{◌≡◌, refl, sym, ◌∙◌}
+use mathlib.Core.Path.{◌≡◌, refl, sym, ap, subst, ◌∙◌}
+use Rattle.std.specs.Prelude.{Option}
 use mathlib.Core.Bool.{Bool, true, false, not}
 use mathlib.Core.List.{List, [], ◌∷◌, ◌++◌}
 use Prim.Native.Nat.{ℕ, ◌+◌, ◌<◌, ◌≤◌}
@@ -7,29 +8,29 @@ use native.Mathlib.Omega.{arith}
 use native.Mathlib.Numerals.{add-one}
 use borrow.Author.Tests.{not-true, not-false, eq-eqb, ne_eqb}
 use lib.Dec.{eqb}
-use lib.ListN.{length, take, set, length-set}
 use Rattle.leaves.specs.Text.Lists.{when◌then◌else◌}
 use Rattle.leaves.specs.Sheet.Kinds.{is_block, list}
-use Rattle.leaves.specs.Sheet.Records.{record_at}
-use Rattle.leaves.specs.Sheet.Forest.{Forest, none, tree, under, count, size}
+use Rattle.leaves.specs.Sheet.Forest.{Forest, none, tree, count, size}
+use Rattle.leaves.specs.Sheet.Trees.{trees, Moved, Reads}
 use Rattle.leaves.specs.declared.sheet.records.Rec.{Rec}
-use Rattle.leaves.proofs.sheet.ForestLaws.{under-in}
-use Rattle.leaves.specs.Report.Entries.{Entry, Lists, ◌⊕◌}
-use Rattle.leaves.specs.declared.report.entries.Tally.{Tally}
-use Rattle.leaves.proofs.report.EntryLaws.{join-assoc, join-none, none-join, lists-none, lists-then}
-use Rattle.inlines.specs.Walk.{Begin, Left, Done}
-use Rattle.inlines.specs.declared.walk.Walked.{Walked}
-use Rattle.leaves.proofs.sheet.SkipLaws.{behind_kids, level-of, skip-tree}
-use Rattle.inlines.proofs.PathLaws.{Paced, paced-room, paced-own, paced-call, paced-turn, kept_set, kept-below}
+use Rattle.leaves.specs.declared.sheet.trees.Records.{Records}
+use Rattle.leaves.specs.Report.Entries.{Entry, ◌⊕◌}
+use Rattle.leaves.specs.Report.Listed.{path_of, Adds, Enters, Leaves}
+use Rattle.leaves.specs.declared.report.entries.Report.{Report}
+use Rattle.leaves.proofs.report.EntryLaws.{join-assoc, join-none, none-join}
+use Rattle.leaves.proofs.report.ListedLaws.{adds-none, adds-then, adds-from}
+use Rattle.leaves.proofs.sheet.TreesLaws.{passing-tree, reads-tree, behind-next, trees-moved, moved-then}
+use Rattle.inlines.specs.Walk.{Done}
+use Rattle.inlines.proofs.WalkLaws.{loop-bytes}
+use Rattle.inlines.proofs.PathLaws.{Paced, paced-path, paced-visit, paced-turn}
 use Rattle.blocks.specs.declared.before.Before.{Before}
 use Rattle.blocks.specs.Before.{first, before_next, validate_taken_block, before_at, index_at}
 use Rattle.blocks.specs.Item.{validate_item_blank_lines, validate_task_item}
 use Rattle.blocks.specs.Number.{item_number, validate_item_number}
-use Rattle.blocks.specs.declared.number.Number.{Number}
 use Rattle.blocks.specs.Block.{validate_own}
 use Rattle.blocks.specs.Holds.{holds_blocks}
 use Rattle.blocks.specs.Walk.{validate_block, validate_blocks, validate_item, validate_list_items}
-use Rattle.blocks.specs.WalkAt.{At, block_at}
+use Rattle.blocks.specs.WalkAt.{block_at, is_last}
 
 -- ---- one tree
 abbrev items_under : List ℕ → List ℕ → Rec → Forest → List Entry
@@ -56,37 +57,49 @@ module _ (bytes path : List ℕ) (before : Before) (r : Rec) (kids : Forest) whe
     unfolding block_at validate_block
     at_leaf l h = rw (e, l, h, join-none (validate_own bytes path r kids))
 
-module _ (bytes path : List ℕ) (before : Before) (w : List ℕ) (n i level : ℕ) {s : Tally} {x : List ℕ} {r : Rec} {f : Bool} (e : r ≡ record_at w i) (g : f ≡ is_block r.kind) where
-  pub block-other : {j : ℕ} → not f ≡ true → j ≡ i + 1 + size (under w n (i + 1) level) → Done w n (i + 1) level (block_at bytes path before (record_at w i) (under w n (i + 1) level)) s x (record { next = j; tally = s }) x
-  block-other h j = let no : is_block (record_at w i).kind ≡ false = not-true _ (rw (g, e) at h) in record { next = j; lists = rw (at_other bytes path before (record_at w i) (under w n (i + 1) level) no) lists-none }
+-- a function for a tree is done once its parts are: they are listed where the report stood, x, at its level
+module _ (k : Records) {x : Report} (before : Before) (r : Rec) {f : Bool} (g : f ≡ is_block r.kind) where
+  pub block-other : {j : Records} → not f ≡ true → Moved k j (k.next + size (trees k x.level)) → Done k j x.level x x (block_at k.bytes.now (path_of x) before r (trees k x.level))
+  block-other h m = let no : is_block r.kind ≡ false = not-true _ (rw g at h) in record { moved = m; adds = rw (at_other k.bytes.now (path_of x) before r (trees k x.level) no) adds-none }
 
-  module _ {t u : Tally} {y z : List ℕ} (h : not f ≡ false) (is : level ≡ (record_at w i).level) (a : Lists s t x y (validate_taken_block path r.span before r.kind r.a r.b)) (b : Lists t u y z (validate_own bytes path r (under w n (i + 1) r.level))) {next : List ℕ} (kept : next ≡ path) where
-    pub block-items : {q : Walked} {o : List ℕ} → r.kind ≡ list → Done w n (i + 1) level (validate_list_items bytes next 0 r.a r.c (under w n (i + 1) level)) u z q o → Done w n (i + 1) level (block_at bytes path before (record_at w i) (under w n (i + 1) level)) s x q o
-    block-items {q} {o} k d =
-        let own : Lists t u y z (validate_own bytes path (record_at w i) (under w n (i + 1) level)) = rw is (rw e at b) in
-        let block : is_block (record_at w i).kind ≡ true = not-false _ (rw (g, e) at h) in
-        let d' : Done w n (i + 1) level (items_under bytes path (record_at w i) (under w n (i + 1) level)) u z q o = rw (kept, e) at d in
-        record { next = d.next; lists = rw (at-list bytes path before (record_at w i) (under w n (i + 1) level) block (eq-eqb _ _ (rw e at k))) (lists-then (rw e at a) (lists-then own d'.lists)) }
+  module _ {y z : Report} (h : not f ≡ false) (a : Adds x y (validate_taken_block (path_of x) r.span before r.kind r.a r.b)) (b : Adds y z (validate_own k.bytes.now (path_of y) r (trees k y.level))) where
+    block : is_block r.kind ≡ true
+    block = not-false _ (rw g at h)
 
-    module _ {c : Bool} (k : r.kind ≡ list → ⊥) (l : c ≡ holds_blocks r.kind r.a) where
-      pub block-blocks : {q : Walked} {o : List ℕ} → c ≡ true → Done w n (i + 1) level (validate_blocks bytes next 0 first (under w n (i + 1) level)) u z q o → Done w n (i + 1) level (block_at bytes path before (record_at w i) (under w n (i + 1) level)) s x q o
-      block-blocks m d =
-          let own : Lists t u y z (validate_own bytes path (record_at w i) (under w n (i + 1) level)) = rw is (rw e at b) in
-          let block : is_block (record_at w i).kind ≡ true = not-false _ (rw (g, e) at h) in
-          let m' : holds_blocks (record_at w i).kind (record_at w i).a ≡ true = rw (l, e) at m in
-          record { next = d.next; lists = rw (at-blocks bytes path before (record_at w i) (under w n (i + 1) level) block (ne_eqb _ _ (rw e at k)) m') (lists-then (rw e at a) (lists-then own (rw kept at d.lists))) }
+    own : Adds x z (validate_taken_block (path_of x) r.span before r.kind r.a r.b ⊕ validate_own k.bytes.now (path_of x) r (trees k x.level))
+    own = adds-from (λ path level. validate_own k.bytes.now path r (trees k level)) a b
 
-      pub block-leaf : {j : ℕ} → c ≡ false → j ≡ i + 1 + size (under w n (i + 1) level) → Done w n (i + 1) level (block_at bytes path before (record_at w i) (under w n (i + 1) level)) s x (record { next = j; tally = u }) z
-      block-leaf m j =
-          let own : Lists t u y z (validate_own bytes path (record_at w i) (under w n (i + 1) level)) = rw is (rw e at b) in
-          let block : is_block (record_at w i).kind ≡ true = not-false _ (rw (g, e) at h) in
-          let m' : holds_blocks (record_at w i).kind (record_at w i).a ≡ false = rw (l, e) at m in
-          record { next = j; lists = rw (at_leaf bytes path before (record_at w i) (under w n (i + 1) level) block (ne_eqb _ _ (rw e at k)) m') (lists-then (rw e at a) own) }
+    level-is : z.level ≡ x.level
+    level-is = own.level
+
+    -- what is listed of the children, behind that
+    under-law : {j : Records} {o : Report} (es : List ℕ → Forest → List Entry) → block_at k.bytes.now (path_of x) before r (trees k x.level) ≡ validate_taken_block (path_of x) r.span before r.kind r.a r.b ⊕ validate_own k.bytes.now (path_of x) r (trees k x.level) ⊕ es (path_of x) (trees k x.level) → Done k j z.level z o (es (path_of z) (trees k z.level)) → Done k j x.level x o (block_at k.bytes.now (path_of x) before r (trees k x.level))
+    under-law {j} {o} es e d =
+        let n : Moved k j (k.next + size (trees k x.level)) = subst (λ (m : ℕ). Moved k j (k.next + size (trees k m))) level-is d.moved in
+        let l = adds-from (λ path level. es path (trees k level)) own d.adds in
+        record { moved = n; adds = rw e (rw join-assoc at l) }
+
+    pub block-items : {j : Records} {o : Report} → r.kind ≡ list → Done k j z.level z o (validate_list_items k.bytes.now (path_of z) 0 r.a r.c (trees k z.level)) → Done k j x.level x o (block_at k.bytes.now (path_of x) before r (trees k x.level))
+    block-items q d = under-law (λ path kids. items_under k.bytes.now path r kids) (at-list k.bytes.now (path_of x) before r (trees k x.level) block (eq-eqb _ _ q)) d
+
+    module _ {c : Bool} (q : r.kind ≡ list → ⊥) (l : c ≡ holds_blocks r.kind r.a) where
+      pub block-blocks : {j : Records} {o : Report} → c ≡ true → Done k j z.level z o (validate_blocks k.bytes.now (path_of z) 0 first (trees k z.level)) → Done k j x.level x o (block_at k.bytes.now (path_of x) before r (trees k x.level))
+      block-blocks m d = under-law (λ path kids. blocks_under k.bytes.now path kids) (at-blocks k.bytes.now (path_of x) before r (trees k x.level) block (ne_eqb _ _ q) (rw l at m)) d
+
+      pub block-leaf : {j : Records} → c ≡ false → Moved k j (k.next + size (trees k z.level)) → Done k j x.level x z (block_at k.bytes.now (path_of x) before r (trees k x.level))
+      block-leaf {j} m d =
+          let n : Moved k j (k.next + size (trees k x.level)) = subst (λ (m : ℕ). Moved k j (k.next + size (trees k m))) level-is d in
+          record { moved = n; adds = rw (at_leaf k.bytes.now (path_of x) before r (trees k x.level) block (ne_eqb _ _ q) (rw l at m)) own }
 
 -- ---- one item
-pub item-done : (bytes path : List ℕ) (ordered tight : ℕ) (last : Bool) (w : List ℕ) (n i level : ℕ) {r : Rec} {k : Number} {s t u v : Tally} {x y z a b next : List ℕ} {q : Walked} → r ≡ record_at w i → k ≡ item_number r.b r.c → Lists s t x y (validate_item_number path r.span ordered k) → Lists t u y z (validate_item_blank_lines path (eqb tight 1) last 0 (under w n (i + 1) level)) → next ≡ path → Lists u v z a (validate_task_item next r.span r.a (under w n (i + 1) level)) → Done w n (i + 1) level (validate_blocks bytes next 0 first (under w n (i + 1) level)) v a q b → Done w n (i + 1) level (validate_item path ordered tight last (record_at w i) (under w n (i + 1) level) (validate_blocks bytes path 0 first (under w n (i + 1) level))) s x q b
+pub item-done : (ordered tight outer : ℕ) (r : Rec) {k j : Records} {m : Option ℕ} {x y z a b : Report} → m ≡ item_number r.b r.c → Adds x y (validate_item_number (path_of x) r.span ordered m) → Adds y z (validate_item_blank_lines (path_of y) (eqb tight 1) (is_last k y.level outer) 0 (trees k y.level)) → Adds z a (validate_task_item (path_of z) r.span r.a (trees k z.level)) → Done k j a.level a b (validate_blocks k.bytes.now (path_of a) 0 first (trees k a.level)) → Done k j x.level x b (validate_item (path_of x) ordered tight (is_last k x.level outer) r (trees k x.level) (validate_blocks k.bytes.now (path_of x) 0 first (trees k x.level)))
 unfolding validate_item
-item-done bytes path ordered tight last w n i level e g l m kept o d = record { next = d.next; lists = lists-then (rw (g, e) at l) (lists-then m (lists-then (rw (kept, e) at o) (rw kept at d.lists))) }
+item-done ordered tight outer r {k} {j} {x = x} {a = a} g l m t d =
+    let one = adds-from (λ path level. validate_item_blank_lines path (eqb tight 1) (is_last k level outer) 0 (trees k level)) (rw g at l) m in
+    let two = adds-from (λ path level. validate_task_item path r.span r.a (trees k level)) one t in
+    let all = adds-from (λ path level. blocks_under k.bytes.now path (trees k level)) two d.adds in
+    let n : Moved k j (k.next + size (trees k x.level)) = subst (λ (m : ℕ). Moved k j (k.next + size (trees k m))) two.level d.moved in
+    record { moved = n; adds = rw (join-assoc, join-assoc) at all }
 
 -- ---- from one to the next
 pub blocks-none : (bytes path : List ℕ) (k : ℕ) (before : Before) → validate_blocks bytes path k before none ≡ []
@@ -102,14 +115,9 @@ unfolding validate_blocks block_at
 blocks-tree bytes path k before r kids rest true e = rw (e, add-one k) (sym (join-assoc (validate_taken_block (path ++ k ∷ []) r.span before r.kind r.a r.b) _ _))
 blocks-tree bytes path k before r kids rest false e = rw e (sym (none-join (validate_blocks bytes path k before rest)))
 
-module _ (bytes path w : List ℕ) (n i l : ℕ) (h : i < n) (d : l < (record_at w i).level) where
-  blocks_step : (k : ℕ) (before : Before) → validate_blocks bytes path k before (under w n i l) ≡ block_at bytes (path ++ k ∷ []) before (record_at w i) (under w n (i + 1) (record_at w i).level) ⊕ validate_blocks bytes path (index_at k (record_at w i).kind) (before_at before (record_at w i).kind (record_at w i).a (record_at w i).b) (under w n (behind_kids w n i) l)
-  unfolding before_at index_at
-  blocks_step k before = rw (under-in w n i l h d) (blocks-tree bytes path k before (record_at w i) _ _ (is_block (record_at w i).kind) refl)
-
-  items-step : (k ordered tight : ℕ) → validate_list_items bytes path k ordered tight (under w n i l) ≡ validate_item (path ++ k ∷ []) ordered tight (eqb (count (under w n (behind_kids w n i) l)) 0) (record_at w i) (under w n (i + 1) (record_at w i).level) (validate_blocks bytes (path ++ k ∷ []) 0 first (under w n (i + 1) (record_at w i).level)) ⊕ validate_list_items bytes path (k + 1) ordered tight (under w n (behind_kids w n i) l)
-  unfolding validate_list_items
-  items-step k ordered tight = rw (under-in w n i l h d, add-one k)
+items-tree : (bytes path : List ℕ) (k ordered tight : ℕ) (r : Rec) (kids rest : Forest) → validate_list_items bytes path k ordered tight (tree r kids rest) ≡ validate_item (path ++ k ∷ []) ordered tight (eqb (count rest) 0) r kids (blocks_under bytes (path ++ k ∷ []) kids) ⊕ validate_list_items bytes path (k + 1) ordered tight rest
+unfolding validate_list_items
+items-tree bytes path k ordered tight r kids rest = rw (add-one k)
 
 index-most : (k kind : ℕ) → index_at k kind ≤ k + 1
 unfolding index_at
@@ -119,42 +127,22 @@ index-most k kind = go (is_block kind)
     go true = omega arith
     go false = omega arith
 
--- what a call for record i is given
-module _ {es : List Entry} {h : Forest → List Entry} {w p : List ℕ} {n from len level : ℕ} {s : Tally} {x : List ℕ} {i k : ℕ} {t : Tally} {y q : List ℕ} (v : Paced es h w p n from len level s x i k t y q) {r : Rec} (b : i < n) (e : r ≡ record_at w i) (d : level < r.level) where
-  pub tree-at : At w (set q len k) n i (len + 1) r.level
-  tree-at = record { begin = paced-call v b (level-of w i e) d; is = level-of w i e }
+-- a turn: the tree that was read is entered and left
+module _ {es : List Entry} {x y z u : Records} {p q a b o : Report} {k : ℕ} {r : Rec} (reads : Reads y z p.level r) (n : Enters q a k r.level) (c : Leaves b o p.level) where
+  pub blocks-turn : (before : Before) → Paced es (validate_blocks x.bytes.now (path_of p) k before) x y p q k → Done z u a.level a b (block_at z.bytes.now (path_of a) before r (trees z a.level)) → {d : Before} {m : ℕ} → d ≡ before_at before r.kind r.a r.b → m ≡ index_at k r.kind → Paced es (validate_blocks x.bytes.now (path_of p) m d) x u p o m
+  unfolding before_at index_at
+  blocks-turn before v d e f =
+      let d' : Done z u r.level a b (block_at z.bytes.now (path_of a) before r (trees z r.level)) = subst (λ (m : ℕ). Done z u m a b (block_at z.bytes.now (path_of a) before r (trees z m))) n.level d in
+      let i : u.next ≡ _ = behind-next reads d'.moved in
+      let t = blocks-tree x.bytes.now (path_of p) k before r (trees z r.level) (trees u p.level) (is_block r.kind) refl in
+      let few : index_at k r.kind ≤ u.next = omega (arith, v.few, index-most k r.kind) in
+      rw (e, f) (paced-turn v (passing-tree v.loop.passing reads d'.moved) (rw (reads-tree reads d'.moved) t) (paced-visit v n (rw (paced-path v n, loop-bytes v.loop reads) at d'.adds) c) few)
 
-pub blocks-turn : (bytes : List ℕ) (before : Before) {w p : List ℕ} {n from len level : ℕ} {es : List Entry} {s : Tally} {x : List ℕ} {i k : ℕ} {t : Tally} {y q : List ℕ} → Paced es (validate_blocks bytes (take len p) k before) w p n from len level s x i k t y q → {r : Rec} {f : Walked} {b : Before} {m : ℕ} {z o : List ℕ} → i < n → r ≡ record_at w i → level < r.level → Done w n (i + 1) r.level (block_at bytes (take (len + 1) (set q len k)) before (record_at w i) (under w n (i + 1) r.level)) t y f z → take (len + 1) o ≡ take (len + 1) (set q len k) → b ≡ before_at before r.kind r.a r.b → m ≡ index_at k r.kind → length z ≡ length y → length o ≡ length (set q len k) → Paced es (validate_blocks bytes (take len p) m b) w p n from len level s x f.next m f.tally z o
-blocks-turn bytes before {w} {p} {n} {from} {len} {level} {i = i} {k} {t} {y} {q} v {r} {f} {b} {m} {z} {o} h e d c kept g a same long =
-    let d' : level < (record_at w i).level = rw e at d in
-    let own : take (len + 1) (set q len k) ≡ take len p ++ k ∷ [] = paced-own v (paced-room v h (level-of w i e) d) in
-    let c' : Done w n (i + 1) (record_at w i).level (block_at bytes (take len p ++ k ∷ []) before (record_at w i) (under w n (i + 1) (record_at w i).level)) t y f z = rw own at (rw e at c) in
-    let g' : b ≡ before_at before (record_at w i).kind (record_at w i).a (record_at w i).b = rw e at g in
-    let a' : m ≡ index_at k (record_at w i).kind = rw e at a in
-    let few : m ≤ f.next = omega (arith, a, index-most k r.kind, v.few, c'.next) in
-    let few' : index_at k (record_at w i).kind ≤ behind_kids w n i = rw (← a', ← c'.next) few in
-    rw (c'.next, g', a') (paced-turn v (skip-tree w n from level v.loop.at h d') (blocks_step bytes (take len p) w n i level h d' k before) c'.lists same few' (long ∙ length-set q len k) (kept-below (set q len k) o len kept ∙ kept_set q len k))
-
-pub items-turn : (bytes : List ℕ) (ordered tight : ℕ) {w p : List ℕ} {n from len level : ℕ} {es : List Entry} {s : Tally} {x : List ℕ} {i k : ℕ} {t : Tally} {y q : List ℕ} → Paced es (validate_list_items bytes (take len p) k ordered tight) w p n from len level s x i k t y q → {r : Rec} {f : Walked} {z o : List ℕ} → i < n → r ≡ record_at w i → level < r.level → Done w n (i + 1) r.level (validate_item (take (len + 1) (set q len k)) ordered tight (eqb (count (under w n (i + 1 + size (under w n (i + 1) r.level)) level)) 0) (record_at w i) (under w n (i + 1) r.level) (validate_blocks bytes (take (len + 1) (set q len k)) 0 first (under w n (i + 1) r.level))) t y f z → take (len + 1) o ≡ take (len + 1) (set q len k) → length z ≡ length y → length o ≡ length (set q len k) → Paced es (validate_list_items bytes (take len p) (k + 1) ordered tight) w p n from len level s x f.next (k + 1) f.tally z o
-items-turn bytes ordered tight {w} {p} {n} {from} {len} {level} {i = i} {k} {t} {y} {q} v {r} {f} {z} {o} h e d c kept same long =
-    let d' : level < (record_at w i).level = rw e at d in
-    let own : take (len + 1) (set q len k) ≡ take len p ++ k ∷ [] = paced-own v (paced-room v h (level-of w i e) d) in
-    let c' : Done w n (i + 1) (record_at w i).level (validate_item (take len p ++ k ∷ []) ordered tight (eqb (count (under w n (behind_kids w n i) level)) 0) (record_at w i) (under w n (i + 1) (record_at w i).level) (validate_blocks bytes (take len p ++ k ∷ []) 0 first (under w n (i + 1) (record_at w i).level))) t y f z = rw own at (rw e at c) in
-    rw c'.next (paced-turn v (skip-tree w n from level v.loop.at h d') (items-step bytes (take len p) w n i level h d' k ordered tight) c'.lists same (omega (arith, v.few)) (long ∙ length-set q len k) (kept-below (set q len k) o len kept ∙ kept_set q len k))
-
--- ---- the scratch between the calls for one record
-pub begin-kept : {w p : List ℕ} {n from len level : ℕ} → Begin w p n from len level → {q : List ℕ} → length q ≡ length p → take len q ≡ take len p → Begin w q n from len level
-begin-kept b same kept =
-    let g = b.start in
-    record {
-      start = record { whole = g.whole; few = g.few; shallow = g.shallow; inside = g.inside; short = rw kept g.short };
-      words = same ∙ b.words;
-      short = b.short;
-      fits = b.fits;
-    }
-
-pub own-begin : {w p : List ℕ} {n i len level left : ℕ} → At w p n i len level → Left left level → {r : Rec} → r ≡ record_at w i → Begin w p n (i + 1) len r.level × Left left r.level
-own-begin {w} {i = i} at enough {r} e =
-    let l : r.level ≡ _ = level-of w i e ∙ sym at.is in
-    let b = at.begin in
-    (record { start = b.start; words = b.words; short = rw l b.short; fits = b.fits }, rw l enough)
+  pub items-turn : (ordered tight : ℕ) → Paced es (validate_list_items x.bytes.now (path_of p) k ordered tight) x y p q k → Done z u a.level a b (validate_item (path_of a) ordered tight (is_last z a.level p.level) r (trees z a.level) (validate_blocks z.bytes.now (path_of a) 0 first (trees z a.level))) → Paced es (validate_list_items x.bytes.now (path_of p) (k + 1) ordered tight) x u p o (k + 1)
+  items-turn ordered tight v d =
+      let d' : Done z u r.level a b (validate_item (path_of a) ordered tight (is_last z r.level p.level) r (trees z r.level) (validate_blocks z.bytes.now (path_of a) 0 first (trees z r.level))) = subst (λ (m : ℕ). Done z u m a b (validate_item (path_of a) ordered tight (is_last z m p.level) r (trees z m) (validate_blocks z.bytes.now (path_of a) 0 first (trees z m)))) n.level d in
+      let i : u.next ≡ _ = behind-next reads d'.moved in
+      let few = v.few in
+      let s = trees-moved p.level d'.moved in
+      let t = items-tree x.bytes.now (path_of p) k ordered tight r (trees z r.level) (trees u p.level) in
+      paced-turn v (passing-tree v.loop.passing reads d'.moved) (rw (reads-tree reads d'.moved) t) (paced-visit v n (rw (paced-path v n, loop-bytes v.loop reads, ← s) at d'.adds) c) (omega arith)

@@ -1,4 +1,5 @@
 -- How long the list of a sheet is, from the number of its records. Each entry is charged to the record whose span it copies, so that a bound on what one record is charged with is a bound on the whole list.
+use Rattle.std.specs.Prelude.{Option, Some, None}
 use mathlib.Core.Path.{◌≡◌, refl}
 use mathlib.Core.Bool.{Bool, true, false, not, ◌&&◌, ◌||◌}
 use mathlib.Core.List.{List, [], ◌∷◌, ◌++◌}
@@ -36,8 +37,6 @@ use Rattle.inlines.specs.Depth.{validate_cell_values, validate_one_line}
 use Rattle.inlines.specs.Nodes.{all_empty, validate_inlines}
 use Rattle.inlines.proofs.CountLaws.{bit, sum_roots, spent, spent-none, spent-step, spent-most, inlines-spent, EachInline, tag_most, inline-most, Few, no-entry, one_entry, test-entry, both_entry, few-then, few-either}
 use Rattle.blocks.specs.declared.before.Before.{Before}
-use Rattle.blocks.specs.declared.number.Number.{Number}
-use Rattle.blocks.specs.declared.number.Number.TheVariants.{Absent, Present}
 use Rattle.blocks.specs.Before.{first, before_next, validate_taken_block}
 use Rattle.blocks.specs.Heads.{validate_heading, validate_alert, validate_code_block, validate_definition}
 use Rattle.blocks.specs.Frontmatter.{validate_frontmatter}
@@ -485,9 +484,9 @@ item-most : (path : List ℕ) (ordered : ℕ) (r : Rec) (kids : Forest) → leng
 unfolding item_entries validate_task_item validate_item_number
 item-most path ordered r kids = (few-then (number-most (item_number r.b r.c)) (one_entry _ _ _ _)).few
   where
-    number-most : (n : Number) → Few (validate_item_number path r.span ordered n) 2
-    number-most Absent = record { few = omega arith }
-    number-most (Present number) = few-then (one_entry _ _ _ _) (one_entry _ _ _ _)
+    number-most : (n : Option ℕ) → Few (validate_item_number path r.span ordered n) 2
+    number-most None = record { few = omega arith }
+    number-most (Some number) = few-then (one_entry _ _ _ _) (one_entry _ _ _ _)
 
 -- ---- an accepted sheet: the first two children of a container are tags
 container-strays : (bytes : List ℕ) (l a : ℕ) (kids : Forest) → Formed bytes l (opened (parent_group html_container a)) kids → strays kids ≡ 0

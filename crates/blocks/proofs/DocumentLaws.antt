@@ -1,5 +1,5 @@
 -- The whole list: the trees of an accepted sheet are those that a walk from its first record goes through.
-use mathlib.Core.Path.{◌≡◌, refl, ap}
+use mathlib.Core.Path.{◌≡◌, refl, ap, ◌∙◌}
 use mathlib.Core.List.{List, []}
 use Prim.Native.Nat.{ℕ, ◌<◌}
 use native.Mathlib.Nat.{sub-zero}
@@ -10,12 +10,14 @@ use Rattle.leaves.specs.Sheet.Records.{records_of}
 use Rattle.leaves.specs.Sheet.Forest.{Forest, none, tree, deeper, forest_of, under}
 use Rattle.leaves.specs.Refusal.Places.{joined}
 use Rattle.leaves.specs.declared.refusal.places.Open.{Open}
-use Rattle.leaves.specs.Report.Entries.{Lists, start}
-use Rattle.leaves.specs.declared.report.entries.Tally.{Tally}
 use Rattle.leaves.specs.Refusal.Formed.{Formed, Sound}
-use Rattle.inlines.specs.Walk.{Begin, Done}
-use Rattle.inlines.specs.declared.walk.Walked.{Walked}
-use Rattle.inlines.proofs.WalkLaws.{start_of}
+use Rattle.leaves.specs.Sheet.Trees.{trees, Whole}
+use Rattle.leaves.specs.Report.Entries.{Entry, Lists, start}
+use Rattle.leaves.specs.declared.report.entries.Tally.{Tally}
+use Rattle.leaves.specs.Report.Listed.{path_of}
+use Rattle.leaves.specs.declared.sheet.trees.Records.{Records}
+use Rattle.leaves.specs.declared.report.entries.Report.{Report}
+use Rattle.inlines.specs.Walk.{Done}
 use Rattle.blocks.specs.Before.{first}
 use Rattle.blocks.specs.Walk.{validate_blocks, validate_document}
 
@@ -30,10 +32,17 @@ whole-sheet : (w bytes : List ℕ) → Sound w bytes → under w (records_of w) 
 unfolding forest_of
 whole-sheet w bytes s = rw sub-zero (formed-deeper bytes 0 _ (forest_of w) s.tree)
 
-module _ {w bytes : List ℕ} {n : ℕ} (s : Sound w bytes) (e : n ≡ records_of w) where
-  pub document-begin : {p : List ℕ} → length p ≡ 64 → Begin w p n 0 0 0
-  document-begin l = record { start = start_of s e (omega arith) (omega arith); words = l; short = omega arith; fits = omega arith }
+document-trees : {w bytes : List ℕ} → Sound w bytes → {k : Records} → Whole w bytes k → trees k 0 ≡ forest_of w
+document-trees {w} {bytes} s a = rw (a.sheet, a.n, a.next) (whole-sheet w bytes s)
 
-  pub document-done : {t : Tally} {q : Walked} {x y : List ℕ} → t ≡ start → Done w n 0 0 (validate_blocks bytes [] 0 first (under w n 0 0)) t x q y → Lists start q.tally x y (validate_document w bytes)
-  unfolding validate_document
-  document-done i d = rw (← whole-sheet w bytes s, ← e, ← i) d.lists
+document-is : (w : List ℕ) {bytes b path : List ℕ} {f : Forest} → b ≡ bytes → path ≡ [] → f ≡ forest_of w → validate_blocks b path 0 first f ≡ validate_document w bytes
+unfolding validate_document
+document-is w b p f = rw (b, p, f)
+
+lists-as : {s s' t : Tally} {x x' y y' : List ℕ} {es fs : List Entry} → s ≡ s' → x ≡ x' → y' ≡ y → es ≡ fs → Lists s t x y es → Lists s' t x' y' fs
+lists-as s x y e l = rw (y, ← e, ← s, ← x) l
+
+-- the walk of all records of the sheet, by a report of no entries that stands before the first record
+pub document-done : (w : List ℕ) {bytes : List ℕ} → Sound w bytes → {k j : Records} {x y : Report} → Whole w bytes k → {before after : List ℕ} → x.words.now ≡ before → x.tally ≡ start → (x.depth ≡ 0) × (x.level ≡ 0) → Done k j x.level x y (validate_blocks k.bytes.now (path_of x) 0 first (trees k x.level)) → after ≡ y.words.now → Lists start y.tally before after (validate_document w bytes)
+document-done w s {k} a v t top d f =
+    lists-as t v f (document-is w a.bytes (rw top.0) (ap (trees k) top.1 ∙ document-trees s a)) d.adds.lists

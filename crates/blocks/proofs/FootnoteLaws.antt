@@ -1,27 +1,30 @@
 -- A footnote definition: one law for each way through a function of `footnote`.
-use mathlib.Core.Path.{◌≡◌, refl}
 use mathlib.Core.Bool.{Bool, true, false, ◌&&◌, ◌||◌}
 use mathlib.Core.List.{List, [], ◌∷◌, ◌++◌}
 use Prim.Native.Nat.{ℕ, suc, ◌+◌, ◌<◌, ◌≤◌}
 use native.Mathlib.Omega.{arith}
 use native.Mathlib.Numerals.{add-one}
 use lib.Dec.{eqb}
-use lib.ListN.{take, set}
 use Rattle.leaves.specs.Sheet.Kinds.{blank_line}
-use Rattle.leaves.specs.Sheet.Records.{record_at}
-use Rattle.leaves.specs.Sheet.Forest.{Forest, none, under, size, count}
-use Rattle.leaves.specs.Report.Entries.{Entry, Lists, list_if, ◌⊕◌}
 use Rattle.leaves.specs.declared.sheet.records.Rec.{Rec}
 use Rattle.leaves.specs.declared.sheet.records.Span.{Span}
 use Rattle.leaves.specs.declared.sheet.records.Text.{Text}
-use Rattle.leaves.specs.declared.report.entries.Tally.{Tally}
-use Rattle.leaves.proofs.sheet.ForestLaws.{under-in}
-use Rattle.leaves.proofs.report.EntryLaws.{none-join, lists-none, lists-then}
-use Rattle.leaves.proofs.sheet.SkipLaws.{behind_kids, skip-tree}
-use Rattle.inlines.proofs.PathLaws.{Paced, paced-own, paced-turn}
 use Rattle.leaves.specs.Report.Rules
 use Rattle.leaves.specs.Sheet.Empty.{is_empty}
 use Rattle.blocks.specs.Footnote.{blank_line_at, validate_footnote_definition}
+use mathlib.Core.Path.{◌≡◌, refl, sym, ap, ◌∙◌}
+use Rattle.leaves.specs.Sheet.Forest.{Forest, none, tree, under, count, size}
+use Rattle.leaves.specs.Sheet.Trees.{trees, Until, Moved, Reads, Ends}
+use Rattle.leaves.specs.Report.Entries.{Entry, list_if, ◌⊕◌}
+use Rattle.leaves.specs.Report.Listed.{path_of, Adds, Enters, Leaves}
+use Rattle.leaves.specs.declared.sheet.trees.Records.{Records}
+use Rattle.leaves.specs.declared.report.entries.Report.{Report}
+use Rattle.leaves.proofs.report.EntryLaws.{join-assoc, join-none, none-join}
+use Rattle.leaves.proofs.report.ListedLaws.{adds-none, adds-from}
+use Rattle.leaves.proofs.sheet.TreesLaws.{Passing, passing-tree, reads-tree, reads-first, behind-next, behind-moved, trees-moved}
+use Rattle.inlines.specs.Walk.{Done}
+use Rattle.inlines.proofs.WalkLaws.{loop-path, loop-bytes}
+use Rattle.inlines.proofs.PathLaws.{Paced, paced-path, paced-visit, paced-turn, paced-last}
 
 pub blank_none : (path : List ℕ) (k : ℕ) → blank_line_at path k none ≡ []
 unfolding blank_line_at
@@ -31,31 +34,25 @@ blank_none path k = refl
 abbrev is_fault : ℕ → ℕ → Bool → Bool
 is_fault kind k last = eqb kind blank_line && (eqb k 0 || last)
 
-module _ (path w : List ℕ) (n i l k : ℕ) (b : i < n) (d : l < (record_at w i).level) where
-  blank-found : is_fault (record_at w i).kind k (eqb (count (under w n (behind_kids w n i) l)) 0) ≡ true → blank_line_at path k (under w n i l) ≡ list_if true Rules.blank_line_in_footnote (record_at w i).span (path ++ k ∷ [])
+module _ (path : List ℕ) (k : ℕ) (r : Rec) (kids rest : Forest) where
+  blank-found : is_fault r.kind k (eqb (count rest) 0) ≡ true → blank_line_at path k (tree r kids rest) ≡ list_if true Rules.blank_line_in_footnote r.span (path ++ k ∷ [])
   unfolding blank_line_at
-  blank-found e = rw (under-in w n i l b d, e)
+  blank-found e = rw e
 
-  blank-later : is_fault (record_at w i).kind k (eqb (count (under w n (behind_kids w n i) l)) 0) ≡ false → blank_line_at path k (under w n i l) ≡ [] ⊕ blank_line_at path (suc k) (under w n (behind_kids w n i) l)
+  blank-later : is_fault r.kind k (eqb (count rest) 0) ≡ false → blank_line_at path k (tree r kids rest) ≡ [] ⊕ blank_line_at path (k + 1) rest
   unfolding blank_line_at
-  blank-later e = rw (none-join, under-in w n i l b d, e)
+  blank-later e = rw (none-join, e, add-one k)
 
-module _ {w p : List ℕ} {n from len level : ℕ} {es : List Entry} {s : Tally} {x : List ℕ} {i k : ℕ} {t : Tally} {y q : List ℕ} (v : Paced es (blank_line_at (take len p) k) w p n from len level s x i k t y q) {r : Rec} {j : ℕ} {e : Bool} (b : i < n) (is : r ≡ record_at w i) (d : level < r.level) (next : j ≡ i + 1 + size (under w n (i + 1) r.level)) (last : e ≡ eqb (count (under w n j level)) 0) where
-  deep : level < (record_at w i).level
-  deep = rw is at d
+module _ {es : List Entry} {x y z u : Records} {p q : Report} {k : ℕ} {r : Rec} {f : Bool} (v : Paced es (blank_line_at (path_of p) k) x y p q k) (reads : Reads y z p.level r) (behind : Moved z u (z.next + size (trees z r.level))) (last : f ≡ eqb (count (trees u p.level)) 0) where
+  pub blank-listed : {a b o : Report} → is_fault r.kind k f ≡ true → Enters q a k r.level → Adds a b (list_if true Rules.blank_line_in_footnote r.span (path_of a)) → Leaves b o p.level → Adds p o es
+  blank-listed e n l c =
+      paced-last v (rw (reads-tree reads behind) (blank-found (path_of p) k r _ _ (rw last at e))) (paced-visit v n (rw (paced-path v n) at l) c)
 
-  next-is : j ≡ behind_kids w n i
-  next-is = rw is at next
+  pub blank-passed : is_fault r.kind k f ≡ false → Paced es (blank_line_at (path_of p) (k + 1)) x u p q (k + 1)
+  blank-passed e =
+      let n : u.next ≡ y.next + 1 + size (trees z r.level) = behind-next reads behind in
+      paced-turn v (passing-tree v.loop.passing reads behind) (rw (reads-tree reads behind) (blank-later (path_of p) k r _ _ (rw last at e))) adds-none (omega (arith, v.few))
 
-  pub blank-listed : {u : Tally} {z : List ℕ} → is_fault r.kind k e ≡ true → len + 1 ≤ 64 → Lists t u y z (list_if true Rules.blank_line_in_footnote r.span (take (len + 1) (set q len k))) → Lists s u x z es
-  blank-listed f room l =
-      v.loop.lists _ _ (rw (blank-found (take len p) w n i level k b deep (rw (is, last, next-is) at f)) (rw (is, paced-own v room) at l))
-
-  pub blank-passed : is_fault r.kind k e ≡ false → Paced es (blank_line_at (take len p) (k + 1)) w p n from len level s x j (k + 1) t y q
-  blank-passed f =
-      rw (next-is, add-one k)
-      (paced-turn v (skip-tree w n from level v.loop.at b deep) (blank-later (take len p) w n i level k b deep (rw (is, last, next-is) at f)) lists-none refl (omega (arith, v.few)) refl refl)
-
-pub footnote-law : (path : List ℕ) (span : Span) (identifier : Text) (kids : Forest) {f : Bool} {s t u : Tally} {x y z : List ℕ} → f ≡ is_empty identifier → Lists s t x y (list_if f Rules.empty_footnote_definition span path) → Lists t u y z (blank_line_at path 0 kids) → Lists s u x z (validate_footnote_definition path span identifier kids)
+pub footnote-law : (span : Span) (identifier : Text) (k : Records) {f : Bool} {x y z : Report} → f ≡ is_empty identifier → Adds x y (list_if f Rules.empty_footnote_definition span (path_of x)) → Adds y z (blank_line_at (path_of y) 0 (trees k y.level)) → Adds x z (validate_footnote_definition (path_of x) span identifier (trees k x.level))
 unfolding validate_footnote_definition
-footnote-law path span identifier kids e l m = lists-then (rw e at l) m
+footnote-law span identifier k e l m = adds-from (λ path level. blank_line_at path 0 (trees k level)) (rw e at l) m

@@ -1,5 +1,4 @@
 -- The label of a directive: the records before its first block, cut off as a sheet of their own.
-use mathlib.Core.Path.{◌≡◌, refl, sym, ◌∙◌}
 use mathlib.Core.Bool.{Bool, true, false}
 use mathlib.Core.List.{List}
 use Prim.Native.Nat.{ℕ, zero, suc, ◌+◌, ◌-◌, ◌<◌, ◌≤◌}
@@ -8,22 +7,28 @@ use borrow.Author.Tests.{ltb-true, ltb-false, leb-true, leb-false}
 use lib.Dec.{ltb, leb}
 use Rattle.leaves.specs.Sheet.Kinds.{is_block}
 use Rattle.leaves.specs.Sheet.Records.{record_at}
-use Rattle.leaves.specs.Sheet.Forest.{Forest, none, tree, under, size}
 use Rattle.leaves.specs.declared.sheet.records.Rec.{Rec}
 use Rattle.leaves.specs.declared.sheet.records.Span.{Span}
 use Rattle.leaves.specs.declared.sheet.records.Text.{Text}
 use Rattle.leaves.proofs.sheet.ForestLaws.{under-in, under-out, under-end, under-fits}
-use Rattle.leaves.specs.Report.Entries.{Lists}
-use Rattle.leaves.specs.declared.report.entries.Tally.{Tally}
-use Rattle.leaves.proofs.report.EntryLaws.{lists-then}
 use Rattle.inlines.specs.Single.{validate_directive_name}
 use Rattle.inlines.specs.Attribute.{validate_directive_attributes}
 use Rattle.inlines.specs.Depth.{validate_one_line}
-use Rattle.inlines.specs.Walk.{Start, Done}
-use Rattle.inlines.specs.declared.walk.Walked.{Walked}
 use Rattle.leaves.proofs.sheet.SkipLaws.{behind_kids}
 use Rattle.inlines.specs.Nodes.{validate_inlines}
 use Rattle.blocks.specs.Label.{before_blocks, validate_directive}
+use mathlib.Core.Path.{◌≡◌, refl, sym, ap, ◌∙◌}
+use Rattle.leaves.specs.Sheet.Forest.{Forest, none, tree, under, count, size}
+use Rattle.leaves.specs.Sheet.Trees.{trees, Until, Moved, Reads, Ends}
+use Rattle.leaves.specs.Report.Entries.{Entry, list_if, ◌⊕◌}
+use Rattle.leaves.specs.Report.Listed.{path_of, Adds, Enters, Leaves}
+use Rattle.leaves.specs.declared.sheet.trees.Records.{Records}
+use Rattle.leaves.specs.declared.report.entries.Report.{Report}
+use Rattle.leaves.proofs.report.EntryLaws.{join-assoc, join-none, none-join}
+use Rattle.leaves.proofs.report.ListedLaws.{adds-none, adds-then, adds-from}
+use Rattle.leaves.proofs.sheet.TreesLaws.{moved-not, moved-then, reads-tree, reads-first, behind-next, behind-moved, trees-moved}
+use Rattle.inlines.specs.Walk.{Done}
+use Rattle.leaves.proofs.sheet.SkipLaws.{behind_kids}
 
 -- ---- cutting a sheet behind some trees leaves them as they are
 none_of : (f : Forest) → size f ≤ 0 → f ≡ none
@@ -118,52 +123,54 @@ module _ (w : List ℕ) (n l : ℕ) where
           let rest : under w m j l ≡ label j = rw z (ih j (omega arith) (omega arith)) in
           under-in w m a l (omega arith) d ∙ rw (kids, rest) (sym o)
 
--- ---- `label_end`: where the label's end is sought
-pub record Labelling (w : List ℕ) (n from level i : ℕ) : Type 0 where
-  pub inside : i ≤ n
-  pub gone : i + size (before_blocks (under w n i level)) ≡ from + size (before_blocks (under w n from level))
+-- ---- `label_end`: the search for the label's end began at x and stands at y
+pub record Labelling (level : ℕ) (x y : Records) : Type 0 where
+  pub moved : Moved x y y.next
+  pub gone : y.next + size (before_blocks (trees y level)) ≡ x.next + size (before_blocks (trees x level))
 
-module _ (w : List ℕ) (n from level : ℕ) where
-  pub labelling-start : from ≤ n → Labelling w n from level from
-  labelling-start h = record { inside = h; gone = refl }
+module _ {level : ℕ} {x : Records} where
+  pub labelling-start : Labelling level x x
+  labelling-start = record { moved = moved-not x level; gone = refl }
 
-  module _ {i : ℕ} (v : Labelling w n from level i) where
-    stop : label w n level i ≡ none → i ≡ from + size (before_blocks (under w n from level))
+  module _ {y : Records} (v : Labelling level x y) where
+    stop : before_blocks (trees y level) ≡ none → y.next ≡ x.next + size (before_blocks (trees x level))
     unfolding size
-    stop e = let z : size (label w n level i) ≡ 0 = rw e in omega (arith, v.gone)
+    stop e = let z : size (before_blocks (trees y level)) ≡ 0 = rw e in omega (arith, v.gone)
 
-    pub labelling-end : n ≤ i → i ≡ from + size (before_blocks (under w n from level))
-    labelling-end h = stop (label-end w n level i h)
+    pub labelling-end : {z : Records} → Ends y z level → y.next ≡ x.next + size (before_blocks (trees x level))
+    labelling-end e = stop (rw e.none label-none)
 
-    pub labelling-out : {r : Rec} → i < n → r ≡ record_at w i → r.level ≤ level → i ≡ from + size (before_blocks (under w n from level))
-    labelling-out h e d = let d' : (record_at w i).level ≤ level = rw e at d in stop (label-out w n level i h d')
+    module _ {z : Records} {r : Rec} {b : Bool} (reads : Reads y z level r) (g : b ≡ is_block r.kind) where
+      pub labelling-block : b ≡ true → y.next ≡ x.next + size (before_blocks (trees x level))
+      labelling-block t = stop (rw (reads-first reads) (label-block r _ _ (rw g at t)))
 
-    pub labelling-block : {r : Rec} {b : Bool} → i < n → r ≡ record_at w i → level < r.level → b ≡ is_block r.kind → b ≡ true → i ≡ from + size (before_blocks (under w n from level))
-    labelling-block h e d g t =
-        let d' : level < (record_at w i).level = rw e at d in
-        let t' : is_block (record_at w i).kind ≡ true = rw (g, e) at t in
-        stop (label_at w n level i h d' t')
-
-    pub labelling-turn : {r : Rec} {b : Bool} {j : ℕ} → i < n → r ≡ record_at w i → level < r.level → b ≡ is_block r.kind → b ≡ false → j ≡ i + 1 + size (under w n (i + 1) r.level) → Labelling w n from level j
-    unfolding size
-    labelling-turn {j = j} h e d g t q =
-        let d' : level < (record_at w i).level = rw e at d in
-        let t' : is_block (record_at w i).kind ≡ false = rw (g, e) at t in
-        let q' : j ≡ behind_kids w n i = rw e at q in
-        let o : label w n level i ≡ tree (record_at w i) (under w n (i + 1) (record_at w i).level) (label w n level (behind_kids w n i)) = label-in w n level i h d' t' in
-        let z : i + size (label w n level i) ≡ behind_kids w n i + size (label w n level (behind_kids w n i)) = rw o (omega arith) in
-        rw q' (record { inside = under-fits w n (i + 1) (record_at w i).level (omega arith); gone = sym z ∙ v.gone })
+      pub labelling-turn : {u : Records} → b ≡ false → Moved z u (z.next + size (trees z r.level)) → Labelling level x u
+      unfolding size
+      labelling-turn {u} t m =
+          let t' : is_block r.kind ≡ false = rw g at t in
+          let o : before_blocks (trees y level) ≡ tree r (trees z r.level) (before_blocks (trees u level)) = ap before_blocks (reads-tree reads m) ∙ label-other r _ _ t' in
+          let n : u.next ≡ y.next + 1 + size (trees z r.level) = behind-next reads m in
+          let s : size (before_blocks (trees y level)) ≡ suc (size (trees z r.level) + size (before_blocks (trees u level))) = ap size o in
+          record { moved = moved-then v.moved (behind-moved reads m); gone = omega (arith, v.gone) }
 
 -- ---- `validate_directive`
-module _ {w path : List ℕ} {n from : ℕ} (p : Start w path n from) where
-  pub label-start : (level : ℕ) {m : ℕ} → m ≡ from + size (before_blocks (under w n from level)) → Start w path m from
-  label-start level {m} e =
-      let f : from + size (under w n from level) ≤ n = under-fits w n from level p.inside in
-      let q : m ≤ n = omega (arith, fewer (under w n from level)) in
-      record { whole = omega (arith, p.whole); few = omega (arith, p.few); shallow = λ i b. p.shallow i (omega arith); inside = omega arith; short = p.short }
+module _ (k : Records) (level : ℕ) {m : ℕ} (e : m ≡ k.next + size (before_blocks (trees k level))) where
+  -- the label ends where the sheet does, or before
+  pub label-inside : (k.next ≤ m) × (m ≤ k.n)
+  label-inside =
+      let i : k.next ≤ k.n = k.inside in
+      let f : k.next + size (trees k level) ≤ k.n = under-fits k.sheet.now k.n k.next level i in
+      (omega arith, omega (arith, fewer (trees k level)))
 
-pub directive-done : (bytes : List ℕ) {w path : List ℕ} {n from : ℕ} (level rule : ℕ) (span : Span) (name : Text) {m : ℕ} {s t : Tally} {x y z a b : List ℕ} {q u v : Walked} → Start w path n from → m ≡ from + size (before_blocks (under w n from level)) → Lists s t x y (validate_directive_name bytes path span name) → Done w m from level (validate_directive_attributes bytes path (under w m from level)) t y q z → Done w m from level (validate_inlines bytes path (under w m from level)) q.tally z u a → Done w m from level (validate_one_line rule path (under w m from level)) u.tally a v b → Lists s v.tally x b (validate_directive bytes path rule span name (under w n from level))
+  pub label-trees : {j : Records} → Until k j m → trees j level ≡ before_blocks (trees k level)
+  label-trees u =
+      let i : k.next ≤ k.n = k.inside in
+      let c : under k.sheet.now (k.next + size (before_blocks (trees k level))) k.next level ≡ before_blocks (trees k level) = label-cut k.sheet.now k.n level k.n k.next (omega arith) i in
+      rw (u.sheet, u.n, u.next, e) c
+
+pub directive-done : (rule : ℕ) (span : Span) (name : Text) {k j a b c : Records} {level m : ℕ} {x y z o p : Report} → m ≡ k.next + size (before_blocks (trees k level)) → Adds x y (validate_directive_name k.bytes.now (path_of x) span name) → Until k j m → Done j a level y z (validate_directive_attributes j.bytes.now (path_of y) (trees j level)) → Done j b level z o (validate_inlines j.bytes.now (path_of z) (trees j level)) → Done j c level o p (validate_one_line rule (path_of o) (trees j level)) → Adds x p (validate_directive k.bytes.now (path_of x) rule span name (trees k level))
 unfolding validate_directive
-directive-done bytes {w} {path} {n} {from} level rule span name {m} p e l f g h =
-    let c : under w m from level ≡ before_blocks (under w n from level) = rw e (label-cut w n level n from (omega arith) p.inside) in
-    lists-then l (lists-then (rw c at f.lists) (lists-then (rw c at g.lists) (rw c at h.lists)))
+directive-done rule span name {k} {level = level} e l u f g h =
+    let t = label-trees k level e u in
+    let s = u.bytes in
+    adds-then l (adds-then (rw (t, s, l.path) at f.adds) (adds-then (rw (t, s, f.adds.path, l.path) at g.adds) (rw (t, g.adds.path, f.adds.path, l.path) at h.adds)))

@@ -1,79 +1,81 @@
 -- A table's rows and cells, listed from tree to tree.
-use mathlib.Core.Path.{◌≡◌, refl, sym, ◌∙◌}
 use mathlib.Core.Bool.{Bool, true, false, not}
 use mathlib.Core.List.{List, [], ◌∷◌, ◌++◌}
 use Prim.Native.Nat.{ℕ, ◌+◌, ◌<◌}
 use native.Mathlib.Omega.{arith}
 use native.Mathlib.Numerals.{add-one}
 use lib.Dec.{eqb}
-use lib.ListN.{length, take, set, length-set}
-use Rattle.leaves.specs.Sheet.Records.{record_at}
-use Rattle.leaves.specs.Sheet.Forest.{none, under, count}
 use Rattle.leaves.specs.declared.sheet.records.Rec.{Rec}
 use Rattle.leaves.specs.declared.sheet.records.Span.{Span}
-use Rattle.leaves.proofs.sheet.ForestLaws.{under-in}
-use Rattle.leaves.specs.Report.Entries.{Entry, Lists, list_if, ◌⊕◌}
-use Rattle.leaves.specs.declared.report.entries.Tally.{Tally}
-use Rattle.leaves.proofs.report.EntryLaws.{lists-then, join-assoc}
 use Rattle.leaves.specs.Report.Rules
 use Rattle.inlines.specs.Depth.{validate_cell_values, validate_one_line}
-use Rattle.inlines.specs.Walk.{Done}
-use Rattle.inlines.specs.declared.walk.Walked.{Walked}
-use Rattle.leaves.proofs.sheet.SkipLaws.{behind_kids, level-of, skip-tree}
-use Rattle.inlines.proofs.PathLaws.{Paced, paced-room, paced-own, paced-turn, kept_set, kept-below}
-use Rattle.leaves.proofs.sheet.TreeLaws.{Stands, ends_some}
 use Rattle.inlines.specs.Nodes.{validate_inlines}
 use Rattle.blocks.specs.Table.{header_width, validate_cell, validate_cells, validate_rows, validate_table}
+use mathlib.Core.Path.{◌≡◌, refl, sym, ap, subst, ◌∙◌}
+use Rattle.leaves.proofs.sheet.TreeLaws.{suc-some}
+use Rattle.leaves.specs.Sheet.Forest.{Forest, none, tree, under, count, size}
+use Rattle.leaves.specs.Sheet.Trees.{trees, Until, Moved, Reads, Ends}
+use Rattle.leaves.specs.Report.Entries.{Entry, list_if, ◌⊕◌}
+use Rattle.leaves.specs.Report.Listed.{path_of, Adds, Enters, Leaves}
+use Rattle.leaves.specs.declared.sheet.trees.Records.{Records}
+use Rattle.leaves.specs.declared.report.entries.Report.{Report}
+use Rattle.leaves.proofs.report.EntryLaws.{join-assoc, join-none, none-join}
+use Rattle.leaves.proofs.report.ListedLaws.{adds-none, adds-then, adds-from}
+use Rattle.leaves.proofs.sheet.TreesLaws.{Passing, passing-tree, reads-tree, reads-first, behind-next, behind-moved, trees-moved}
+use Rattle.inlines.specs.Walk.{Done}
+use Rattle.inlines.proofs.WalkLaws.{loop-path, loop-bytes}
+use Rattle.inlines.proofs.PathLaws.{Paced, paced-path, paced-visit, paced-turn, paced-last}
 
 -- ---- one cell
-pub cell-done : (bytes path : List ℕ) {w : List ℕ} {n from level : ℕ} {s : Tally} {x y z o : List ℕ} {p q r : Walked} → Done w n from level (validate_inlines bytes path (under w n from level)) s x p y → Done w n from level (validate_cell_values bytes path (under w n from level)) p.tally y q z → Done w n from level (validate_one_line Rules.break_in_cell path (under w n from level)) q.tally z r o → Done w n from level (validate_cell bytes path (under w n from level)) s x r o
+pub cell-done : {k a b c : Records} {level : ℕ} {x y z o : Report} → Done k a level x y (validate_inlines k.bytes.now (path_of x) (trees k level)) → Done k b level y z (validate_cell_values k.bytes.now (path_of y) (trees k level)) → Done k c level z o (validate_one_line Rules.break_in_cell (path_of z) (trees k level)) → Done k c level x o (validate_cell k.bytes.now (path_of x) (trees k level))
 unfolding validate_cell
-cell-done bytes path a b c = record { next = c.next; lists = lists-then a.lists (lists-then b.lists c.lists) }
+cell-done a b c = record { moved = c.moved; adds = adds-then a.adds (adds-then (rw a.adds.path at b.adds) (rw (b.adds.path, a.adds.path) at c.adds)) }
 
 -- ---- the cells of a row
 pub cells-none : (bytes path : List ℕ) (k : ℕ) → validate_cells bytes path k none ≡ []
 unfolding validate_cells
 cells-none bytes path k = refl
 
-module _ (bytes path w : List ℕ) (n i l : ℕ) (h : i < n) (d : l < (record_at w i).level) where
-  cells-step : (k : ℕ) → validate_cells bytes path k (under w n i l) ≡ validate_cell bytes (path ++ k ∷ []) (under w n (i + 1) (record_at w i).level) ⊕ validate_cells bytes path (k + 1) (under w n (behind_kids w n i) l)
-  unfolding validate_cells
-  cells-step k = rw (under-in w n i l h d, add-one k)
+cells-tree : (bytes path : List ℕ) (k : ℕ) (r : Rec) (kids rest : Forest) → validate_cells bytes path k (tree r kids rest) ≡ validate_cell bytes (path ++ k ∷ []) kids ⊕ validate_cells bytes path (k + 1) rest
+unfolding validate_cells
+cells-tree bytes path k r kids rest = rw (add-one k)
 
-  rows_step : (width k : ℕ) → validate_rows bytes path width k (under w n i l) ≡ (list_if (not (eqb (count (under w n (i + 1) (record_at w i).level)) width)) Rules.row_width (record_at w i).span (path ++ k ∷ []) ⊕ validate_cells bytes (path ++ k ∷ []) 0 (under w n (i + 1) (record_at w i).level)) ⊕ validate_rows bytes path width (k + 1) (under w n (behind_kids w n i) l)
-  unfolding validate_rows
-  rows_step width k = rw (under-in w n i l h d, add-one k) (sym (join-assoc (list_if _ _ _ _) _ _))
+rows-tree : (bytes path : List ℕ) (width k : ℕ) (r : Rec) (kids rest : Forest) → validate_rows bytes path width k (tree r kids rest) ≡ (list_if (not (eqb (count kids) width)) Rules.row_width r.span (path ++ k ∷ []) ⊕ validate_cells bytes (path ++ k ∷ []) 0 kids) ⊕ validate_rows bytes path width (k + 1) rest
+unfolding validate_rows
+rows-tree bytes path width k r kids rest = rw (add-one k) (sym (join-assoc (list_if _ _ _ _) _ _))
 
-pub cells-turn : (bytes : List ℕ) {w p : List ℕ} {n from len level : ℕ} {es : List Entry} {s : Tally} {x : List ℕ} {i k : ℕ} {t : Tally} {y q : List ℕ} → Paced es (validate_cells bytes (take len p) k) w p n from len level s x i k t y q → {m : ℕ} {r : Walked} {z : List ℕ} → i < n → m ≡ (record_at w i).level → level < m → Done w n (i + 1) m (validate_cell bytes (take (len + 1) (set q len k)) (under w n (i + 1) m)) t y r z → length z ≡ length y → Paced es (validate_cells bytes (take len p) (k + 1)) w p n from len level s x r.next (k + 1) r.tally z (set q len k)
-cells-turn bytes {w} {p} {n} {from} {len} {level} {i = i} {k} {t} {y} {q} v {m} {r} {z} h e d c o =
-    let d' : level < (record_at w i).level = rw e at d in
-    let own : take (len + 1) (set q len k) ≡ take len p ++ k ∷ [] = paced-own v (paced-room v h e d) in
-    let c' : Done w n (i + 1) (record_at w i).level (validate_cell bytes (take len p ++ k ∷ []) (under w n (i + 1) (record_at w i).level)) t y r z = rw own at (rw e at c) in
-    rw c'.next (paced-turn v (skip-tree w n from level v.loop.at h d') (cells-step bytes (take len p) w n i level h d' k) c'.lists o (omega (arith, v.few)) (length-set q len k) (kept_set q len k))
+-- a turn: the tree that was read is entered and left
+module _ {es : List Entry} {x y z u : Records} {p q a b o : Report} {k : ℕ} {r : Rec} (reads : Reads y z p.level r) (n : Enters q a k r.level) (c : Leaves b o p.level) where
+  pub cells-turn : Paced es (validate_cells x.bytes.now (path_of p) k) x y p q k → Done z u a.level a b (validate_cell z.bytes.now (path_of a) (trees z a.level)) → Paced es (validate_cells x.bytes.now (path_of p) (k + 1)) x u p o (k + 1)
+  cells-turn v d =
+      let d' : Done z u r.level a b (validate_cell z.bytes.now (path_of a) (trees z r.level)) = subst (λ (m : ℕ). Done z u m a b (validate_cell z.bytes.now (path_of a) (trees z m))) n.level d in
+      let i : u.next ≡ _ = behind-next reads d'.moved in
+      let few = v.few in
+      paced-turn v (passing-tree v.loop.passing reads d'.moved) (rw (reads-tree reads d'.moved) (cells-tree x.bytes.now (path_of p) k r _ _)) (paced-visit v n (rw (paced-path v n, loop-bytes v.loop reads) at d'.adds) c) (omega arith)
+
+  pub rows-turn : {d : Report} {m : ℕ} (width : ℕ) → Paced es (validate_rows x.bytes.now (path_of p) width k) x y p q k → m ≡ count (trees z r.level) → Adds a d (list_if (not (eqb m width)) Rules.row_width r.span (path_of a)) → Done z u d.level d b (validate_cells z.bytes.now (path_of d) 0 (trees z d.level)) → Paced es (validate_rows x.bytes.now (path_of p) width (k + 1)) x u p o (k + 1)
+  rows-turn {d} width v e l f =
+      let g : Done z u r.level d b (validate_cells z.bytes.now (path_of d) 0 (trees z r.level)) = subst (λ (m : ℕ). Done z u m d b (validate_cells z.bytes.now (path_of d) 0 (trees z m))) (l.level ∙ n.level) f in
+      let i : u.next ≡ _ = behind-next reads g.moved in
+      let few = v.few in
+      let row = adds-then (rw (e, paced-path v n) at l) (rw (l.path, paced-path v n, loop-bytes v.loop reads) at g.adds) in
+      paced-turn v (passing-tree v.loop.passing reads g.moved) (rw (reads-tree reads g.moved) (rows-tree x.bytes.now (path_of p) width k r _ _)) (paced-visit v n row c) (omega arith)
 
 -- ---- the rows of a table
 pub rows_none : (bytes path : List ℕ) (width k : ℕ) → validate_rows bytes path width k none ≡ []
 unfolding validate_rows
 rows_none bytes path width k = refl
 
-pub rows-turn : (bytes : List ℕ) (width : ℕ) {w p : List ℕ} {n from len level : ℕ} {es : List Entry} {s : Tally} {x : List ℕ} {i k : ℕ} {t : Tally} {y q : List ℕ} → Paced es (validate_rows bytes (take len p) width k) w p n from len level s x i k t y q → {r : Rec} {a : ℕ} {u : Tally} {f : Walked} {z b o : List ℕ} → i < n → r ≡ record_at w i → level < r.level → a ≡ count (under w n (i + 1) r.level) → Lists t u y z (list_if (not (eqb a width)) Rules.row_width r.span (take (len + 1) (set q len k))) → Done w n (i + 1) r.level (validate_cells bytes (take (len + 1) (set q len k)) 0 (under w n (i + 1) r.level)) u z f b → take (len + 1) o ≡ take (len + 1) (set q len k) → length b ≡ length y → length o ≡ length (set q len k) → Paced es (validate_rows bytes (take len p) width (k + 1)) w p n from len level s x f.next (k + 1) f.tally b o
-rows-turn bytes width {w} {p} {n} {from} {len} {level} {i = i} {k} {t} {y} {q} v {r} {a} {u} {f} {z} {b} {o} h e d g l c kept same long =
-    let d' : level < (record_at w i).level = rw e at d in
-    let own : take (len + 1) (set q len k) ≡ take len p ++ k ∷ [] = paced-own v (paced-room v h (level-of w i e) d) in
-    let l' : Lists t u y z (list_if (not (eqb (count (under w n (i + 1) (record_at w i).level)) width)) Rules.row_width (record_at w i).span (take len p ++ k ∷ [])) = rw own at (rw (g, e) at l) in
-    let c' : Done w n (i + 1) (record_at w i).level (validate_cells bytes (take len p ++ k ∷ []) 0 (under w n (i + 1) (record_at w i).level)) u z f b = rw own at (rw e at c) in
-    rw c'.next (paced-turn v (skip-tree w n from level v.loop.at h d') (rows_step bytes (take len p) w n i level h d' width k) (lists-then l' c'.lists) same (omega (arith, v.few)) (long ∙ length-set q len k) (kept-below (set q len k) o len kept ∙ kept_set q len k))
-
 -- ---- the table
-header : (w : List ℕ) (n from level : ℕ) {m c : ℕ} → Stands w n from level → m ≡ (record_at w from).level → c ≡ count (under w n (from + 1) m) → header_width (under w n from level) ≡ c
-unfolding header_width
-header w n from level q d k = rw (under-in w n from level q.inside q.deep) (sym (rw d at k))
+module _ (span : Span) (a : ℕ) {k j : Records} {x y : Report} where
+  pub table_empty : (bytes path : List ℕ) → Ends k j x.level → Adds x y (list_if true Rules.table_without_row span path) → Adds x y (validate_table bytes path span a (trees k x.level))
+  unfolding validate_table count
+  table_empty bytes path e l = rw e.none l
 
-module _ (bytes path : List ℕ) (span : Span) (a : ℕ) (w : List ℕ) (n from level : ℕ) {f : Bool} (g : f ≡ eqb (count (under w n from level)) 0) {s t : Tally} {x y : List ℕ} where
-  pub table_empty : f ≡ true → Lists s t x y (list_if true Rules.table_without_row span path) → Lists s t x y (validate_table bytes path span a (under w n from level))
-  unfolding validate_table
-  table_empty e l = let z : eqb (count (under w n from level)) 0 ≡ true = sym g ∙ e in rw z l
-
-  pub table_done : {m c : ℕ} {u : Tally} {v : Walked} {z o : List ℕ} → f ≡ false → m ≡ (record_at w from).level → c ≡ count (under w n (from + 1) m) → Lists s t x y (list_if (eqb c 0) Rules.table_without_cell span path) → Lists t u y z (list_if (not (eqb a c)) Rules.alignment_count span path) → Done w n from level (validate_rows bytes path c 0 (under w n from level)) u z v o → Lists s v.tally x o (validate_table bytes path span a (under w n from level))
-  unfolding validate_table
-  table_done e d k l b r = let z : eqb (count (under w n from level)) 0 ≡ false = sym g ∙ e in let i = header w n from level (ends_some w n from level g e) d k in rw (z, i) (lists-then l (lists-then b r.lists))
+  pub table_done : {m : ℕ} {r : Rec} {i : Records} {z o : Report} → Reads k j x.level r → m ≡ count (trees j r.level) → Adds x y (list_if (eqb m 0) Rules.table_without_cell span (path_of x)) → Adds y z (list_if (not (eqb a m)) Rules.alignment_count span (path_of y)) → Done k i z.level z o (validate_rows k.bytes.now (path_of z) m 0 (trees k z.level)) → Adds x o (validate_table k.bytes.now (path_of x) span a (trees k x.level))
+  unfolding validate_table header_width count
+  table_done {m} {r} {z = z} {o} reads e l b f =
+      let h : eqb (count (trees k x.level)) 0 ≡ false = rw (reads-first reads) (sym (suc-some _)) in
+      let w : header_width (trees k x.level) ≡ m = rw (reads-first reads) (sym e) in
+      let two = adds-then l (rw l.path at b) in
+      rw (h, w) (rw join-assoc at (adds-from (λ path level. validate_rows k.bytes.now path m 0 (trees k level)) two f.adds))

@@ -1,22 +1,22 @@
--- What the walk of one block or item asks of its caller, and what one tree among those of `validate_blocks` lists. A
+-- What one tree among those of `validate_blocks` lists, and whether an item is its list's last, by where it stands. A
 -- reader need not believe these: `validate_document` does not cite them.
-use Rattle.std.specs.Prelude.{ℕ, ◌+◌, List, [], ◌≡◌}
+use Rattle.std.specs.Prelude.{Bool, ℕ, ◌+◌, List, [], eqb}
 use Rattle.leaves.specs.Text.Lists.{when◌then◌else◌}
 use Rattle.leaves.specs.Sheet.Kinds.{is_block}
-use Rattle.leaves.specs.Sheet.Records.{record_at}
-use Rattle.leaves.specs.Sheet.Forest.{Forest}
+use Rattle.leaves.specs.Sheet.Forest.{Forest, under, count, size}
+use Rattle.leaves.specs.Sheet.Trees.{trees}
 use Rattle.leaves.specs.Report.Entries.{Entry, ◌⊕◌}
 use Rattle.leaves.specs.declared.sheet.records.Rec.{Rec}
-use Rattle.inlines.specs.Walk.{Begin}
+use Rattle.leaves.specs.declared.sheet.trees.Records.{Records}
 use Rattle.blocks.specs.declared.before.Before.{Before}
 use Rattle.blocks.specs.Before.{first, validate_taken_block}
 use Rattle.blocks.specs.Walk.{validate_block, validate_blocks, validate_list_items}
 
--- `validate_block` and `validate_item` ask this of their caller: record i has the level `level`, the first `len` words
--- of the scratch p are its own path, and a walk may begin at the record behind it.
-pub record At (w p : List ℕ) (n i len level : ℕ) : Type 0 where
-  pub begin : Begin w p n (i + 1) len level
-  pub is : level ≡ (record_at w i).level
+-- whether the trees deeper than `level` that are next are the last that are deeper than `outer`
+abbrev pub is_last : Records → ℕ → ℕ → Bool
+is_last r level outer =
+    let behind = r.next + size (trees r level) in
+    eqb (count (under r.sheet.now r.n behind outer)) 0
 
 -- what one tree lists: nothing, where it is not a block
 unfoldable pub block_at : List ℕ → List ℕ → Before → Rec → Forest → List Entry

@@ -1,13 +1,13 @@
 // What a block reports because of the block before it, and which block stands before the next one.
-ghost use Rattle.std.specs.Prelude.{◌≡◌, ◌≤◌, length};
-ghost use Rattle.leaves.specs.Refusal.Limits.{most_level, most_records};
-ghost use Rattle.leaves.specs.Report.Entries.{Lists};
-ghost use Rattle.blocks.specs.Before.{before_at, index_at, takes_indented_code, validate_taken_block};
+ghost use Rattle.std.specs.Prelude.{◌≡◌, ◌≤◌};
+ghost use Rattle.leaves.specs.Refusal.Limits.{most_records};
+ghost use Rattle.leaves.specs.Report.Listed.{path_of, Adds};
+ghost use Rattle.blocks.specs.Before.{takes_indented_code, validate_taken_block, before_at, index_at};
 
-use leaves::report::entries::{Tally, list_if};
-use leaves::report::rules;
+use leaves::report::entries::Report;
+use leaves::report::rules::Rule;
 use leaves::sheet::kinds;
-use leaves::sheet::records::Span;
+use leaves::sheet::records::Rec;
 use leaves::text::marker::written_marker;
 
 // What the rules ask of the block before. `kind` is 0 where there is none.
@@ -26,39 +26,33 @@ fn takes_indented_code(kind: u32, a: u32) -> bool
 }
 
 // Rule 1: two lists of one marker would read as one. Rule 15: indented code follows no block that takes its lines.
-pub(crate) fn validate_taken_block(
-    report: &mut [u32],
-    path: &[u32],
-    span: Span,
-    before: Before,
-    kind: u32,
-    a: u32,
-    b: u32,
-    tally: Tally,
-) -> Tally
-    requires { length path.now ≤ most_level }
-    ensures { Lists tally result report.old report.new
-        (validate_taken_block path.now span before kind a b) }
+pub(crate) fn validate_taken_block(report: &mut Report, before: Before, r: Rec)
+    ensures { Adds report.old report.new
+        (validate_taken_block (path_of report.old) r.span before r.kind r.a r.b) }
 {
-    let same = written_marker(before.a, before.b) == written_marker(a, b);
-    let lists = (before.kind == kinds::LIST) & (kind == kinds::LIST) & same;
-    let out = list_if(lists, report, rules::ADJACENT_LISTS, span, path, tally);
-    let indented = (kind == kinds::CODE_BLOCK) & (a == 1);
+    let same = written_marker(before.a, before.b) == written_marker(r.a, r.b);
+    let lists = (before.kind == kinds::LIST) & (r.kind == kinds::LIST) & same;
+    report.list_if(lists, Rule::AdjacentLists, r.span);
+    let indented = (r.kind == kinds::CODE_BLOCK) & (r.a == 1);
     let taken = indented & takes_indented_code(before.kind, before.a);
-    list_if(taken, report, rules::INDENTED_CODE_TAKEN, span, path, out)
+    report.list_if(taken, Rule::IndentedCodeTaken, r.span);
 }
 
 // The block before the next tree. Blank lines do not count, and trees that are not blocks do not either.
-pub(crate) fn before_at(before: Before, kind: u32, a: u32, b: u32) -> Before
-    ensures { result ≡ before_at before kind a b }
+pub(crate) fn before_at(before: Before, r: Rec) -> Before
+    ensures { result ≡ before_at before r.kind r.a r.b }
 {
-    if !kinds::is_block(kind) {
+    if !kinds::is_block(r.kind) {
         return before;
     }
-    if kind == kinds::BLANK_LINE {
+    if r.kind == kinds::BLANK_LINE {
         return before;
     }
-    Before { kind, a, b }
+    Before {
+        kind: r.kind,
+        a: r.a,
+        b: r.b,
+    }
 }
 
 // The next tree's index: one more after a block.

@@ -11,15 +11,14 @@ use crate::walk::validate_document;
 use leaves::refusal::judge;
 use leaves::refusal::verdict::Judged;
 use leaves::report::entries::Tally;
-use leaves::sheet::records::RECORD_WORDS;
 
 // How many words and entries the list has: a walk with an empty report.
-fn measure(sheet: &[u32], text: &[u8], n: usize) -> Tally
-    requires { Sound sheet.now text.now × (n ≡ records_of sheet.now) }
+fn measure(sheet: &[u32], text: &[u8]) -> Tally
+    requires { Sound sheet.now text.now }
     ensures { result ≡ after start (validate_document sheet.now text.now) }
 {
     let mut none = [0u32; 0];
-    validate_document(sheet, text, &mut none, n)
+    validate_document(sheet, text, &mut none)
 }
 
 // Refuses a malformed sheet by number and changes no lent word; or writes the whole list into the report's front.
@@ -32,14 +31,13 @@ pub fn check(sheet: &[u32], text: &[u8], report: &mut [u32]) -> Checked
     if let Judged::Refused(refusal) = judged {
         return Checked::Refused(refusal);
     }
-    let n = sheet.len() / RECORD_WORDS;
-    let need = measure(sheet, text, n);
+    let need = measure(sheet, text);
     if need.entries == 0 {
         return Checked::Listed(0);
     }
     if report.len() < need.words {
         return Checked::ShortReport;
     }
-    let listed = validate_document(sheet, text, report, n);
+    let listed = validate_document(sheet, text, report);
     Checked::Listed(listed.entries)
 }

@@ -1,10 +1,9 @@
 // What an item reports because of the blocks that it holds, before the walk of them.
-ghost use Rattle.std.specs.Prelude.{◌≡◌, ◌+◌, ◌*◌, ◌≤◌, eqb, length, take};
-ghost use Rattle.leaves.specs.Sheet.Records.{record_words};
-ghost use Rattle.leaves.specs.Sheet.Forest.{under, size, count};
-ghost use Rattle.leaves.specs.Refusal.Limits.{most_level};
-ghost use Rattle.leaves.specs.Report.Entries.{Lists};
-ghost use Rattle.inlines.specs.Walk.{Start, Begin};
+ghost use Rattle.std.specs.Prelude.{◌≡◌, ◌+◌, ◌≤◌, eqb};
+ghost use Rattle.leaves.specs.Sheet.Kinds.{blank_line};
+ghost use Rattle.leaves.specs.Sheet.Trees.{trees};
+ghost use Rattle.leaves.specs.Report.Listed.{path_of, Adds};
+ghost use Rattle.blocks.specs.WalkAt.{is_last};
 ghost use Rattle.blocks.specs.Item.{
   opens_with_paragraph,
   validate_blank_line,
@@ -12,122 +11,74 @@ ghost use Rattle.blocks.specs.Item.{
   validate_task_item,
 };
 
-use leaves::report::entries::{Tally, list_if};
-use leaves::report::rules;
-use leaves::sheet::forest::{ends, skip};
+use leaves::report::entries::Report;
+use leaves::report::rules::Rule;
 use leaves::sheet::kinds;
-use leaves::sheet::records::{Span, record_at};
+use leaves::sheet::records::Rec;
+use leaves::sheet::trees::Records;
 
 // Rules 51, 52 and 53 of one block. `last`: it is the last block of the list's last item.
-fn validate_blank_line(
-    report: &mut [u32],
-    path: &[u32],
-    span: Span,
-    blank: bool,
-    tight: bool,
-    first: bool,
-    last: bool,
-    tally: Tally,
-) -> Tally
-    requires { length path.now ≤ most_level }
-    ensures { Lists tally result report.old report.new
-        (validate_blank_line path.now span blank tight first last) }
+fn validate_blank_line(report: &mut Report, r: Rec, tight: bool, first: bool, last: bool)
+    ensures { Adds report.old report.new
+        (validate_blank_line (path_of report.old) r.span (eqb r.kind blank_line) tight first last) }
 {
-    let rule = rules::BLANK_LINE_IN_TIGHT_LIST;
-    let out = list_if(blank & tight, report, rule, span, path, tally);
+    let blank = r.kind == kinds::BLANK_LINE;
+    report.list_if(blank & tight, Rule::BlankLineInTightList, r.span);
     let opens = blank & !tight & first;
-    let out = list_if(opens, report, rules::BLANK_LINE_FIRST, span, path, out);
+    report.list_if(opens, Rule::BlankLineFirst, r.span);
     let closes = blank & !tight & !first & last;
-    list_if(closes, report, rules::BLANK_LINE_LAST, span, path, out)
+    report.list_if(closes, Rule::BlankLineLast, r.span);
 }
 
-// The blank lines of an item of the level `level`, in a list of the level `outer`. A block is the last one of the
-// list's last item where the record behind it, if there is one, is not deeper than `outer`.
+// The blank lines of an item in a list of the level `outer`. A block is the last one of the list's last item where the
+// record behind it, if there is one, is not deeper than `outer`.
 pub(crate) fn validate_item_blank_lines(
-    sheet: &[u32],
-    report: &mut [u32],
-    path: &mut [u32],
-    len: usize,
-    n: usize,
-    from: usize,
-    level: u32,
+    records: &Records,
+    report: &mut Report,
     outer: u32,
     tight: bool,
-    tally: Tally,
-) -> Tally
-    requires { Begin sheet.now path.old n from len level × (outer ≤ level) }
-    ensures { Lists tally result report.old report.new
-        (validate_item_blank_lines (take len path.old) tight
-        (eqb (count (under sheet.now n (from + size (under sheet.now n from level)) outer)) 0) 0
-        (under sheet.now n from level))
-        × (take len path.new ≡ take len path.old) }
+)
+    requires { outer ≤ report.old.level }
+    ensures { Adds report.old report.new
+        (validate_item_blank_lines (path_of report.old) tight
+        (is_last records.now report.old.level outer) 0
+        (trees records.now report.old.level)) }
 {
-    let mut out = tally;
+    let level = report.level;
+    let mut records = *records;
     let mut k: u32 = 0;
-    let mut i = from;
-    while i < n {
-        let r = record_at(sheet, i);
-        if r.level <= level {
-            return out;
-        }
-        let next = skip(sheet, n, i + 1, r.level);
-        let blank = r.kind == kinds::BLANK_LINE;
-        let last = ends(sheet, n, next, outer);
-        path[len] = k;
-        out = validate_blank_line(
-            report,
-            &path[..len + 1],
-            r.span,
-            blank,
-            tight,
-            k == 0,
-            last,
-            out,
-        );
-        k = k + 1;
-        i = next;
+    while let Some(r) = records.next_under(level) {
+        records.skip(r.level);
+        let last = records.end(outer);
+        report.enter(k, r.level);
+        validate_blank_line(report, r, tight, k == 0, last);
+        report.leave(level);
+        k += 1;
     }
-    out
 }
 
 // Whether the first block that is not a definition is a paragraph with a child.
-fn opens_with_paragraph(sheet: &[u32], n: usize, from: usize, level: u32) -> bool
-    requires { (n * record_words ≤ length sheet.now) × (from ≤ n) }
-    ensures { result ≡ opens_with_paragraph (under sheet.now n from level) }
+fn opens_with_paragraph(records: &Records, level: u32) -> bool
+    ensures { result ≡ opens_with_paragraph (trees records.now level) }
 {
-    let mut i = from;
-    while i < n {
-        let r = record_at(sheet, i);
-        if r.level <= level {
-            return false;
-        }
+    let mut records = *records;
+    while let Some(r) = records.next_under(level) {
         if r.kind != kinds::DEFINITION {
-            return (r.kind == kinds::PARAGRAPH) & !ends(sheet, n, i + 1, r.level);
+            return (r.kind == kinds::PARAGRAPH) & !records.end(r.level);
         }
-        i = skip(sheet, n, i + 1, r.level);
+        records.skip(r.level);
     }
     false
 }
 
-// Rule 14, where the item has a checkbox (`checked` is not 0).
-pub(crate) fn validate_task_item(
-    sheet: &[u32],
-    report: &mut [u32],
-    path: &[u32],
-    n: usize,
-    from: usize,
-    level: u32,
-    span: Span,
-    checked: u32,
-    tally: Tally,
-) -> Tally
-    requires { Start sheet.now path.now n from }
-    ensures { Lists tally result report.old report.new
-        (validate_task_item path.now span checked (under sheet.now n from level)) }
+// Rule 14, where the item has a checkbox (A is not 0).
+pub(crate) fn validate_task_item(records: &Records, report: &mut Report, r: Rec)
+    ensures { Adds report.old report.new
+        (validate_task_item (path_of report.old) r.span r.a (trees records.now report.old.level)) }
 {
-    if checked == 0 {
-        return tally;
+    if r.a == 0 {
+        return;
     }
-    let fault = !opens_with_paragraph(sheet, n, from, level);
-    list_if(fault, report, rules::TASK_ITEM, span, path, tally)
+    let fault = !opens_with_paragraph(records, report.level);
+    report.list_if(fault, Rule::TaskItem, r.span);
 }

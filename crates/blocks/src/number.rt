@@ -1,56 +1,30 @@
 // What an item reports because of its number.
-ghost use Rattle.std.specs.Prelude.{◌≡◌, ◌≤◌, length};
-ghost use Rattle.leaves.specs.Refusal.Limits.{most_level};
-ghost use Rattle.leaves.specs.Report.Entries.{Lists};
+ghost use Rattle.std.specs.Prelude.{◌≡◌};
+ghost use Rattle.leaves.specs.Report.Listed.{path_of, Adds};
 ghost use Rattle.blocks.specs.Number.{item_number, validate_item_number};
 
-use leaves::report::entries::{Tally, list_if};
-use leaves::report::rules;
+use leaves::report::entries::Report;
+use leaves::report::rules::Rule;
 use leaves::sheet::records::Span;
 
 const MOST_NUMBER: u32 = 999999999;
 
-// An item's own number.
-#[derive(Clone, Copy)]
-pub(crate) enum Number {
-    Absent,
-    Present(u32),
-}
-
 // The number of an item, from its B and C.
-pub(crate) fn item_number(b: u32, c: u32) -> Number
+pub(crate) fn item_number(b: u32, c: u32) -> Option<u32>
     ensures { result ≡ item_number b c }
 {
-    if b == 1 {
-        return Number::Present(c);
-    }
-    Number::Absent
+    if b == 1 { Some(c) } else { None }
 }
 
 // Rule 49: an item of a bullet list has no number. Rule 50: a number has at most nine digits.
-pub(crate) fn validate_item_number(
-    report: &mut [u32],
-    path: &[u32],
-    span: Span,
-    ordered: u32,
-    number: Number,
-    tally: Tally,
-) -> Tally
-    requires { length path.now ≤ most_level }
-    ensures { Lists tally result report.old report.new
-        (validate_item_number path.now span ordered number) }
+pub(crate) fn validate_item_number(report: &mut Report, span: Span, ordered: u32, number: Option<u32>)
+    ensures { Adds report.old report.new
+        (validate_item_number (path_of report.old) span ordered number) }
 {
-    let Number::Present(value) = number else {
-        return tally;
+    let Some(value) = number else {
+        return;
     };
-    let out = list_if(
-        ordered != 1,
-        report,
-        rules::BULLET_NUMBER,
-        span,
-        path,
-        tally,
-    );
+    report.list_if(ordered != 1, Rule::BulletNumber, span);
     let long = (ordered == 1) & (MOST_NUMBER < value);
-    list_if(long, report, rules::LONG_NUMBER, span, path, out)
+    report.list_if(long, Rule::LongNumber, span);
 }

@@ -9,6 +9,7 @@ pub mod LiteralLaws
 pub mod NodeLaws
 pub mod NodesLaws
 pub mod OwnLaws
+pub mod PathLaws
 pub mod SingleLaws
 pub mod ValueLaws
 pub mod WalkLaws

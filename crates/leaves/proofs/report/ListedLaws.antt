@@ -1,10 +1,12 @@
 -- Laws of the report as the walks write it: listing some entries and then others is listing both.
-use mathlib.Core.Path.{◌≡◌, refl, sym, ap, ◌∙◌}
+use mathlib.Core.Path.{◌≡◌, refl, sym, ap, subst, ◌∙◌}
 use mathlib.Core.Bool.{Bool, true, false, cond}
 use mathlib.Core.List.{List, [], ◌∷◌, ◌++◌}
 use Prim.Native.Nat.{ℕ, ◌+◌, ◌-◌, ◌<◌, ◌≤◌}
 use native.Mathlib.Omega.{arith}
 use lib.ListN.{length, take, length-take}
+use lib.Seq.{take-take, take_all}
+use Rattle.std.proofs.lemmas.List.{take-append-le}
 use borrow.Author.Rules.{rules}
 use Rattle.leaves.specs.declared.sheet.records.Span.{Span}
 use Rattle.leaves.specs.declared.report.entries.Tally.{Tally}
@@ -39,6 +41,38 @@ adds-then a b =
       depth = b.depth ∙ a.depth;
       level = b.level ∙ a.level;
     }
+
+-- the same where what is listed second is said by where the report stands then
+pub adds-from : {x y z : Report} {es : List Entry} (fs : List ℕ → ℕ → List Entry) → Adds x y es → Adds y z (fs (path_of y) y.level) → Adds x z (es ⊕ fs (path_of x) x.level)
+adds-from {x} {y} {z} fs a b =
+    let c : Adds y z (fs (path_of x) y.level) = subst (λ (p : List ℕ). Adds y z (fs p y.level)) a.path b in
+    adds-then a (subst (λ (n : ℕ). Adds y z (fs (path_of x) n)) a.level c)
+
+-- ---- what is listed at a child, between `enter` and `leave`
+module _ {x y : Report} {index level : ℕ} (a : Enters x y index level) where
+  module _ {z : Report} {es : List Entry} (b : Adds y z es) where
+    -- there is a child to leave, and what it was entered from is not deeper
+    pub visit-depth : z.depth ≡ x.depth + 1
+    visit-depth = b.depth ∙ a.depth
+
+    visit-path : take x.depth z.path ≡ path_of x
+    visit-path =
+        let n : length (path_of x) ≡ x.depth = path-length x in
+        let e : take (x.depth + 1) z.path ≡ path_of x ++ index ∷ [] = rw visit-depth at (b.path ∙ a.path) in
+        sym (take-take x.depth (x.depth + 1) z.path (omega arith)) ∙ rw e (take-append-le x.depth (path_of x) (index ∷ []) (omega arith) ∙ take_all x.depth (path_of x) (omega arith))
+
+    pub visit : {o : Report} → Leaves z o x.level → Adds x o es
+    visit {o} c =
+        let d : o.depth ≡ x.depth = omega (arith, visit-depth, c.depth) in
+        let w : o.words ≡ z.words = c.words in
+        let v : y.words ≡ x.words = a.words in
+        record {
+          lists = record { tally = c.tally ∙ rw a.tally at b.lists.tally; written = rw (w, b.lists.written, a.tally, v) };
+          loan = rw (w, b.loan, v);
+          path = rw (d, c.path) visit-path;
+          depth = d;
+          level = c.level;
+        }
 
 -- for a function that lists by several calls
 pub ruleset adding = (adds-none, adds-then, rules)

@@ -12,7 +12,7 @@ use Rattle.leaves.specs.Sheet.Trees.{trees, Moved, Reads, Ends}
 use Rattle.leaves.specs.declared.sheet.records.Rec.{Rec}
 use Rattle.leaves.specs.declared.sheet.trees.Records.{Records}
 use Rattle.leaves.proofs.sheet.ForestLaws.{under-in, under-out, under-end, under-fits, size_step}
-use Rattle.leaves.proofs.sheet.TreeLaws.{ends-end, ends_at}
+use Rattle.leaves.proofs.sheet.SkipLaws.{behind_kids}
 
 -- ---- `next_under`: no record is left, or the next one is not deeper
 module _ (x : Records) (level : ℕ) where
@@ -42,11 +42,21 @@ module _ {y z : Records} {level : ℕ} {r : Rec} (reads : Reads y z level r) whe
   pub reads-deep : level < (record_at y.sheet.now y.next).level
   reads-deep = rw (← reads.is) reads.deep
 
+  pub reads-most : r.level ≤ 64
+  reads-most = rw reads.is (y.shallow y.next reads.inside)
+
   pub reads-level : r.level ≡ (record_at y.sheet.now y.next).level
   reads-level = rw reads.is
 
   pub reads-kids : trees z r.level ≡ under y.sheet.now y.n (y.next + 1) (record_at y.sheet.now y.next).level
   reads-kids = trees-moved r.level reads.moved ∙ rw reads-level
+
+  -- the tree at r, by where the trees behind it begin
+  pub reads-first : trees y level ≡ tree r (trees z r.level) (under y.sheet.now y.n (behind_kids y.sheet.now y.n y.next) level)
+  reads-first =
+      let k = reads-kids in
+      let i = reads.is in
+      rw (k, i) (under-in y.sheet.now y.n y.next level reads.inside reads-deep)
 
   -- one record further
   pub reads-step : size (trees y level) ≡ suc (size (trees z level))

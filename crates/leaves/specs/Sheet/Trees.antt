@@ -23,6 +23,13 @@ pub record Moved (x y : Records) (j : ℕ) : Type 0 where
   pub n : y.n ≡ x.n
   pub next : y.next ≡ j
 
+-- y is x, but the sheet ends before record `end`
+pub record Until (x y : Records) (end : ℕ) : Type 0 where
+  pub sheet : y.sheet ≡ x.sheet
+  pub bytes : y.bytes ≡ x.bytes
+  pub n : y.n ≡ end
+  pub next : y.next ≡ x.next
+
 -- the next record of x is r, which is deeper than a level, and y goes on behind it
 pub record Reads (x y : Records) (level : ℕ) (r : Rec) : Type 0 where
   pub inside : x.next < x.n

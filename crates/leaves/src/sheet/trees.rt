@@ -24,7 +24,7 @@ impl<'a> Records<'a> {
     ghost use Rattle.std.specs.Prelude.{◌≡◌, ◌+◌, eqb, IfSome, IfNone};
     ghost use Rattle.leaves.specs.Sheet.Records.{records_of};
     ghost use Rattle.leaves.specs.Sheet.Forest.{count, size};
-    ghost use Rattle.leaves.specs.Sheet.Trees.{trees, Whole, Moved, Reads, Ends};
+    ghost use Rattle.leaves.specs.Sheet.Trees.{trees, Whole, Until, Moved, Reads, Ends};
     ghost use Rattle.leaves.specs.Refusal.Formed.{Sound};
 
     // All records of an accepted sheet.
@@ -37,6 +37,19 @@ impl<'a> Records<'a> {
             bytes,
             n: sheet.len() / RECORD_WORDS,
             next: 0,
+        }
+    }
+
+    // The same, as if the sheet ended before record `end`.
+    pub fn until(&self, end: usize) -> Self
+        requires { (self.now.next ≤ end) × (end ≤ self.now.n) }
+        ensures { Until self.now result end }
+    {
+        Records {
+            sheet: self.sheet,
+            bytes: self.bytes,
+            n: end,
+            next: self.next,
         }
     }
 

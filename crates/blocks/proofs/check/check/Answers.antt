@@ -7,7 +7,7 @@ pub returns-in-Refused : goal.returns-in-Refused
 returns-in-Refused c = check-refused _ _ c.accept-judged.ensures _ c.in-Refused.is
 
 pub measure-need-requires : goal.measure-need-requires
-measure-need-requires c = (check_sound _ _ c.accept-judged.ensures c.in_default.is, search rules)
+measure-need-requires c = check_sound _ _ c.accept-judged.ensures c.in_default.is
 
 pub returns-then-need-eq0 : goal.returns-then-need-eq0
 returns-then-need-eq0 c = check-none _ _ _ (accepts _ _ c.accept-judged.ensures c.in_default.is) (search rules) c.measure-need.ensures c.if-need-eq0.true
@@ -16,7 +16,7 @@ pub returns-then-report-need : goal.returns-then-report-need
 returns-then-report-need c = check-short _ _ _ (accepts _ _ c.accept-judged.ensures c.in_default.is) (search rules) c.measure-need.ensures c.if-report-need.true
 
 pub validate_document-listed-requires : goal.validate_document-listed-requires
-validate_document-listed-requires c = (check_sound _ _ c.accept-judged.ensures c.in_default.is, search rules)
+validate_document-listed-requires c = check_sound _ _ c.accept-judged.ensures c.in_default.is
 
 pub returns : goal.returns
 returns c = check-listed _ _ _ (accepts _ _ c.accept-judged.ensures c.in_default.is) (search rules) c.measure-need.ensures c.if-report-need.false c.validate_document-listed.ensures

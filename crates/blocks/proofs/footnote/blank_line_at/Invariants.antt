@@ -1,13 +1,15 @@
 -- `blocks::footnote::blank_line_at` meets its contract.
 use Prim.Native.Nat.{◌-◌}
-use lib.ListN.{take}
-use Rattle.leaves.specs.Sheet.Forest.{under}
-use Rattle.blocks.specs.Footnote.{blank_line_at}
+use Rattle.leaves.specs.Sheet.Trees.{trees}
+use Rattle.leaves.specs.Report.Listed.{path_of}
 use Rattle.inlines.proofs.PathLaws.{Paced}
+use Rattle.blocks.specs.Footnote.{blank_line_at}
 use Rattle.blocks.proofs.footnote.blank_line_at.Given as goal
 
-abbrev pub invariant-loop-i : goal.invariant-loop-i
-invariant-loop-i l = Paced (blank_line_at (take l.len l.initial.path) 0 (under l.sheet l.n l.«from» l.level)) (blank_line_at (take l.len l.initial.path) l.k) l.sheet l.initial.path l.n l.«from» l.len l.level l.tally l.initial.report l.i l.k l.tally l.report l.path
+abbrev pub invariant-loop-r : goal.invariant-loop-r
+invariant-loop-r l =
+    let p = l.initial.report in
+    Paced (blank_line_at (path_of p) 0 (trees l.initial.records p.level)) (blank_line_at (path_of p) l.k) l.initial.records l.records p l.report l.k
 
-abbrev pub decreases-loop-i : goal.decreases-loop-i
-decreases-loop-i l = l.n - l.i
+abbrev pub decreases-loop-r : goal.decreases-loop-r
+decreases-loop-r l = l.records.n - l.records.next

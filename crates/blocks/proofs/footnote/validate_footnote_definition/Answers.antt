@@ -3,4 +3,4 @@ use Rattle.blocks.proofs.FootnoteLaws.{footnote-law}
 use Rattle.blocks.proofs.footnote.validate_footnote_definition.Goals as goal
 
 pub returns : goal.returns
-returns c = (footnote-law _ _ _ _ c.is_empty.ensures c.list_if-out.ensures c.blank_line_at.ensures.0, c.blank_line_at.ensures.1)
+returns c = footnote-law _ _ c.args.records.now c.is_empty.ensures c.list_if.ensures c.blank_line_at.ensures

@@ -3,4 +3,4 @@ use Rattle.blocks.proofs.HeadLaws.{definition-law}
 use Rattle.blocks.proofs.heads.validate_definition.Goals as goal
 
 pub returns : goal.returns
-returns c = definition-law _ _ _ _ _ _ c.text_of.ensures c.is_blank_identifier-blank.ensures c.list_if-out.ensures c.validate_destination.ensures
+returns c = definition-law _ _ _ _ _ c.text_of.ensures c.is_blank_identifier-blank.ensures c.list_if.ensures c.validate_destination.ensures

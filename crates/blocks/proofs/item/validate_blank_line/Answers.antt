@@ -3,4 +3,4 @@ use Rattle.blocks.proofs.ItemLaws.{blank-law}
 use Rattle.blocks.proofs.item.validate_blank_line.Goals as goal
 
 pub returns : goal.returns
-returns c = blank-law _ _ _ _ _ _ c.list_if-out.ensures c.list_if-out-2.ensures c.list_if.ensures
+returns c = blank-law _ _ _ _ _ c.list_if.ensures c.list_if-2.ensures c.list_if-3.ensures

@@ -1,19 +1,20 @@
 -- `blocks::item::validate_item_blank_lines` meets its contract.
+use Rattle.inlines.proofs.WalkLaws.{loop-end}
+use Rattle.inlines.proofs.PathLaws.{paced-start, paced-enter, paced-leave}
 use Rattle.blocks.proofs.ItemLaws.{lines_none, lines-turn}
-use Rattle.leaves.proofs.sheet.SkipLaws.{level-of, skip-fits}
-use Rattle.inlines.proofs.WalkLaws.{loop-out, loop-end}
-use Rattle.inlines.proofs.PathLaws.{paced-room}
-use borrow.Author.Rules.{rules}
 use Rattle.blocks.proofs.item.validate_item_blank_lines.Goals as goal
 
-pub returns-then-r-level : goal.returns-then-r-level
-returns-then-r-level c = ((loop-out c.loop-i.invariant.loop (lines_none _ _ _ _) (search rules) c.record_at-r.ensures c.if-r-level.true).lists, c.loop-i.invariant.path)
+pub loop-r-init : goal.loop-r-init
+loop-r-init c = paced-start _
 
-pub ends-last-requires : goal.ends-last-requires
-ends-last-requires c = let f = skip-fits _ _ _ _ (search rules) c.skip-next.ensures in search rules
+pub enter-requires : goal.enter-requires
+enter-requires c = paced-enter c.loop-r.invariant c.in-Some.ensures.some
 
-pub loop-i-preserved : goal.loop-i-preserved
-loop-i-preserved c = lines-turn _ c.loop-i.invariant c.requires.1 (search rules) c.record_at-r.ensures c.if-r-level.false c.skip-next.ensures c.ends-last.ensures (paced-room c.loop-i.invariant (search rules) (level-of _ _ c.record_at-r.ensures) c.if-r-level.false) c.validate_blank_line-out.ensures (search rules)
+pub leave-requires : goal.leave-requires
+leave-requires c = paced-leave c.loop-r.invariant c.enter.ensures c.validate_blank_line.ensures
+
+pub loop-r-preserved : goal.loop-r-preserved
+loop-r-preserved c = lines-turn _ c.loop-r.invariant c.requires c.in-Some.ensures.some c.skip.ensures c.end-last.ensures c.enter.ensures c.validate_blank_line.ensures c.leave.ensures
 
 pub returns : goal.returns
-returns c = ((loop-end c.loop-i.invariant.loop (lines_none _ _ _ _) (search rules)).lists, c.loop-i.invariant.path)
+returns c = (loop-end c.loop-r.invariant.loop (lines_none _ _ _ _) c.in_default.ensures.none).adds

@@ -5,5 +5,5 @@ use Rattle.blocks.proofs.number.item_number.Goals as goal
 pub returns-then-b-eq1 : goal.returns-then-b-eq1
 returns-then-b-eq1 c = number-some _ _ c.if-b-eq1.true
 
-pub returns : goal.returns
-returns c = number-none _ _ c.if-b-eq1.false
+pub returns-else-b-eq1 : goal.returns-else-b-eq1
+returns-else-b-eq1 c = number-none _ _ c.if-b-eq1.false

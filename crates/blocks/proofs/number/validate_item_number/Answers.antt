@@ -6,4 +6,4 @@ pub returns-in_default : goal.returns-in_default
 returns-in_default c = number-absent _ _ _ c.in_default.is
 
 pub returns : goal.returns
-returns c = number-present _ _ _ c.in-Present.is c.list_if-out.ensures c.list_if.ensures
+returns c = number-present _ _ c.in-Some.is c.list_if.ensures c.list_if-2.ensures

@@ -1,14 +1,20 @@
 -- `blocks::table::validate_cells` meets its contract.
-use Rattle.inlines.proofs.PathLaws.{paced-out, paced-end}
+use Rattle.inlines.proofs.WalkLaws.{loop-end}
+use Rattle.inlines.proofs.PathLaws.{paced-start, paced-enter, paced-leave}
 use Rattle.blocks.proofs.TableLaws.{cells-none, cells-turn}
-use borrow.Author.Rules.{rules}
 use Rattle.blocks.proofs.table.validate_cells.Goals as goal
 
-pub returns-then-deep-level : goal.returns-then-deep-level
-returns-then-deep-level c = paced-out c.loop-i.invariant (cells-none _ _ _) (search rules) c.level_at-deep.ensures c.if-deep-level.true
+pub loop-cell-init : goal.loop-cell-init
+loop-cell-init c = paced-start _
 
-pub loop-i-preserved : goal.loop-i-preserved
-loop-i-preserved c = cells-turn _ c.loop-i.invariant (search rules) c.level_at-deep.ensures c.if-deep-level.false c.validate_cell-w.ensures (search rules)
+pub enter-requires : goal.enter-requires
+enter-requires c = paced-enter c.loop-cell.invariant c.in-Some.ensures.some
+
+pub leave-requires : goal.leave-requires
+leave-requires c = paced-leave c.loop-cell.invariant c.enter.ensures c.validate_cell.ensures.adds
+
+pub loop-cell-preserved : goal.loop-cell-preserved
+loop-cell-preserved c = cells-turn c.in-Some.ensures.some c.enter.ensures c.leave.ensures c.loop-cell.invariant c.validate_cell.ensures
 
 pub returns : goal.returns
-returns c = paced-end c.loop-i.invariant (cells-none _ _ _) (search rules)
+returns c = loop-end c.loop-cell.invariant.loop (cells-none _ _ _) c.in_default.ensures.none

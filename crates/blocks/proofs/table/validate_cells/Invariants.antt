@@ -1,13 +1,16 @@
 -- `blocks::table::validate_cells` meets its contract.
 use Prim.Native.Nat.{◌-◌}
-use lib.ListN.{take}
-use Rattle.leaves.specs.Sheet.Forest.{under}
+use Rattle.leaves.specs.Sheet.Trees.{trees}
+use Rattle.leaves.specs.Report.Listed.{path_of}
 use Rattle.inlines.proofs.PathLaws.{Paced}
 use Rattle.blocks.specs.Table.{validate_cells}
 use Rattle.blocks.proofs.table.validate_cells.Given as goal
 
-abbrev pub invariant-loop-i : goal.invariant-loop-i
-invariant-loop-i l = Paced (validate_cells l.bytes (take l.len l.initial.path) 0 (under l.sheet l.n l.«from» l.level)) (validate_cells l.bytes (take l.len l.initial.path) l.k) l.sheet l.initial.path l.n l.«from» l.len l.level l.initial.out l.initial.report l.i l.k l.out l.report l.path
+abbrev pub invariant-loop-cell : goal.invariant-loop-cell
+invariant-loop-cell l =
+    let p = l.initial.report in
+    let bytes = l.initial.records.bytes.now in
+    Paced (validate_cells bytes (path_of p) 0 (trees l.initial.records p.level)) (validate_cells bytes (path_of p) l.k) l.initial.records l.records p l.report l.k
 
-abbrev pub decreases-loop-i : goal.decreases-loop-i
-decreases-loop-i l = l.n - l.i
+abbrev pub decreases-loop-cell : goal.decreases-loop-cell
+decreases-loop-cell l = l.records.n - l.records.next

@@ -1,15 +1,21 @@
 -- `blocks::table::validate_rows` meets its contract.
-use Rattle.leaves.proofs.sheet.SkipLaws.{level-of}
-use Rattle.inlines.proofs.PathLaws.{paced-out, paced-end}
+use Rattle.leaves.proofs.report.ListedLaws.{adds-then}
+use Rattle.inlines.proofs.WalkLaws.{loop-end}
+use Rattle.inlines.proofs.PathLaws.{paced-start, paced-enter, paced-leave}
 use Rattle.blocks.proofs.TableLaws.{rows_none, rows-turn}
-use borrow.Author.Rules.{rules}
 use Rattle.blocks.proofs.table.validate_rows.Goals as goal
 
-pub returns-then-r-level : goal.returns-then-r-level
-returns-then-r-level c = paced-out c.loop-i.invariant (rows_none _ _ _ _) (search rules) (level-of _ _ c.record_at-r.ensures) c.if-r-level.true
+pub loop-row-init : goal.loop-row-init
+loop-row-init c = paced-start _
 
-pub loop-i-preserved : goal.loop-i-preserved
-loop-i-preserved c = rows-turn _ _ c.loop-i.invariant (search rules) c.record_at-r.ensures c.if-r-level.false c.count.ensures c.list_if-out.ensures c.validate_cells-w.ensures.0 c.validate_cells-w.ensures.1 (search rules) (search rules)
+pub enter-requires : goal.enter-requires
+enter-requires c = paced-enter c.loop-row.invariant c.in-Some.ensures.some
+
+pub leave-requires : goal.leave-requires
+leave-requires c = paced-leave c.loop-row.invariant c.enter.ensures (adds-then c.list_if.ensures c.validate_cells.ensures.adds)
+
+pub loop-row-preserved : goal.loop-row-preserved
+loop-row-preserved c = rows-turn c.in-Some.ensures.some c.enter.ensures c.leave.ensures _ c.loop-row.invariant c.count.ensures c.list_if.ensures c.validate_cells.ensures
 
 pub returns : goal.returns
-returns c = paced-end c.loop-i.invariant (rows_none _ _ _ _) (search rules)
+returns c = loop-end c.loop-row.invariant.loop (rows_none _ _ _ _) c.in_default.ensures.none

@@ -1,32 +1,40 @@
--- The cycle of calls of the block walk: blocks hold items, items hold blocks, and levels left fall at each call.
+-- The cycle of calls of the block walk: loops from block to block and from item to item, and the walk of each one.
 use Prim.Native.Nat.{◌+◌, ◌-◌, ◌*◌}
-use lib.ListN.{take}
-use Rattle.leaves.specs.Sheet.Forest.{under}
+use Rattle.leaves.specs.Refusal.Limits.{most_level}
+use Rattle.leaves.specs.Sheet.Trees.{trees}
+use Rattle.leaves.specs.Report.Listed.{path_of}
 use Rattle.inlines.proofs.PathLaws.{Paced}
 use Rattle.blocks.specs.Walk.{validate_blocks, validate_list_items}
 use Rattle.blocks.proofs.walk.+walk.Given as goal
 
--- the levels left fall from a loop to the records in it, and a record stands just above the loops over its children
-abbrev pub decreases-validate_block : goal.decreases-validate_block
-decreases-validate_block l = 2 * l.left + 1
-
+-- the levels left fall from a loop to the records in it, and a record stands just above the loop over its children
 abbrev pub decreases-validate_blocks : goal.decreases-validate_blocks
-decreases-validate_blocks l = 2 * l.left
+decreases-validate_blocks l = 2 * (most_level - l.report.now.level)
 
-abbrev pub decreases-validate_item : goal.decreases-validate_item
-decreases-validate_item l = 2 * l.left + 1
+abbrev pub decreases-validate_block : goal.decreases-validate_block
+decreases-validate_block l = 2 * (most_level - l.report.now.level) + 1
 
 abbrev pub decreases-validate_list_items : goal.decreases-validate_list_items
-decreases-validate_list_items l = 2 * l.left
+decreases-validate_list_items l = 2 * (most_level - l.report.now.level)
 
-abbrev pub invariant-validate_blocks-loop-i : goal.invariant-validate_blocks-loop-i
-invariant-validate_blocks-loop-i l = Paced (validate_blocks l.bytes (take l.len l.initial.path) 0 l.initial.before (under l.sheet l.n l.«from» l.level)) (validate_blocks l.bytes (take l.len l.initial.path) l.k l.before) l.sheet l.initial.path l.n l.«from» l.len l.level l.initial.out l.initial.report l.i l.k l.out l.report l.path
+abbrev pub decreases-validate_item : goal.decreases-validate_item
+decreases-validate_item l = 2 * (most_level - l.report.now.level) + 1
 
-abbrev pub decreases-validate_blocks-loop-i : goal.decreases-validate_blocks-loop-i
-decreases-validate_blocks-loop-i l = l.n - l.i
+-- the loops: what holds at their heads, and what falls
+abbrev pub invariant-validate_blocks-loop-r : goal.invariant-validate_blocks-loop-r
+invariant-validate_blocks-loop-r l =
+    let p = l.initial.report in
+    let bytes = l.initial.records.bytes.now in
+    Paced (validate_blocks bytes (path_of p) 0 l.initial.before (trees l.initial.records p.level)) (validate_blocks bytes (path_of p) l.k l.before) l.initial.records l.records p l.report l.k
 
-abbrev pub invariant-validate_list_items-loop-i : goal.invariant-validate_list_items-loop-i
-invariant-validate_list_items-loop-i l = Paced (validate_list_items l.bytes (take l.len l.initial.path) 0 l.ordered l.tight (under l.sheet l.n l.«from» l.level)) (validate_list_items l.bytes (take l.len l.initial.path) l.k l.ordered l.tight) l.sheet l.initial.path l.n l.«from» l.len l.level l.initial.out l.initial.report l.i l.k l.out l.report l.path
+abbrev pub decreases-validate_blocks-loop-r : goal.decreases-validate_blocks-loop-r
+decreases-validate_blocks-loop-r l = l.records.n - l.records.next
 
-abbrev pub decreases-validate_list_items-loop-i : goal.decreases-validate_list_items-loop-i
-decreases-validate_list_items-loop-i l = l.n - l.i
+abbrev pub invariant-validate_list_items-loop-r : goal.invariant-validate_list_items-loop-r
+invariant-validate_list_items-loop-r l =
+    let p = l.initial.report in
+    let bytes = l.initial.records.bytes.now in
+    Paced (validate_list_items bytes (path_of p) 0 l.«list».a l.«list».c (trees l.initial.records p.level)) (validate_list_items bytes (path_of p) l.k l.«list».a l.«list».c) l.initial.records l.records p l.report l.k
+
+abbrev pub decreases-validate_list_items-loop-r : goal.decreases-validate_list_items-loop-r
+decreases-validate_list_items-loop-r l = l.records.n - l.records.next
