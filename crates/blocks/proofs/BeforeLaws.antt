@@ -1,7 +1,6 @@
 -- What the functions of `before` answer and list, by what their calls answered.
 use mathlib.Core.Path.{◌≡◌}
 use mathlib.Core.Bool.{Bool, true, false, not, ◌&&◌}
-use mathlib.Core.List.{List}
 use Prim.Native.Nat.{ℕ, ◌+◌}
 use borrow.Author.Tests.{not-true, not-false, eq-eqb, ne_eqb}
 use lib.Dec.{eqb}
@@ -12,9 +11,9 @@ use Rattle.blocks.specs.Before.{before_at, before_next, index_at, takes_indented
 use Rattle.leaves.specs.Text.Marker.{written_marker}
 use Rattle.blocks.specs.declared.before.Before.{Before}
 use Rattle.leaves.specs.Report.Entries.{list_if}
-use Rattle.leaves.specs.Report.Listed.{path_of, Adds, Enters, Leaves}
+use Rattle.leaves.specs.Report.Listed.{path_of, Adds}
 use Rattle.leaves.specs.declared.report.entries.Report.{Report}
-use Rattle.leaves.proofs.report.ListedLaws.{adds-none, adds-then}
+use Rattle.leaves.proofs.report.ListedLaws.{adds-then}
 
 pub taken-law : (span : Span) {x y z : Report} (before : Before) (kind a b : ℕ) {m n : ℕ} {q : Bool} → m ≡ written_marker before.a before.b → n ≡ written_marker a b → q ≡ takes_indented_code before.kind before.a → Adds x y (list_if (eqb before.kind list && eqb kind list && eqb m n) Rules.adjacent_lists span (path_of x)) → Adds y z (list_if (eqb kind code_block && eqb a 1 && q) Rules.indented_code_taken span (path_of y)) → Adds x z (validate_taken_block (path_of x) span before kind a b)
 unfolding validate_taken_block

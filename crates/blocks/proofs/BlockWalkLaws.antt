@@ -1,9 +1,9 @@
 -- The walk from block to block: one law for each way through its functions.
-use mathlib.Core.Path.{◌≡◌, refl, sym, ap, subst, ◌∙◌}
+use mathlib.Core.Path.{◌≡◌, refl, sym, subst}
 use Rattle.std.specs.Prelude.{Option}
 use mathlib.Core.Bool.{Bool, true, false, not}
 use mathlib.Core.List.{List, [], ◌∷◌, ◌++◌}
-use Prim.Native.Nat.{ℕ, ◌+◌, ◌<◌, ◌≤◌}
+use Prim.Native.Nat.{ℕ, ◌+◌, ◌≤◌}
 use native.Mathlib.Omega.{arith}
 use native.Mathlib.Numerals.{add-one}
 use borrow.Author.Tests.{not-true, not-false, eq-eqb, ne_eqb}
@@ -18,8 +18,8 @@ use Rattle.leaves.specs.Report.Entries.{Entry, ◌⊕◌}
 use Rattle.leaves.specs.Report.Listed.{path_of, Adds, Enters, Leaves}
 use Rattle.leaves.specs.declared.report.entries.Report.{Report}
 use Rattle.leaves.proofs.report.EntryLaws.{join-assoc, join-none, none-join}
-use Rattle.leaves.proofs.report.ListedLaws.{adds-none, adds-then, adds-from}
-use Rattle.leaves.proofs.sheet.TreesLaws.{passing-tree, reads-tree, behind-next, trees-moved, moved-then}
+use Rattle.leaves.proofs.report.ListedLaws.{adds-none, adds-from}
+use Rattle.leaves.proofs.sheet.TreesLaws.{passing-tree, reads-tree, behind-next, trees-moved}
 use Rattle.inlines.specs.Walk.{Done}
 use Rattle.inlines.proofs.WalkLaws.{loop-bytes}
 use Rattle.inlines.proofs.PathLaws.{Paced, paced-path, paced-visit, paced-turn}

@@ -1,7 +1,7 @@
 -- A footnote definition: one law for each way through a function of `footnote`.
 use mathlib.Core.Bool.{Bool, true, false, ◌&&◌, ◌||◌}
 use mathlib.Core.List.{List, [], ◌∷◌, ◌++◌}
-use Prim.Native.Nat.{ℕ, suc, ◌+◌, ◌<◌, ◌≤◌}
+use Prim.Native.Nat.{ℕ, ◌+◌}
 use native.Mathlib.Omega.{arith}
 use native.Mathlib.Numerals.{add-one}
 use lib.Dec.{eqb}
@@ -12,18 +12,16 @@ use Rattle.leaves.specs.declared.sheet.records.Text.{Text}
 use Rattle.leaves.specs.Report.Rules
 use Rattle.leaves.specs.Sheet.Empty.{is_empty}
 use Rattle.blocks.specs.Footnote.{blank_line_at, validate_footnote_definition}
-use mathlib.Core.Path.{◌≡◌, refl, sym, ap, ◌∙◌}
-use Rattle.leaves.specs.Sheet.Forest.{Forest, none, tree, under, count, size}
-use Rattle.leaves.specs.Sheet.Trees.{trees, Until, Moved, Reads, Ends}
+use mathlib.Core.Path.{◌≡◌, refl}
+use Rattle.leaves.specs.Sheet.Forest.{Forest, none, tree, count, size}
+use Rattle.leaves.specs.Sheet.Trees.{trees, Moved, Reads}
 use Rattle.leaves.specs.Report.Entries.{Entry, list_if, ◌⊕◌}
 use Rattle.leaves.specs.Report.Listed.{path_of, Adds, Enters, Leaves}
 use Rattle.leaves.specs.declared.sheet.trees.Records.{Records}
 use Rattle.leaves.specs.declared.report.entries.Report.{Report}
-use Rattle.leaves.proofs.report.EntryLaws.{join-assoc, join-none, none-join}
+use Rattle.leaves.proofs.report.EntryLaws.{none-join}
 use Rattle.leaves.proofs.report.ListedLaws.{adds-none, adds-from}
-use Rattle.leaves.proofs.sheet.TreesLaws.{Passing, passing-tree, reads-tree, reads-first, behind-next, behind-moved, trees-moved}
-use Rattle.inlines.specs.Walk.{Done}
-use Rattle.inlines.proofs.WalkLaws.{loop-path, loop-bytes}
+use Rattle.leaves.proofs.sheet.TreesLaws.{passing-tree, reads-tree, behind-next}
 use Rattle.inlines.proofs.PathLaws.{Paced, paced-path, paced-visit, paced-turn, paced-last}
 
 pub blank_none : (path : List ℕ) (k : ℕ) → blank_line_at path k none ≡ []

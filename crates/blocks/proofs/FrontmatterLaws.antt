@@ -12,9 +12,9 @@ use Rattle.leaves.specs.declared.sheet.records.Text.{Text}
 use Rattle.leaves.specs.Report.Rules
 use Rattle.blocks.specs.Frontmatter.{frontmatter_kind, validate_frontmatter}
 use Rattle.leaves.specs.Report.Entries.{list_if}
-use Rattle.leaves.specs.Report.Listed.{path_of, Adds, Enters, Leaves}
+use Rattle.leaves.specs.Report.Listed.{path_of, Adds}
 use Rattle.leaves.specs.declared.report.entries.Report.{Report}
-use Rattle.leaves.proofs.report.ListedLaws.{adds-none, adds-then}
+use Rattle.leaves.proofs.report.ListedLaws.{adds-then}
 
 pub frontmatter-law : (span : Span) {x y z : Report} (bytes : List ℕ) (level a : ℕ) (value : Text) {n : List ℕ} {k : FrontmatterKind} {q : Bool} → n ≡ text_of bytes value → k ≡ frontmatter_kind a → q ≡ holds_fence_line k n → Adds x y (list_if (ltb 1 level) Rules.frontmatter_inside span (path_of x)) → Adds y z (list_if q Rules.fence_in_frontmatter span (path_of y)) → Adds x z (validate_frontmatter bytes (path_of x) span level a value)
 unfolding validate_frontmatter

@@ -15,9 +15,9 @@ use Rattle.inlines.specs.Single.{validate_destination}
 use Rattle.leaves.specs.Sheet.Empty.{is_empty}
 use Rattle.blocks.specs.Heads.{validate_alert, validate_code_block, validate_definition, validate_heading}
 use Rattle.leaves.specs.Report.Entries.{list_if}
-use Rattle.leaves.specs.Report.Listed.{path_of, Adds, Enters, Leaves}
+use Rattle.leaves.specs.Report.Listed.{path_of, Adds}
 use Rattle.leaves.specs.declared.report.entries.Report.{Report}
-use Rattle.leaves.proofs.report.ListedLaws.{adds-none, adds-then}
+use Rattle.leaves.proofs.report.ListedLaws.{adds-then}
 
 module _ (span : Span) {x y : Report} where
   pub heading-law : (path : List ℕ) (depth : ℕ) → Adds x y (list_if (eqb depth 0 || ltb 6 depth) Rules.heading_depth span path) → Adds x y (validate_heading path span depth)

@@ -10,14 +10,14 @@ use Rattle.leaves.specs.declared.sheet.records.Span.{Span}
 use Rattle.leaves.specs.Report.Rules
 use Rattle.leaves.specs.Sheet.Empty.{is_empty}
 use Rattle.blocks.specs.Html.{validate_tags, validate_html_container}
-use Rattle.leaves.specs.Sheet.Forest.{Forest, none, tree, under, count, size}
-use Rattle.leaves.specs.Sheet.Trees.{trees, Until, Moved, Reads, Ends}
-use Rattle.leaves.specs.Report.Entries.{Entry, list_if, ◌⊕◌}
-use Rattle.leaves.specs.Report.Listed.{path_of, Adds, Enters, Leaves}
+use Rattle.leaves.specs.Sheet.Forest.{size}
+use Rattle.leaves.specs.Sheet.Trees.{trees, Moved, Reads, Ends}
+use Rattle.leaves.specs.Report.Entries.{list_if}
+use Rattle.leaves.specs.Report.Listed.{path_of, Adds}
 use Rattle.leaves.specs.declared.sheet.trees.Records.{Records}
 use Rattle.leaves.specs.declared.report.entries.Report.{Report}
 use Rattle.leaves.proofs.report.ListedLaws.{adds-none, adds-then}
-use Rattle.leaves.proofs.sheet.TreesLaws.{Passing, passing-tree, reads-tree, reads-first, behind-next, behind-moved, trees-moved}
+use Rattle.leaves.proofs.sheet.TreesLaws.{reads-tree, reads-first}
 
 pub tags-law : (bytes : List ℕ) (span : Span) (opening closing : Rec) {m n : List ℕ} {a b q c d : Bool} {x y z f g h : Report} → a ≡ is_empty opening.first → Adds x y (list_if a Rules.empty_opening_name opening.span (path_of x)) → b ≡ is_empty closing.first → Adds y z (list_if b Rules.empty_closing_name closing.span (path_of y)) → m ≡ text_of bytes opening.first → n ≡ text_of bytes closing.first → q ≡ same_bytes m n → Adds z f (list_if (not q) Rules.tag_names_differ span (path_of z)) → c ≡ is_empty opening.second → Adds f g (list_if c Rules.empty_opening_source opening.span (path_of f)) → d ≡ is_empty closing.second → Adds g h (list_if d Rules.empty_closing_source closing.span (path_of g)) → Adds x h (validate_tags bytes (path_of x) span opening closing)
 unfolding validate_tags

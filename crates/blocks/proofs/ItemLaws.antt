@@ -1,7 +1,7 @@
 -- What an item reports, before its blocks: one law for each way through a function of `item`.
 use mathlib.Core.Bool.{Bool, true, false, not, ◌&&◌, and-true, and-false}
 use mathlib.Core.List.{List, [], ◌∷◌, ◌++◌}
-use Prim.Native.Nat.{ℕ, suc, ◌+◌, ◌<◌, ◌≤◌}
+use Prim.Native.Nat.{ℕ, ◌+◌, ◌<◌, ◌≤◌}
 use native.Mathlib.Omega.{arith}
 use native.Mathlib.Numerals.{add-one}
 use borrow.Author.Tests.{ltb-true, ltb-false, eq-eqb, ne_eqb}
@@ -11,26 +11,22 @@ use Rattle.leaves.specs.declared.sheet.records.Rec.{Rec}
 use Rattle.leaves.specs.declared.sheet.records.Span.{Span}
 use Rattle.leaves.specs.Report.Rules
 use Rattle.blocks.specs.Item.{opens_with_paragraph, validate_blank_line, validate_item_blank_lines, validate_task_item}
-use Prim.Native.Nat.{◌-◌}
 use Rattle.leaves.specs.Sheet.Records.{record_at}
 use Rattle.leaves.proofs.sheet.TreeLaws.{count-end, count-in, count-out, suc-some}
-use Rattle.leaves.proofs.sheet.SkipLaws.{behind_kids}
+use Rattle.leaves.proofs.sheet.ForestLaws.{behind_kids}
 use Rattle.leaves.proofs.sheet.ForestLaws.{size-end, size-out}
-use Rattle.leaves.proofs.sheet.DecideLaws.{Deciding, deciding-end, deciding-found, deciding-turn}
+use Rattle.leaves.proofs.sheet.DecideLaws.{Deciding, deciding-end, deciding-turn}
 use Rattle.blocks.specs.WalkAt.{is_last}
-use mathlib.Core.Path.{◌≡◌, refl, sym, ap, ◌∙◌}
+use mathlib.Core.Path.{◌≡◌, refl, sym, ◌∙◌}
 use Rattle.leaves.specs.Sheet.Forest.{Forest, none, tree, under, count, size}
-use Rattle.leaves.specs.Sheet.Trees.{trees, Until, Moved, Reads, Ends}
+use Rattle.leaves.specs.Sheet.Trees.{trees, Moved, Reads, Ends}
 use Rattle.leaves.specs.Report.Entries.{Entry, list_if, ◌⊕◌}
 use Rattle.leaves.specs.Report.Listed.{path_of, Adds, Enters, Leaves}
 use Rattle.leaves.specs.declared.sheet.trees.Records.{Records}
 use Rattle.leaves.specs.declared.report.entries.Report.{Report}
-use Rattle.leaves.proofs.report.EntryLaws.{join-assoc, join-none, none-join}
 use Rattle.leaves.proofs.report.ListedLaws.{adds-none, adds-then}
-use Rattle.leaves.proofs.sheet.TreesLaws.{Passing, passing-tree, reads-tree, reads-first, behind-next, behind-moved, trees-moved}
-use Rattle.inlines.specs.Walk.{Done}
-use Rattle.inlines.proofs.WalkLaws.{loop-path, loop-bytes}
-use Rattle.inlines.proofs.PathLaws.{Paced, paced-path, paced-visit, paced-turn, paced-last}
+use Rattle.leaves.proofs.sheet.TreesLaws.{Passing, passing-tree, reads-tree, reads-first, behind-next, trees-moved}
+use Rattle.inlines.proofs.PathLaws.{Paced, paced-path, paced-visit, paced-turn}
 
 -- ---- its blank lines
 pub blank-law : (span : Span) (blank tight first last : Bool) {x y z o : Report} → Adds x y (list_if (blank && tight) Rules.blank_line_in_tight_list span (path_of x)) → Adds y z (list_if (blank && not tight && first) Rules.blank_line_first span (path_of y)) → Adds z o (list_if (blank && not tight && not first && last) Rules.blank_line_last span (path_of z)) → Adds x o (validate_blank_line (path_of x) span blank tight first last)

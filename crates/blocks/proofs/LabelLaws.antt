@@ -14,21 +14,18 @@ use Rattle.leaves.proofs.sheet.ForestLaws.{under-in, under-out, under-end, under
 use Rattle.inlines.specs.Single.{validate_directive_name}
 use Rattle.inlines.specs.Attribute.{validate_directive_attributes}
 use Rattle.inlines.specs.Depth.{validate_one_line}
-use Rattle.leaves.proofs.sheet.SkipLaws.{behind_kids}
+use Rattle.leaves.proofs.sheet.ForestLaws.{behind_kids}
 use Rattle.inlines.specs.Nodes.{validate_inlines}
 use Rattle.blocks.specs.Label.{before_blocks, validate_directive}
 use mathlib.Core.Path.{◌≡◌, refl, sym, ap, ◌∙◌}
-use Rattle.leaves.specs.Sheet.Forest.{Forest, none, tree, under, count, size}
+use Rattle.leaves.specs.Sheet.Forest.{Forest, none, tree, under, size}
 use Rattle.leaves.specs.Sheet.Trees.{trees, Until, Moved, Reads, Ends}
-use Rattle.leaves.specs.Report.Entries.{Entry, list_if, ◌⊕◌}
-use Rattle.leaves.specs.Report.Listed.{path_of, Adds, Enters, Leaves}
+use Rattle.leaves.specs.Report.Listed.{path_of, Adds}
 use Rattle.leaves.specs.declared.sheet.trees.Records.{Records}
 use Rattle.leaves.specs.declared.report.entries.Report.{Report}
-use Rattle.leaves.proofs.report.EntryLaws.{join-assoc, join-none, none-join}
-use Rattle.leaves.proofs.report.ListedLaws.{adds-none, adds-then, adds-from}
-use Rattle.leaves.proofs.sheet.TreesLaws.{moved-not, moved-then, reads-tree, reads-first, behind-next, behind-moved, trees-moved}
+use Rattle.leaves.proofs.report.ListedLaws.{adds-then}
+use Rattle.leaves.proofs.sheet.TreesLaws.{moved-not, moved-then, reads-tree, reads-first, behind-next, behind-moved}
 use Rattle.inlines.specs.Walk.{Done}
-use Rattle.leaves.proofs.sheet.SkipLaws.{behind_kids}
 
 -- ---- cutting a sheet behind some trees leaves them as they are
 none_of : (f : Forest) → size f ≤ 0 → f ≡ none

@@ -1,7 +1,6 @@
 -- A list, up to its items: one law for each way through a function of `list`.
 use mathlib.Core.Path.{◌≡◌, refl, ap, ◌∙◌}
 use mathlib.Core.Bool.{Bool, true, false, not, ◌&&◌}
-use mathlib.Core.List.{List}
 use Prim.Native.Nat.{ℕ, suc, ◌+◌, ◌<◌, ◌≤◌}
 use native.Mathlib.Omega.{arith}
 use borrow.Author.Tests.{ne_eqb, not-true, not-false}
@@ -10,17 +9,17 @@ use Rattle.leaves.specs.Text.Lists.{when◌then◌else◌}
 use Rattle.leaves.specs.Sheet.Kinds.{blank_line}
 use Rattle.leaves.specs.declared.sheet.records.Rec.{Rec}
 use Rattle.leaves.specs.declared.sheet.records.Span.{Span}
-use Rattle.leaves.proofs.report.EntryLaws.{join-none, lists-then}
+use Rattle.leaves.proofs.report.EntryLaws.{join-none}
 use Rattle.leaves.specs.Report.Rules
 use Rattle.blocks.specs.List.{count_full, holds_one_block, validate_list}
-use Rattle.leaves.specs.Sheet.Forest.{Forest, none, tree, under, count, size}
-use Rattle.leaves.specs.Sheet.Trees.{trees, Until, Moved, Reads, Ends}
-use Rattle.leaves.specs.Report.Entries.{Entry, list_if, ◌⊕◌}
-use Rattle.leaves.specs.Report.Listed.{path_of, Adds, Enters, Leaves}
+use Rattle.leaves.specs.Sheet.Forest.{Forest, tree, count, size}
+use Rattle.leaves.specs.Sheet.Trees.{trees, Moved, Reads, Ends}
+use Rattle.leaves.specs.Report.Entries.{list_if}
+use Rattle.leaves.specs.Report.Listed.{path_of, Adds}
 use Rattle.leaves.specs.declared.sheet.trees.Records.{Records}
 use Rattle.leaves.specs.declared.report.entries.Report.{Report}
-use Rattle.leaves.proofs.report.ListedLaws.{adds-none, adds-then}
-use Rattle.leaves.proofs.sheet.TreesLaws.{Passing, passing-tree, reads-tree, behind-next, behind-moved, trees-moved}
+use Rattle.leaves.proofs.report.ListedLaws.{adds-then}
+use Rattle.leaves.proofs.sheet.TreesLaws.{reads-tree, behind-next}
 
 -- ---- how many blocks: the walk began at x and stands at y
 pub record Filling (level : ℕ) (x y : Records) (full : ℕ) : Type 0 where

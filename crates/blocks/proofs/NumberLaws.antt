@@ -10,7 +10,7 @@ use Rattle.leaves.specs.Report.Rules
 use Rattle.blocks.specs.Number.{item_number, validate_item_number}
 use Rattle.leaves.specs.Report.Entries.{list_if}
 use Rattle.std.specs.Prelude.{Option, Some, None}
-use Rattle.leaves.specs.Report.Listed.{path_of, Adds, Enters, Leaves}
+use Rattle.leaves.specs.Report.Listed.{path_of, Adds}
 use Rattle.leaves.specs.declared.report.entries.Report.{Report}
 use Rattle.leaves.proofs.report.ListedLaws.{adds-none, adds-then}
 

@@ -1,8 +1,7 @@
 -- Whether every inline is an empty text, told from tree to tree.
 use mathlib.Core.Path.{◌≡◌}
 use mathlib.Core.Bool.{Bool, true, false, not, ◌||◌}
-use mathlib.Core.List.{List}
-use Prim.Native.Nat.{ℕ, ◌+◌, ◌<◌, ◌≤◌}
+use Prim.Native.Nat.{ℕ, ◌+◌}
 use borrow.Author.Tests.{not-true, not-false}
 use Rattle.leaves.specs.Sheet.Kinds.{is_inline}
 use Rattle.leaves.specs.declared.sheet.records.Rec.{Rec}
@@ -12,15 +11,15 @@ use Rattle.leaves.specs.Sheet.Empty.{is_empty_text}
 use Rattle.inlines.specs.Nodes.{all_empty, validate_inlines}
 use Rattle.blocks.specs.Paragraph.{validate_paragraph}
 use Rattle.inlines.specs.Walk.{Done}
-use Rattle.leaves.proofs.sheet.DecideLaws.{Deciding, deciding-end, deciding-found, deciding-turn}
-use Rattle.leaves.specs.Sheet.Forest.{Forest, none, tree, under, count, size}
-use Rattle.leaves.specs.Sheet.Trees.{trees, Until, Moved, Reads, Ends}
-use Rattle.leaves.specs.Report.Entries.{Entry, list_if, ◌⊕◌}
-use Rattle.leaves.specs.Report.Listed.{path_of, Adds, Enters, Leaves}
+use Rattle.leaves.proofs.sheet.DecideLaws.{Deciding, deciding-end, deciding-turn}
+use Rattle.leaves.specs.Sheet.Forest.{size}
+use Rattle.leaves.specs.Sheet.Trees.{trees, Moved, Reads, Ends}
+use Rattle.leaves.specs.Report.Entries.{list_if}
+use Rattle.leaves.specs.Report.Listed.{path_of, Adds}
 use Rattle.leaves.specs.declared.sheet.trees.Records.{Records}
 use Rattle.leaves.specs.declared.report.entries.Report.{Report}
-use Rattle.leaves.proofs.report.ListedLaws.{adds-none, adds-then}
-use Rattle.leaves.proofs.sheet.TreesLaws.{Passing, passing-tree, reads-tree, reads-first, behind-next, behind-moved, trees-moved}
+use Rattle.leaves.proofs.report.ListedLaws.{adds-then}
+use Rattle.leaves.proofs.sheet.TreesLaws.{reads-first}
 
 abbrev passes : Rec → Bool
 passes r = not (is_inline r.kind) || is_empty_text r

@@ -1,7 +1,7 @@
 -- A table's rows and cells, listed from tree to tree.
-use mathlib.Core.Bool.{Bool, true, false, not}
+use mathlib.Core.Bool.{true, false, not}
 use mathlib.Core.List.{List, [], ◌∷◌, ◌++◌}
-use Prim.Native.Nat.{ℕ, ◌+◌, ◌<◌}
+use Prim.Native.Nat.{ℕ, ◌+◌}
 use native.Mathlib.Omega.{arith}
 use native.Mathlib.Numerals.{add-one}
 use lib.Dec.{eqb}
@@ -11,20 +11,20 @@ use Rattle.leaves.specs.Report.Rules
 use Rattle.inlines.specs.Depth.{validate_cell_values, validate_one_line}
 use Rattle.inlines.specs.Nodes.{validate_inlines}
 use Rattle.blocks.specs.Table.{header_width, validate_cell, validate_cells, validate_rows, validate_table}
-use mathlib.Core.Path.{◌≡◌, refl, sym, ap, subst, ◌∙◌}
+use mathlib.Core.Path.{◌≡◌, refl, sym, subst, ◌∙◌}
 use Rattle.leaves.proofs.sheet.TreeLaws.{suc-some}
-use Rattle.leaves.specs.Sheet.Forest.{Forest, none, tree, under, count, size}
-use Rattle.leaves.specs.Sheet.Trees.{trees, Until, Moved, Reads, Ends}
+use Rattle.leaves.specs.Sheet.Forest.{Forest, none, tree, count}
+use Rattle.leaves.specs.Sheet.Trees.{trees, Reads, Ends}
 use Rattle.leaves.specs.Report.Entries.{Entry, list_if, ◌⊕◌}
 use Rattle.leaves.specs.Report.Listed.{path_of, Adds, Enters, Leaves}
 use Rattle.leaves.specs.declared.sheet.trees.Records.{Records}
 use Rattle.leaves.specs.declared.report.entries.Report.{Report}
-use Rattle.leaves.proofs.report.EntryLaws.{join-assoc, join-none, none-join}
-use Rattle.leaves.proofs.report.ListedLaws.{adds-none, adds-then, adds-from}
-use Rattle.leaves.proofs.sheet.TreesLaws.{Passing, passing-tree, reads-tree, reads-first, behind-next, behind-moved, trees-moved}
+use Rattle.leaves.proofs.report.EntryLaws.{join-assoc}
+use Rattle.leaves.proofs.report.ListedLaws.{adds-then, adds-from}
+use Rattle.leaves.proofs.sheet.TreesLaws.{passing-tree, reads-tree, reads-first, behind-next}
 use Rattle.inlines.specs.Walk.{Done}
-use Rattle.inlines.proofs.WalkLaws.{loop-path, loop-bytes}
-use Rattle.inlines.proofs.PathLaws.{Paced, paced-path, paced-visit, paced-turn, paced-last}
+use Rattle.inlines.proofs.WalkLaws.{loop-bytes}
+use Rattle.inlines.proofs.PathLaws.{Paced, paced-path, paced-visit, paced-turn}
 
 -- ---- one cell
 pub cell-done : {k a b c : Records} {level : ℕ} {x y z o : Report} → Done k a level x y (validate_inlines k.bytes.now (path_of x) (trees k level)) → Done k b level y z (validate_cell_values k.bytes.now (path_of y) (trees k level)) → Done k c level z o (validate_one_line Rules.break_in_cell (path_of z) (trees k level)) → Done k c level x o (validate_cell k.bytes.now (path_of x) (trees k level))

@@ -16,12 +16,28 @@ fn validate_tags(bytes: &[u8], report: &mut Report, span: Span, opening: Rec, cl
     ensures { Adds report.old report.new
         (validate_tags bytes.now (path_of report.old) span opening closing) }
 {
-    report.list_if(is_empty(opening.first), Rule::EmptyOpeningName, opening.span);
-    report.list_if(is_empty(closing.first), Rule::EmptyClosingName, closing.span);
+    report.list_if(
+        is_empty(opening.first),
+        Rule::EmptyOpeningName,
+        opening.span,
+    );
+    report.list_if(
+        is_empty(closing.first),
+        Rule::EmptyClosingName,
+        closing.span,
+    );
     let same = same_bytes(text_of(bytes, opening.first), text_of(bytes, closing.first));
     report.list_if(!same, Rule::TagNamesDiffer, span);
-    report.list_if(is_empty(opening.second), Rule::EmptyOpeningSource, opening.span);
-    report.list_if(is_empty(closing.second), Rule::EmptyClosingSource, closing.span);
+    report.list_if(
+        is_empty(opening.second),
+        Rule::EmptyOpeningSource,
+        opening.span,
+    );
+    report.list_if(
+        is_empty(closing.second),
+        Rule::EmptyClosingSource,
+        closing.span,
+    );
 }
 
 // The rules of a container's tags, which are its first two children.

@@ -17,7 +17,12 @@ pub(crate) fn item_number(b: u32, c: u32) -> Option<u32>
 }
 
 // Rule 49: an item of a bullet list has no number. Rule 50: a number has at most nine digits.
-pub(crate) fn validate_item_number(report: &mut Report, span: Span, ordered: u32, number: Option<u32>)
+pub(crate) fn validate_item_number(
+    report: &mut Report,
+    span: Span,
+    ordered: u32,
+    number: Option<u32>,
+)
     ensures { Adds report.old report.new
         (validate_item_number (path_of report.old) span ordered number) }
 {

@@ -1,5 +1,5 @@
 -- The pass over inlines side by side gathers what the definition does.
-use mathlib.Core.Path.{◌≡◌, refl, sym, ap, ◌∙◌}
+use mathlib.Core.Path.{◌≡◌, refl, ◌∙◌}
 use mathlib.Core.Bool.{Bool, true, false, not, ◌&&◌, ◌||◌}
 use mathlib.Core.List.{List}
 use Prim.Native.Nat.{ℕ, ◌+◌}
@@ -7,7 +7,6 @@ use Rattle.leaves.specs.Sheet.Forest.{size}
 use Rattle.leaves.specs.Sheet.Trees.{trees, Moved, Reads, Ends}
 use Rattle.leaves.specs.declared.sheet.trees.Records.{Records}
 use Rattle.leaves.proofs.sheet.TreesLaws.{reads-tree, behind-moved}
-use borrow.Author.Rules.{rules}
 use borrow.Author.Tests.{not-true, not-false}
 use lib.Dec.{eqb}
 use Rattle.leaves.specs.Text.Lists.{when◌then◌else◌}

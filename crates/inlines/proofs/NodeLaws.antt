@@ -3,7 +3,6 @@ use mathlib.Core.Path.{◌≡◌}
 use mathlib.Core.Bool.{Bool, false, not, ◌&&◌, ◌||◌}
 use mathlib.Core.List.{List}
 use Prim.Native.Nat.{ℕ}
-use borrow.Author.Rules.{rules}
 use borrow.Author.Tests.{ne_eqb}
 use Rattle.leaves.specs.Sheet.Kinds.{link, link_reference, inline_footnote, text_directive}
 use Rattle.leaves.specs.Sheet.Forest.{Forest}
@@ -17,7 +16,7 @@ use Rattle.leaves.specs.declared.sheet.records.Text.{Text}
 use Rattle.leaves.specs.declared.sheet.trees.Records.{Records}
 use Rattle.leaves.proofs.report.ListedLaws.{adds-then}
 use Rattle.inlines.specs.ContentGathered.{content_of}
-use Rattle.inlines.specs.Single.{validate_destination, validate_identifier, validate_directive_name}
+use Rattle.inlines.specs.Single.{validate_directive_name}
 use Rattle.inlines.specs.Attribute.{validate_directive_attributes}
 use Rattle.inlines.specs.Link.{validate_link_text}
 use Rattle.inlines.specs.Content.{no_inline}
@@ -40,8 +39,8 @@ module _ (bytes : List ℕ) (outer a : ℕ) (f : Forest) {x y : Report} {c : Con
       adds-then
       (rw (says-empty bytes outer a f is) at k)
       (adds-then
-       (rw (says-empty bytes outer a f is, says-starts bytes outer a f is, says-ends bytes outer a f is, k.path) at l)
-       (adds-then (rw (says-joined bytes outer a f is, l.path, k.path) at m) (rw (m.path, l.path, k.path, says_last bytes outer a f is (path_of x)) at n)))
+      (rw (says-empty bytes outer a f is, says-starts bytes outer a f is, says-ends bytes outer a f is, k.path) at l)
+      (adds-then (rw (says-joined bytes outer a f is, l.path, k.path) at m) (rw (m.path, l.path, k.path, says_last bytes outer a f is (path_of x)) at n)))
 
 -- ---- by what a walk over the children listed after it
 module _ {x y z : Report} {k j : Records} {level : ℕ} where

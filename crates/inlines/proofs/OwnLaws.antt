@@ -6,7 +6,7 @@ use borrow.Author.Tests.{ne_eqb}
 use Rattle.leaves.specs.Sheet.Kinds.{text, escape, code, image, image_reference, math, footnote_reference, wiki_link}
 use Rattle.leaves.specs.declared.sheet.records.Rec.{Rec}
 use Rattle.inlines.specs.Own.{validate_inline_values}
-use Rattle.leaves.specs.Report.Listed.{path_of, Adds}
+use Rattle.leaves.specs.Report.Listed.{Adds}
 use Rattle.leaves.specs.declared.report.entries.Report.{Report}
 use Rattle.leaves.proofs.report.ListedLaws.{adds-none}
 

@@ -1,5 +1,5 @@
 -- A loop that goes from tree to tree and enters each, by its index: its laws, over any list.
-use mathlib.Core.Path.{◌≡◌, sym, ap, ◌∙◌}
+use mathlib.Core.Path.{◌≡◌, ap, ◌∙◌}
 use mathlib.Core.List.{List, [], ◌∷◌, ◌++◌}
 use Prim.Native.Nat.{ℕ, ◌+◌, ◌<◌, ◌≤◌}
 use native.Mathlib.Omega.{arith}
@@ -27,10 +27,6 @@ module _ {x : Records} {p : Report} where
     -- the tree that was read can be entered: its record is deeper than where the report stands, and no level is above 64
     pub paced-enter : {z : Records} {r : Rec} → Reads y z p.level r → (q.level < r.level) × (r.level ≤ 64)
     paced-enter reads = let l : q.level ≡ p.level = v.loop.adds.level in let d = reads.deep in (omega arith, reads-most reads)
-
-    -- there are fewer trees than records
-    pub paced-few : {z : Records} {r : Rec} → Reads y z p.level r → k + 1 ≤ 65535
-    paced-few reads = let b : y.next < y.n = reads.inside in let m : y.n ≤ 65535 = y.few in let f = v.few in omega arith
 
     module _ {a : Report} {m : ℕ} (e : Enters q a k m) where
       -- the path of the tree that was entered

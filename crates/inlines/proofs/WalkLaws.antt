@@ -7,9 +7,12 @@ use native.Mathlib.Nat.{sub-add-eq}
 use native.Mathlib.Omega.{arith}
 use borrow.Author.Tests.{ltb-true, ltb-false}
 use lib.Dec.{ltb}
-use Rattle.leaves.specs.Sheet.Records.{record_at}
+use lib.ListN.{length}
+use Rattle.leaves.specs.Refusal.Limits.{most_records, most_level}
+use Rattle.leaves.specs.Refusal.Formed.{Sound}
+use Rattle.leaves.specs.Sheet.Records.{record_at, records_of, record_words}
 use Rattle.leaves.specs.Sheet.Forest.{Forest, none, tree, deeper, past, forest_at, under, size}
-use Rattle.leaves.specs.Sheet.Trees.{trees, Moved, Reads, Ends}
+use Rattle.leaves.specs.Sheet.Trees.{trees, Reads, Ends}
 use Rattle.leaves.specs.Report.Entries.{Entry, ◌⊕◌}
 use Rattle.leaves.specs.Report.Listed.{path_of, Adds}
 use Rattle.leaves.specs.declared.sheet.records.Rec.{Rec}
@@ -89,3 +92,25 @@ module _ {level : ℕ} {x : Records} {p : Report} where
     loop-end e k =
         let r : v.before ≡ es = sym (join-none v.before) ∙ rw (k.none, e) at v.rest in
         record { moved = passing-end v.passing k; adds = rw r at v.adds }
+
+-- ---- the levels left. Where a walk of the level `level` may go at least `left` levels deeper, a record of the level m
+-- below it takes one of them: the rest is enough under that record, and the number of a cycle of calls falls (twice the
+-- levels left for a loop, one more for a record).
+pub record Falls (left m : ℕ) : Type 0 where
+  pub some : 1 ≤ left
+  pub rest : most_level ≤ left - 1 + m
+  pub less : 2 * (left - 1) + 1 < 2 * left
+
+pub levels-fall : {left level m : ℕ} → most_level ≤ left + level → m ≤ most_level → level < m → Falls left m
+levels-fall enough most d = record { some = omega arith; rest = omega arith; less = omega arith }
+
+-- ---- what acceptance gives a walk from record `from` on, whose path has at most as many words as a sheet has levels
+pub record Start (w path : List ℕ) (n from : ℕ) : Type 0 where
+  pub whole : n * record_words ≤ length w
+  pub few : n ≤ most_records
+  pub shallow : (i : ℕ) → i < n → (record_at w i).level ≤ most_level
+  pub inside : from ≤ n
+  pub short : length path ≤ most_level
+
+pub start_of : {w bytes path : List ℕ} {n from : ℕ} → Sound w bytes → n ≡ records_of w → from ≤ n → length path ≤ 64 → Start w path n from
+start_of sound e b s = rw e (record { whole = omega (arith, sound.whole); few = sound.few; shallow = sound.shallow; inside = rw e at b; short = s })

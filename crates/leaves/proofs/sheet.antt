@@ -3,7 +3,6 @@ pub mod ForestLaws
 pub mod KindLaws
 pub mod RecordLaws
 pub mod SiblingLaws
-pub mod SkipLaws
 pub mod TextLaws
 pub mod TreeLaws
 pub mod TreesLaws

@@ -9,16 +9,20 @@ use lib.Dec.{eqb, leb}
 use lib.ListN.{replicate}
 use Rattle.leaves.specs.Text.Part.{part_of}
 use Rattle.leaves.specs.Sheet.Records.{records_of}
-use Rattle.leaves.specs.Sheet.Forest.{under}
+use Rattle.leaves.specs.Sheet.Forest.{Forest, under}
 use Rattle.leaves.specs.Refusal.Judge.{Judges}
 use Rattle.leaves.specs.Refusal.Verdict.{is_accepted}
 use Rattle.leaves.specs.Report.Entries.{start}
 use Rattle.leaves.specs.declared.refusal.verdict.Judged.{Judged}
+use Rattle.leaves.specs.Refusal.Formed.{Sound}
+use Rattle.leaves.specs.Sheet.Trees.{trees}
+use Rattle.leaves.specs.Report.Listed.{path_of, Enters}
+use Rattle.leaves.specs.declared.sheet.trees.Records.{Records}
+use Rattle.leaves.specs.declared.report.entries.Report.{Report}
 use Rattle.leaves.specs.declared.report.entries.Tally.{Tally as Words}
+use Rattle.leaves.specs.Report.Entries.{Entry, Lists}
 use Rattle.inlines.specs.Nodes.{validate_inlines}
-use Rattle.inlines.specs.Walk.{Start, Done}
-use Rattle.inlines.specs.declared.walk.Walked.{Walked}
-use Rattle.inlines.proofs.WalkLaws.{start_of}
+use Rattle.inlines.specs.Walk.{Done}
 use Rattle.leaves.proofs.refusal.FormedLaws.{accepted}
 use Rattle.leaves.proofs.refusal.VerdictLaws.{is-accepted}
 use Rattle.replay.specs.declared.tally.Tally.{Tally}
@@ -26,7 +30,13 @@ use Rattle.replay.specs.Bytes.{pair_at}
 use Rattle.replay.specs.Tally.{recorded, comparing}
 use Rattle.replay.specs.Words.{words_of, first_of, same_words, Gives}
 use Rattle.replay.specs.Sheets.{sheet_in}
-use Rattle.replay.specs.Lists.{listed_of, list_of, list_replayed}
+use Rattle.replay.specs.Lists.{inlines_of, listed_of, list_of, list_replayed}
+
+lists-as : {s s' t : Words} {x x' y y' : List ℕ} {es fs : List Entry} → s ≡ s' → x ≡ x' → y' ≡ y → es ≡ fs → Lists s t x y es → Lists s' t x' y' fs
+lists-as s x y e l = rw (y, ← e, ← s, ← x) l
+
+inlines-are : (w : List ℕ) {bytes text path : List ℕ} {f : Forest} → text ≡ bytes → path ≡ 0 ∷ [] → f ≡ under w (records_of w) 1 1 → validate_inlines text path f ≡ inlines_of w bytes
+inlines-are w t p f = rw (t, p, f)
 
 module _ (w bytes report : List ℕ) where
   pub listed-none : records_of w < 1 → Gives (listed_of w bytes report) 0 report
@@ -38,12 +48,17 @@ module _ (w bytes report : List ℕ) where
     unfolding listed_of
     listed-refused e = rw (le-ltb (records_of w) 1 some, sym (ap is_accepted judged.enum) ∙ sym told ∙ e) (record { first = refl; second = refl })
 
-    pub listed-some : t ≡ true → (s : Words) (q : Walked) (left : List ℕ) → s ≡ start → Done w (records_of w) 1 1 (validate_inlines bytes (0 ∷ []) (under w (records_of w) 1 1)) s report q left → Gives (listed_of w bytes report) q.tally.words left
-    unfolding listed_of
-    listed-some e s q left n d = rw (le-ltb (records_of w) 1 some, sym (ap is_accepted judged.enum) ∙ sym told ∙ e) (record { first = rw (← n) (ap (λ (u : Words). u.words) d.lists.tally); second = rw (← n) d.lists.written })
+    pub list-sound : t ≡ true → Sound w bytes
+    list-sound e = accepted w bytes (sym judged.enum ∙ is-accepted j (sym told ∙ e))
 
-    pub list-starts : t ≡ true → Start w (0 ∷ []) (records_of w) 1
-    list-starts e = start_of (accepted w bytes (sym judged.enum ∙ is-accepted j (sym told ∙ e))) refl (search rules) (search rules)
+    -- the records from record 1 on, k, and the report y, which stands at the first block
+    pub listed-some : t ≡ true → {k i : Records} {x y z : Report} {left : List ℕ} → k.sheet.now ≡ w → k.bytes.now ≡ bytes → k.n ≡ records_of w → k.next ≡ 1 → x.words.now ≡ report → x.tally ≡ start → (x.depth ≡ 0) × (x.level ≡ 0) → Enters x y 0 1 → Done k i 1 y z (validate_inlines k.bytes.now (path_of y) (trees k 1)) → left ≡ z.words.now → Gives (listed_of w bytes report) z.tally.words left
+    unfolding listed_of
+    listed-some e {k} {x = x} {y} a b c f v s top n d l =
+        let p : path_of y ≡ 0 ∷ [] = n.path ∙ rw top.0 in
+        let o : y.words.now ≡ x.words.now = rw n.words in
+        let m = lists-as (n.tally ∙ s) (o ∙ v) l (inlines-are w b p (rw (a, c, f))) d.adds.lists in
+        rw (le-ltb (records_of w) 1 some, sym (ap is_accepted judged.enum) ∙ sym told ∙ e) (record { first = ap (λ (u : Words). u.words) m.tally; second = m.written })
 
 pub list-record : (r w text filled part wanted left : List ℕ) (n k m found : ℕ) (same : Bool) (t t₁ t₂ t₃ : Tally) → t₃ ≡ comparing same t₂ → t₂ ≡ comparing (leb n 800 && leb m 800 && eqb found m) t₁ → t₁ ≡ recorded t → same ≡ same_words left wanted 0 → wanted ≡ part_of r (6 + n * 4 + k) (m * 4) → Gives (listed_of w text (replicate 800 0)) found left → w ≡ first_of filled n → filled ≡ words_of 800 part → part ≡ part_of r 6 (n * 4) → text ≡ part_of r (6 + n * 4) k → n ≡ pair_at r 0 → k ≡ pair_at r 2 → m ≡ pair_at r 4 → t₃ ≡ list_replayed r t
 unfolding list_replayed list_of sheet_in
@@ -52,4 +67,4 @@ list-record r w text filled part wanted left n k m found same t t₁ t₂ t₃ p
     let l : left ≡ (listed_of w text (replicate 800 0)).1 = g.second in
     cc
 
-pub ruleset lists = (listed-none, listed-refused, listed-some, list-starts, list-record, not-true, not-false, rules)
+pub ruleset lists = (listed-none, listed-refused, listed-some, list-record, not-true, not-false, rules)

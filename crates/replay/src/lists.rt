@@ -8,8 +8,9 @@ use crate::{bytes, words};
 use inlines::nodes::validate_inlines;
 use leaves::refusal::judge::accept;
 use leaves::refusal::verdict::is_accepted;
-use leaves::report::entries;
+use leaves::report::entries::Report;
 use leaves::sheet::records::RECORD_WORDS;
+use leaves::sheet::trees::Records;
 use leaves::text::part::part;
 
 // How many bytes stand before a record's words: three counts (words of the sheet, bytes of the text, words of the
@@ -18,9 +19,6 @@ pub const HEAD: usize = 6;
 
 // The most words of a sheet, and of a list.
 const MOST: usize = 800;
-
-// The levels left under a paragraph of level 1.
-const LEFT: u32 = 63;
 
 pub fn behind(r: &[u8]) -> usize
     ensures { result ≤ 589815 }
@@ -41,9 +39,12 @@ fn listed(sheet: &[u32], text: &[u8], report: &mut [u32]) -> usize
     if !is_accepted(accept(sheet, text)) {
         return 0;
     }
-    let path = [0u32; 1];
-    let w = validate_inlines(sheet, text, report, &path, n, 1, 1, LEFT, entries::none());
-    w.tally.words
+    let mut records = Records::of_sheet(sheet, text);
+    records.next = 1;
+    let mut report = Report::new(report);
+    report.enter(0, 1);
+    validate_inlines(&mut records, &mut report, 1);
+    report.tally.words
 }
 
 // Compares the length of the list, and each word of the report. Behind the list each must be 0.

@@ -1,16 +1,15 @@
 -- Laws of the report: listing some entries and then others is listing both; what is counted, what is written, and what is read back.
 use mathlib.Core.Path.{◌≡◌, refl, sym, ◌∙◌}
-use mathlib.Core.Bool.{Bool, true, false, not, cond}
+use mathlib.Core.Bool.{Bool, true, false}
 use mathlib.Core.List.{List, [], ◌∷◌, ◌++◌, append_assoc, append-nil}
 use Prim.Native.Nat.{ℕ, zero, suc, min, ◌+◌, ◌-◌, ◌*◌, ◌^◌, ◌≤◌, ◌<◌}
 use native.Mathlib.Nat.{zero-add, sub-zero, le_refl}
-use native.Mathlib.Numerals.{add-one}
 use native.Mathlib.Omega.{arith}
 use lib.Dec.{leb}
-use lib.ListN.{length, get_or, set, take, drop, length-set, length-append, length-drop, take-append-drop, drop_of_length-le}
-use lib.Seq.{paste, paste-zero, paste-suc, take_all, take-nil, take-length, drop-drop, take-append_seam, drop-append_seam}
+use lib.ListN.{length, take, drop, length-append, length-drop, take-append-drop, drop_of_length-le}
+use lib.Seq.{take_all, take-nil, drop-drop, take-append_seam, drop-append_seam}
 use borrow.Author.Rules.{rules}
-use borrow.Author.Tests.{leb-true, leb-false, le-leb, lt-leb, not-true, not-false}
+use borrow.Author.Tests.{leb-true, leb-false, le-leb, lt-leb}
 use borrow.Rule.Slice.PartMut.{put_mid}
 use Rattle.leaves.specs.declared.sheet.records.Span.{Span}
 use Rattle.leaves.specs.Report.Entries.{Entry, words, head_words, flat, ◌⊕◌, list_if, cap, capped, start, counted, after, put, Lists, fitting, entries_in}
@@ -67,9 +66,6 @@ lists-then {s} {x = x} {es = es} {fs} a b =
       written = rw (put-append x s es fs, ← a.tally, ← a.written) b.written;
     }
 
--- for a function that lists by several calls
-pub ruleset listing = (lists-none, lists-then, rules)
-
 -- ---- an entry's words
 
 pub length-words : (e : Entry) → length (words e) ≡ head_words + length e.path
@@ -77,23 +73,6 @@ unfolding words
 length-words e = omega arith
 
 -- ---- the functions of `entries`, one law for each way through
-
--- `copy_at`: the first i words of s stand over those of d from `at` on
-pub record Copying (d : List ℕ) (at : ℕ) (s : List ℕ) (i : ℕ) (e : List ℕ) : Type 0 where
-  pub inside : i ≤ length s
-  pub same : length e ≡ length d
-  pub is : e ≡ paste d at s i
-
-pub copy_start : (d : List ℕ) (at : ℕ) (s : List ℕ) → Copying d at s 0 d
-copy_start d at s = record { inside = omega arith; same = refl; is = paste-zero d at s }
-
-module _ {d s e : List ℕ} {at i : ℕ} (copy : Copying d at s i e) (room : at + length s ≤ length d) where
-  pub copy-next : i < length s → Copying d at s (i + 1) (set e (at + i) (get_or s i 0))
-  copy-next h =
-      record { inside = omega arith; same = length-set e (at + i) (get_or s i 0) ∙ copy.same; is = rw (copy.is, add-one i) (paste-suc d at s i 0 (omega arith) h) }
-
-  pub copy-end : length s ≤ i → e ≡ over d at s
-  copy-end h = let n : i ≡ length s = omega arith in copy.is ∙ rw (n, take-length) (sym (over-fits d at s room))
 
 -- `write_entry`: the head, and the path behind it; or nothing
 module _ (w p : List ℕ) (rule : ℕ) (span : Span) where
@@ -104,7 +83,7 @@ module _ (w p : List ℕ) (rule : ℕ) (span : Span) where
   pub write-none : length w < head_words + length p → w ≡ over w 0 (words (record { rule = rule; span = span; path = p }))
   write-none h = sym (over-not w 0 _ (omega (arith, length-words (record { rule = rule; span = span; path = p }))))
 
--- `write_if`: the tail that was lent is back with the entry at its front; or there is no room for an entry, or no fault
+-- `write_at`: the tail that was lent is back with the entry at its front; or there is no room for an entry
 module _ (x : List ℕ) (at : ℕ) where
   tail-is : take (length x - at) (drop at x) ≡ drop at x
   tail-is = take_all (length x - at) (drop at x) (simp length-drop (le_refl _))
@@ -123,32 +102,14 @@ module _ (x : List ℕ) (at : ℕ) where
           let short = leb-false (at + length e) (length x) l in
           rw (over-not (drop at x) 0 e (simp (zero-add, length-drop) (omega arith)), over-not x at e short) (simp take-append-drop)
 
-  module _ (f : Bool) (e : List ℕ) where
-    pub tail-back : {y : List ℕ} → not f ≡ false → at ≤ length x → y ≡ over (take (length x - at) (drop at x)) 0 e → put_mid at (length x - at) x y ≡ cond f (over x at e) x
-    tail-back {y} g h q = rw (not-false f g) (back_is y ∙ rw (q, tail-is) (over-tail e h))
+  module _ (e : List ℕ) where
+    pub tail-back : {y : List ℕ} → at ≤ length x → y ≡ over (take (length x - at) (drop at x)) 0 e → put_mid at (length x - at) x y ≡ over x at e
+    tail-back {y} h q = back_is y ∙ rw (q, tail-is) (over-tail e h)
 
-    pub tail_none : not f ≡ true → x ≡ cond f (over x at e) x
-    tail_none g = rw (not-true f g)
+    pub tail-past : length x < at → x ≡ over x at e
+    tail-past h = sym (over-not x at e (omega arith))
 
-    pub tail-past : not f ≡ false → length x < at → x ≡ cond f (over x at e) x
-    tail-past g h = rw (not-false f g) (sym (over-not x at e (omega arith)))
-
--- `count_if`
-module _ (s : Tally) (n : ℕ) (f : Bool) where
-  pub count_yes : {a b : ℕ} → not f ≡ false → a ≡ capped s.words n → b ≡ capped s.entries 1 → ◌≡◌ {A = Tally} (record { words = a; entries = b }) (cond f (counted s n) s)
-  count_yes h a b = rw (not-false f h, a, b)
-
-  pub count_no : not f ≡ true → s ≡ cond f (counted s n) s
-  count_no h = rw (not-true f h)
-
--- `list_if`
-pub list-if : {s t : Tally} {x y : List ℕ} (f : Bool) (rule : ℕ) (span : Span) (p : List ℕ) → y ≡ cond f (over x s.words (words (record { rule = rule; span = span; path = p }))) x → t ≡ cond f (counted s (head_words + length p)) s → Lists s t x y (list_if f rule span p)
-unfolding list_if after put
-list-if {s} true rule span p w c =
-    record { tally = rw (length-words (record { rule = rule; span = span; path = p })) c; written = w }
-list-if false rule span p w c = record { tally = c; written = w }
-
-pub ruleset reports = (copy_start, copy-next, copy-end, write_done, write-none, tail-back, tail_none, tail-past, count_yes, count_no, list-if, rules)
+pub ruleset reports = (write_done, write-none, tail-back, tail-past, rules)
 
 -- ---- counting
 

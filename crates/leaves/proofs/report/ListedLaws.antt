@@ -1,20 +1,20 @@
 -- Laws of the report as the walks write it: listing some entries and then others is listing both.
-use mathlib.Core.Path.{◌≡◌, refl, sym, ap, subst, ◌∙◌}
-use mathlib.Core.Bool.{Bool, true, false, cond}
+use mathlib.Core.Path.{◌≡◌, refl, sym, subst, ◌∙◌}
+use mathlib.Core.Bool.{Bool, true, false, not}
+use borrow.Author.Tests.{not-true, not-false}
 use mathlib.Core.List.{List, [], ◌∷◌, ◌++◌}
-use Prim.Native.Nat.{ℕ, ◌+◌, ◌-◌, ◌<◌, ◌≤◌}
+use Prim.Native.Nat.{ℕ, ◌+◌, ◌≤◌}
 use native.Mathlib.Omega.{arith}
 use lib.ListN.{length, take, length-take}
 use lib.Seq.{take-take, take_all}
 use Rattle.std.proofs.lemmas.List.{take-append-le}
-use borrow.Author.Rules.{rules}
 use Rattle.leaves.specs.declared.sheet.records.Span.{Span}
 use Rattle.leaves.specs.declared.report.entries.Tally.{Tally}
 use Rattle.leaves.specs.declared.report.entries.Report.{Report}
 use Rattle.leaves.specs.Text.Lists.{over}
-use Rattle.leaves.specs.Report.Entries.{Entry, words, head_words, counted, list_if, Lists, ◌⊕◌}
+use Rattle.leaves.specs.Report.Entries.{Entry, words, head_words, counted, after, put, list_if, Lists, ◌⊕◌}
 use Rattle.leaves.specs.Report.Listed.{path_of, Adds, Enters, Leaves}
-use Rattle.leaves.proofs.report.EntryLaws.{list-if, lists-none, lists-then}
+use Rattle.leaves.proofs.report.EntryLaws.{length-words, lists-none, lists-then}
 
 pub path-length : (x : Report) → length (path_of x) ≡ x.depth
 path-length x =
@@ -24,8 +24,16 @@ path-length x =
     rw (length-take x.depth x.path) (omega arith)
 
 -- `Report::list_if`
-pub lists-if : (x : Report) {y : List ℕ} {t : Tally} (f : Bool) (rule : ℕ) (span : Span) → y ≡ cond f (over x.words.now x.tally.words (words (record { rule = rule; span = span; path = path_of x }))) x.words.now → t ≡ cond f (counted x.tally (head_words + x.depth)) x.tally → Lists x.tally t x.words.now y (list_if f rule span (path_of x))
-lists-if x f rule span w c = list-if f rule span (path_of x) w (rw (path-length x) c)
+module _ (x : Report) (rule : ℕ) (span : Span) where
+  pub lists-not : (f : Bool) → not f ≡ true → Adds x x (list_if f rule span (path_of x))
+  unfolding list_if
+  lists-not f e = rw (not-true f e) (record { lists = lists-none; loan = refl; path = refl; depth = refl; level = refl })
+
+  pub lists-one : (f : Bool) {y : List ℕ} {t : Tally} → not f ≡ false → y ≡ over x.words.now x.tally.words (words (record { rule = rule; span = span; path = path_of x })) → t ≡ counted x.tally (head_words + x.depth) → Lists x.tally t x.words.now y (list_if f rule span (path_of x))
+  unfolding list_if after put
+  lists-one f e w c =
+      let n : length (words (record { rule = rule; span = span; path = path_of x })) ≡ head_words + x.depth = rw (length-words (record { rule = rule; span = span; path = path_of x }), path-length x) in
+      rw (not-false f e) (record { tally = rw n c; written = w })
 
 -- ---- joining
 
@@ -73,6 +81,3 @@ module _ {x y : Report} {index level : ℕ} (a : Enters x y index level) where
           depth = d;
           level = c.level;
         }
-
--- for a function that lists by several calls
-pub ruleset adding = (adds-none, adds-then, rules)

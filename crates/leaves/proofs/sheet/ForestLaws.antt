@@ -123,6 +123,10 @@ over-at w l (suc k) i h =
 pub all_under : (w : List ℕ) (n l : ℕ) → ((m : ℕ) → m < n → l < (record_at w (0 + m)).level) → under w n 0 l ≡ forest_at w n 0
 all_under w n l h = rw sub-zero (deeper-all l (forest_at w n 0) (over-at w l n 0 h))
 
+-- where the kids of record i end
+abbrev pub behind_kids : List ℕ → ℕ → ℕ → ℕ
+behind_kids w n i = i + 1 + size (under w n (i + 1) (record_at w i).level)
+
 -- the walk by index: at record i of n
 module _ (w : List ℕ) (n i : ℕ) where
   pub under-end : (l : ℕ) → n ≤ i → under w n i l ≡ none

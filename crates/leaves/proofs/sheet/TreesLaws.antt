@@ -1,18 +1,14 @@
 -- Laws of the records as a walk reads them: what is read, what is passed over, and what is left.
 use mathlib.Core.Path.{◌≡◌, refl, sym, ap, ◌∙◌}
-use mathlib.Core.Bool.{Bool, true, false}
-use mathlib.Core.List.{List}
-use Prim.Native.Nat.{ℕ, suc, ◌+◌, ◌-◌, ◌<◌, ◌≤◌}
+use Prim.Native.Nat.{ℕ, suc, ◌+◌, ◌<◌, ◌≤◌}
 use native.Mathlib.Omega.{arith}
-use lib.Dec.{eqb, leb, ltb}
-use borrow.Author.Rules.{rules}
 use Rattle.leaves.specs.Sheet.Records.{record_at}
-use Rattle.leaves.specs.Sheet.Forest.{Forest, none, tree, under, size, count}
+use Rattle.leaves.specs.Sheet.Forest.{tree, under, size, count}
 use Rattle.leaves.specs.Sheet.Trees.{trees, Moved, Reads, Ends}
 use Rattle.leaves.specs.declared.sheet.records.Rec.{Rec}
 use Rattle.leaves.specs.declared.sheet.trees.Records.{Records}
-use Rattle.leaves.proofs.sheet.ForestLaws.{under-in, under-out, under-end, under-fits, size_step}
-use Rattle.leaves.proofs.sheet.SkipLaws.{behind_kids}
+use Rattle.leaves.proofs.sheet.ForestLaws.{under-in, under-out, under-end, size_step}
+use Rattle.leaves.proofs.sheet.ForestLaws.{behind_kids}
 
 -- ---- `next_under`: no record is left, or the next one is not deeper
 module _ (x : Records) (level : ℕ) where
@@ -114,10 +110,6 @@ passing-same {y = y} {u} {level} v m =
     let t = trees-moved level m in
     let n : u.next ≡ y.next = m.next in
     record { moved = moved-then v.moved (moved-at m (sym n)); gone = rw t (omega (arith, v.gone)) }
-
--- a loop goes on behind where it stood
-pub reads-down : {y z : Records} {level : ℕ} {r : Rec} → Reads y z level r → z.n - z.next < y.n - y.next
-reads-down {y} {z} reads = let n : z.n ≡ y.n = reads.moved.n in let k : z.next ≡ y.next + 1 = reads.moved.next in let b : y.next < y.n = reads.inside in omega arith
 
 -- ---- `count`: the trees that were counted and those to come are all of them
 pub record CountsOn (x y : Records) (level counted : ℕ) : Type 0 where

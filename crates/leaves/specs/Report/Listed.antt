@@ -1,6 +1,6 @@
 -- The report as the walks write it.
 use Rattle.std.specs.Prelude.{◌≡◌, List, [], ◌∷◌, ◌++◌, ℕ, ◌+◌, take}
-use Rattle.leaves.specs.Report.Entries.{Entry, Lists, start}
+use Rattle.leaves.specs.Report.Entries.{Entry, Lists}
 use Rattle.leaves.specs.declared.report.entries.Report.{Report}
 
 -- the path of the record at which the walk stands

@@ -1,6 +1,7 @@
 // Counts the report's entries, and writes those that fit.
 ghost use Rattle.std.specs.Prelude.{◌≡◌, cond, ◌+◌, ◌≤◌, length};
-ghost use Rattle.leaves.specs.Report.Entries.{words, head_words, list_if, capped, start, counted, Lists};
+ghost use Rattle.leaves.specs.Report.RuleNumbers.{rule_number};
+ghost use Rattle.leaves.specs.Report.Entries.{words, head_words, list_if, capped, start, counted};
 ghost use Rattle.leaves.specs.Text.Lists.{over};
 ghost use Rattle.leaves.specs.Refusal.Limits.{most_level};
 
@@ -21,13 +22,26 @@ pub struct Tally {
     pub entries: usize,
 }
 
-// The tally of no entries.
-pub fn none() -> Tally
-    ensures { result ≡ start }
-{
-    Tally {
-        words: 0,
-        entries: 0,
+impl Tally {
+    // The tally of no entries.
+    pub fn none() -> Self
+        ensures { result ≡ start }
+    {
+        Tally {
+            words: 0,
+            entries: 0,
+        }
+    }
+
+    // With one more entry, whose path has `depth` words.
+    fn with_entry(self, depth: usize) -> Self
+        requires { depth ≤ most_level }
+        ensures { result ≡ counted self (head_words + depth) }
+    {
+        Tally {
+            words: sum(self.words, HEAD + depth),
+            entries: sum(self.entries, 1),
+        }
     }
 }
 
@@ -35,88 +49,34 @@ pub fn none() -> Tally
 fn sum(a: usize, b: usize) -> usize
     ensures { result ≡ capped a b }
 {
-    if CAP <= a {
-        return CAP;
-    }
-    if CAP - a <= b {
-        return CAP;
-    }
-    a + b
-}
-
-// Writes `src` over `dst` from `at` on.
-fn copy_at(dst: &mut [u32], at: usize, src: &[u32])
-    requires { at + length src.now ≤ length dst.old }
-    ensures { dst.new ≡ over dst.old at src.now }
-{
-    let mut i: usize = 0;
-    while i < src.len() {
-        dst[at + i] = src[i];
-        i = i + 1;
-    }
+    a.saturating_add(b).min(CAP)
 }
 
 // Writes an entry at the front of the tail, if the whole entry fits.
-fn write_entry(tail: &mut [u32], rule: u32, span: Span, path: &[u32])
+fn write_entry(tail: &mut [u32], rule: Rule, span: Span, path: &[u32])
     requires { length path.now ≤ most_level }
     ensures { tail.new
-        ≡ over tail.old 0 (words (record { rule = rule; span = span; path = path.now })) }
+        ≡ over tail.old 0 (words (record { rule = rule_number rule; span = span; path = path.now })) }
 {
     let n = path.len();
     if tail.len() < HEAD + n {
         return;
     }
-    let head = [rule, span.flag, span.start, span.end, n as u32];
-    copy_at(tail, 0, &head);
-    copy_at(tail, HEAD, path);
+    let head = [rule.number(), span.flag, span.start, span.end, n as u32];
+    tail[..HEAD].copy_from_slice(&head);
+    tail[HEAD..HEAD + n].copy_from_slice(path);
 }
 
-// Where `fault` holds, lends the report's tail from word `at` on to the entry writer.
-fn write_if(fault: bool, report: &mut [u32], at: usize, rule: u32, span: Span, path: &[u32])
+// The same from word `at` on.
+fn write_at(report: &mut [u32], at: usize, rule: Rule, span: Span, path: &[u32])
     requires { length path.now ≤ most_level }
     ensures { report.new
-        ≡ cond fault
-        (over report.old at (words (record { rule = rule; span = span; path = path.now })))
-        report.old }
+        ≡ over report.old at (words (record { rule = rule_number rule; span = span; path = path.now })) }
 {
-    if !fault {
-        return;
-    }
     if report.len() < at {
         return;
     }
     write_entry(&mut report[at..], rule, span, path);
-}
-
-// Where `fault` holds, counts an entry whose path has n words.
-fn count_if(fault: bool, tally: Tally, n: usize) -> Tally
-    requires { n ≤ most_level }
-    ensures { result ≡ cond fault (counted tally (head_words + n)) tally }
-{
-    if !fault {
-        return tally;
-    }
-    Tally {
-        words: sum(tally.words, HEAD + n),
-        entries: sum(tally.entries, 1),
-    }
-}
-
-// Where `fault` holds, counts the diagnostic, and writes its entry behind those before it if the whole entry fits.
-pub fn list_if(
-    fault: bool,
-    report: &mut [u32],
-    rule: u32,
-    span: Span,
-    path: &[u32],
-    tally: Tally,
-) -> Tally
-    requires { length path.now ≤ most_level }
-    ensures { Lists tally result report.old report.new
-        (list_if fault rule span path.now) }
-{
-    write_if(fault, report, tally.words, rule, span, path);
-    count_if(fault, tally, path.len())
 }
 
 // A report that a walk writes, with the list's tally. The walk stands at a record of the level `level`, whose path is
@@ -135,7 +95,6 @@ pub struct Report<'a> {
 
 impl<'a> Report<'a> {
     ghost use Rattle.std.specs.Prelude.{◌<◌};
-    ghost use Rattle.leaves.specs.Report.RuleNumbers.{rule_number};
     ghost use Rattle.leaves.specs.Report.Listed.{path_of, Adds, Enters, Leaves};
 
     // A report of no entries, before the first record.
@@ -147,7 +106,7 @@ impl<'a> Report<'a> {
     {
         Report {
             words,
-            tally: none(),
+            tally: Tally::none(),
             path: [0; MOST_LEVEL as usize],
             depth: 0,
             level: 0,
@@ -158,9 +117,12 @@ impl<'a> Report<'a> {
     pub fn list_if(&mut self, fault: bool, rule: Rule, span: Span)
         ensures { Adds self.old self.new (list_if fault (rule_number rule) span (path_of self.old)) }
     {
+        if !fault {
+            return;
+        }
         let path = &self.path[..self.depth];
-        write_if(fault, self.words, self.tally.words, rule.number(), span, path);
-        self.tally = count_if(fault, self.tally, self.depth);
+        write_at(self.words, self.tally.words, rule, span, path);
+        self.tally = self.tally.with_entry(self.depth);
     }
 
     // Goes on to a record of the level `level`, which is the child number `index` of the one before.

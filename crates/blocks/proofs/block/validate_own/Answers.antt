@@ -1,7 +1,6 @@
 -- `blocks::block::validate_own` meets its contract.
 use Rattle.blocks.specs.Block.{validate_own}
 use Rattle.blocks.proofs.BlockLaws.{own-others}
-use borrow.Author.Rules.{rules}
 use Rattle.blocks.proofs.block.validate_own.Goals as goal
 
 pub returns-in-11 : goal.returns-in-11

@@ -2,7 +2,7 @@
 use mathlib.Core.Path.{ap}
 use mathlib.Core.Bool.{not}
 use Rattle.inlines.proofs.WalkLaws.{loop-end}
-use Rattle.inlines.proofs.PathLaws.{paced-start, paced-enter, paced-leave}
+use Rattle.inlines.proofs.PathLaws.{paced-start}
 use Rattle.blocks.proofs.BlockWalkLaws.{block-other, block-items, block-blocks, block-leaf, item-done, blocks-none, blocks-turn, items-none, items-turn}
 use Rattle.blocks.proofs.walk.+walk.Goals as goal
 
