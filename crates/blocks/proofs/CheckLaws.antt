@@ -1,4 +1,5 @@
 -- The answer of the check, by the tests that lead to it.
+use Rattle.std.specs.Prelude.{Err, Ok}
 use mathlib.Core.Path.{◌≡◌, refl, sym, ap, ◌∙◌}
 use mathlib.Core.List.{List, [], ◌∷◌, ◌++◌}
 use Prim.Native.Nat.{ℕ, ◌*◌, ◌^◌, ◌<◌, ◌≤◌}
@@ -10,23 +11,22 @@ use Rattle.leaves.specs.declared.report.entries.Tally.{Tally}
 use Rattle.leaves.proofs.report.EntryLaws.{entries-counted, counted-fits, counted-short, counted-whole, put_whole}
 use Rattle.leaves.specs.Refusal.Judge.{judge_sheet, Judges}
 use Rattle.leaves.specs.Refusal.Formed.{Sound}
-use Rattle.leaves.specs.declared.refusal.verdict.Refusal.{Refusal}
-use Rattle.leaves.specs.declared.refusal.verdict.Judged.{Judged}
-use Rattle.leaves.specs.declared.refusal.verdict.Judged.TheVariants.{Accepted, Refused as Refuses}
+use Rattle.leaves.specs.declared.refusal.verdict.Malformed.{Malformed}
+use Rattle.leaves.specs.Refusal.Verdict.{Judged}
 use Rattle.leaves.proofs.refusal.FormedLaws.{accepted}
 use Rattle.blocks.specs.Walk.{validate_document}
 use Rattle.blocks.specs.Check.{checked_answer, outcome}
 use Rattle.blocks.specs.declared.answer.Checked.TheVariants.{Listed, Refused, ShortReport}
 
 module _ (w bytes : List ℕ) {j : Judged} (e : Judges w bytes j) where
-  pub check-refused : (x : List ℕ) {refusal : Refusal} → j ≡ Refuses refusal → (checked_answer (Refused refusal), x) ≡ outcome w bytes x
+  pub check-refused : (x : List ℕ) {refusal : Malformed} → j ≡ Err refusal → (checked_answer (Refused refusal), x) ≡ outcome w bytes x
   unfolding outcome
-  check-refused x {refusal} h = let r : judge_sheet w bytes ≡ Refuses refusal = sym e.enum ∙ h in rw r
+  check-refused x {refusal} h = let r : judge_sheet w bytes ≡ Err refusal = sym e.enum ∙ h in rw r
 
-  pub accepts : j ≡ Accepted → judge_sheet w bytes ≡ Accepted
+  pub accepts : j ≡ Ok tt → judge_sheet w bytes ≡ Ok tt
   accepts h = sym e.enum ∙ h
 
-  pub check_sound : j ≡ Accepted → Sound w bytes
+  pub check_sound : j ≡ Ok tt → Sound w bytes
   check_sound h = accepted w bytes (accepts h)
 
 -- ---- a sheet that is accepted: what the first walk measured, and what the second wrote
@@ -34,7 +34,7 @@ pub no-entries : (es : List Entry) → length es ≡ 0 → es ≡ []
 no-entries [] h = refl
 no-entries (e ∷ es) h = absurd (omega arith)
 
-module _ (w bytes x : List ℕ) (a : judge_sheet w bytes ≡ Accepted) (room : length x * 4 < 2 ^ 63) where
+module _ (w bytes x : List ℕ) (a : judge_sheet w bytes ≡ Ok tt) (room : length x * 4 < 2 ^ 63) where
   is-listed : length (flat (validate_document w bytes)) ≤ length x → outcome w bytes x ≡ (checked_answer (Listed (length (validate_document w bytes))), flat (validate_document w bytes) ++ drop (length (flat (validate_document w bytes))) x)
   unfolding outcome
   is-listed h = rw (a, le-ltb _ _ h)

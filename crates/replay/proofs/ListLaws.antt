@@ -1,4 +1,5 @@
 -- The list of a paragraph's inlines, and what is compared of it.
+use Rattle.std.specs.Prelude.{is_ok}
 use mathlib.Core.Path.{◌≡◌, refl, sym, ap, ◌∙◌}
 use mathlib.Core.Bool.{Bool, true, false, ◌&&◌}
 use mathlib.Core.List.{List, [], ◌∷◌}
@@ -11,9 +12,8 @@ use Rattle.leaves.specs.Text.Part.{part_of}
 use Rattle.leaves.specs.Sheet.Records.{records_of}
 use Rattle.leaves.specs.Sheet.Forest.{under}
 use Rattle.leaves.specs.Refusal.Judge.{Judges}
-use Rattle.leaves.specs.Refusal.Verdict.{is_accepted}
 use Rattle.leaves.specs.Report.Entries.{start}
-use Rattle.leaves.specs.declared.refusal.verdict.Judged.{Judged}
+use Rattle.leaves.specs.Refusal.Verdict.{Judged}
 use Rattle.leaves.specs.declared.report.entries.Tally.{Tally as Words}
 use Rattle.inlines.specs.Nodes.{validate_inlines}
 use Rattle.inlines.specs.Walk.{Start, Done}
@@ -33,14 +33,14 @@ module _ (w bytes report : List ℕ) where
   unfolding listed_of
   listed-none h = rw (lt-ltb (records_of w) 1 h) (record { first = refl; second = refl })
 
-  module _ (j : Judged) (t : Bool) (some : 1 ≤ records_of w) (judged : Judges w bytes j) (told : t ≡ is_accepted j) where
+  module _ (j : Judged) (t : Bool) (some : 1 ≤ records_of w) (judged : Judges w bytes j) (told : t ≡ is_ok j) where
     pub listed-refused : t ≡ false → Gives (listed_of w bytes report) 0 report
     unfolding listed_of
-    listed-refused e = rw (le-ltb (records_of w) 1 some, sym (ap is_accepted judged.enum) ∙ sym told ∙ e) (record { first = refl; second = refl })
+    listed-refused e = rw (le-ltb (records_of w) 1 some, sym (ap is_ok judged.enum) ∙ sym told ∙ e) (record { first = refl; second = refl })
 
     pub listed-some : t ≡ true → (s : Words) (q : Walked) (left : List ℕ) → s ≡ start → Done w (records_of w) 1 1 (validate_inlines bytes (0 ∷ []) (under w (records_of w) 1 1)) s report q left → Gives (listed_of w bytes report) q.tally.words left
     unfolding listed_of
-    listed-some e s q left n d = rw (le-ltb (records_of w) 1 some, sym (ap is_accepted judged.enum) ∙ sym told ∙ e) (record { first = rw (← n) (ap (λ (u : Words). u.words) d.lists.tally); second = rw (← n) d.lists.written })
+    listed-some e s q left n d = rw (le-ltb (records_of w) 1 some, sym (ap is_ok judged.enum) ∙ sym told ∙ e) (record { first = rw (← n) (ap (λ (u : Words). u.words) d.lists.tally); second = rw (← n) d.lists.written })
 
     pub list-starts : t ≡ true → Start w (0 ∷ []) (records_of w) 1
     list-starts e = start_of (accepted w bytes (sym judged.enum ∙ is-accepted j (sym told ∙ e))) refl (search rules) (search rules)

@@ -1,4 +1,5 @@
 -- The machine's loop, a turn for each opening and closing: what is kept by level is what the open records show, and what is left decides the answer and the marks.
+use Rattle.std.specs.Prelude.{Ok}
 use mathlib.Core.Path.{◌≡◌, refl, sym, ap, ◌∙◌}
 use mathlib.Core.Bool.{Bool, true, false, ◌||◌}
 use mathlib.Core.List.{List, [], ◌∷◌}
@@ -16,7 +17,6 @@ use Rattle.leaves.specs.Sheet.Forest.{records_from}
 use Rattle.leaves.specs.declared.sheet.records.Rec.{Rec}
 use Rattle.leaves.specs.Refusal.Judge.{judge_sheet}
 use Rattle.leaves.specs.Refusal.Record.{level_before}
-use Rattle.leaves.specs.declared.refusal.verdict.Judged.TheVariants.{Accepted}
 use Rattle.leaves.proofs.text.TestLaws.{or_left, or_right}
 use Rattle.leaves.proofs.refusal.PassLaws.{Deep, deep}
 use Rattle.leaves.proofs.refusal.FormedLaws.{each-passed, accepted}
@@ -35,7 +35,7 @@ use Rattle.setter.specs.MachineRunning.{next_level}
 use Rattle.setter.specs.declared.answer.Setting.TheVariants.{Ended, Stopped}
 
 -- ---- the levels of an accepted sheet
-module _ (w bytes : List ℕ) (ok : judge_sheet w bytes ≡ Accepted) where
+module _ (w bytes : List ℕ) (ok : judge_sheet w bytes ≡ Ok tt) where
   deep-at : (i : ℕ) → i < records_of w → Deep (level_before w i) (record_at w i).level
   deep-at i h = deep (level_before w i) (record_at w i).level (each-passed w bytes ok i h).level
 
@@ -88,7 +88,7 @@ module _ (w : List ℕ) (n : ℕ) (os : List Kept) (j : ℕ) (q : Kept) where
 
 -- n records, of which i have opened, and the records from the sheet down to a level are open: `old` are the marks before, and `new` those so far
 pub record Running (w bytes old : List ℕ) (n : ℕ) (new : List ℕ) (os : List Kept) (depth i : ℕ) : Type 0 where
-  pub ok : judge_sheet w bytes ≡ Accepted
+  pub ok : judge_sheet w bytes ≡ Ok tt
   pub all : n ≡ records_of w
   pub few : n ≤ 65535
   pub room : n ≤ length new
@@ -104,7 +104,7 @@ pub record Running (w bytes old : List ℕ) (n : ℕ) (new : List ℕ) (os : Lis
   pub ends : (run w bytes).end ≡ (run_of bytes (steps_from (record { top = top; around = around }) i (records_from w (n - i) i))).end
   pub marked : marks_of (run w bytes).steps old ≡ marks_of (run_of bytes (steps_from (record { top = top; around = around }) i (records_from w (n - i) i))).steps new
 
-pub run-start : (w bytes marks : List ℕ) (n : ℕ) {k : Kept} → k ≡ kept_of the_sheet [] → judge_sheet w bytes ≡ Accepted → n ≡ records_of w → n ≤ length marks → Running w bytes marks n marks (replicate 65 k) 0 0
+pub run-start : (w bytes marks : List ℕ) (n : ℕ) {k : Kept} → k ≡ kept_of the_sheet [] → judge_sheet w bytes ≡ Ok tt → n ≡ records_of w → n ≤ length marks → Running w bytes marks n marks (replicate 65 k) 0 0
 unfolding Held last_mark run steps_of
 run-start w bytes marks n e ok all room =
     record {

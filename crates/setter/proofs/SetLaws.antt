@@ -1,4 +1,5 @@
 -- The answer of the machine, by the tests that lead to it.
+use Rattle.std.specs.Prelude.{Err, Ok}
 use mathlib.Core.Path.{◌≡◌, refl, sym, ap, ◌∙◌}
 use mathlib.Core.Bool.{true}
 use mathlib.Core.List.{List}
@@ -13,23 +14,22 @@ use Rattle.leaves.specs.Refusal.Verdict.{refusal_answer}
 use Rattle.leaves.proofs.refusal.VerdictLaws.{same_number, same-value, refusal-numbered, refusal-one}
 use Rattle.leaves.specs.Sheet.Records.{records_of}
 use Rattle.leaves.specs.Refusal.Judge.{judge_sheet, Judges}
-use Rattle.leaves.specs.declared.refusal.verdict.Refusal.{Refusal}
-use Rattle.leaves.specs.declared.refusal.verdict.Judged.{Judged}
-use Rattle.leaves.specs.declared.refusal.verdict.Judged.TheVariants.{Accepted, Refused as Refuses}
+use Rattle.leaves.specs.declared.refusal.verdict.Malformed.{Malformed}
+use Rattle.leaves.specs.Refusal.Verdict.{Judged}
 use Rattle.setter.specs.Answer.{setting_answer, last_stop, is_proper, Answers}
 use Rattle.setter.specs.Setting.{after_run, setting_of}
 use Rattle.setter.specs.declared.answer.Setting.{Setting}
 use Rattle.setter.specs.declared.answer.Setting.TheVariants.{Ended, Stopped, Refused, ShortMarks}
 
 module _ (w bytes : List ℕ) {j : Judged} (e : Judges w bytes j) where
-  pub set-refused : (x : List ℕ) {refusal : Refusal} → j ≡ Refuses refusal → Answers (setting_of w bytes x) (Refused refusal) x
+  pub set-refused : (x : List ℕ) {refusal : Malformed} → j ≡ Err refusal → Answers (setting_of w bytes x) (Refused refusal) x
   unfolding setting_of
-  set-refused x {refusal} h = let r : judge_sheet w bytes ≡ Refuses refusal = sym e.enum ∙ h in record { answer = rw r; proper = refl }
+  set-refused x {refusal} h = let r : judge_sheet w bytes ≡ Err refusal = sym e.enum ∙ h in record { answer = rw r; proper = refl }
 
-  pub set-accepts : j ≡ Accepted → judge_sheet w bytes ≡ Accepted
+  pub set-accepts : j ≡ Ok tt → judge_sheet w bytes ≡ Ok tt
   set-accepts h = sym e.enum ∙ h
 
-module _ (w bytes x : List ℕ) (a : judge_sheet w bytes ≡ Accepted) where
+module _ (w bytes x : List ℕ) (a : judge_sheet w bytes ≡ Ok tt) where
   pub set-short : length x < records_of w → Answers (setting_of w bytes x) ShortMarks x
   unfolding setting_of
   set-short h = record { answer = rw (a, lt-ltb _ _ h); proper = refl }
@@ -47,7 +47,7 @@ placed : (n : ℕ) → between 1 last_stop n ≡ true → Placed n
 placed n h = record { low = leb-true 1 n (and_left (leb 1 n) (leb n last_stop) h); high = leb-true n last_stop (and_right (leb 1 n) (leb n last_stop) h) }
 
 -- a refusal's own answer, from that of the machine
-refusal-same : (r s : Refusal) → setting_answer (Refused r) ≡ setting_answer (Refused s) → refusal_answer r ≡ refusal_answer s
+refusal-same : (r s : Malformed) → setting_answer (Refused r) ≡ setting_answer (Refused s) → refusal_answer r ≡ refusal_answer s
 refusal-same r s e =
     let n : (refusal_answer r).number ≡ (refusal_answer s).number = omega (arith, same_number e) in
     let v : (refusal_answer r).value ≡ (refusal_answer s).value = same-value e in

@@ -1,4 +1,5 @@
 -- The tests of a record, one after another.
+use Rattle.std.specs.Prelude.{Err, Ok}
 use mathlib.Core.Path.{◌≡◌, ◌∙◌}
 use mathlib.Core.Bool.{Bool, true, false, ◌||◌}
 use mathlib.Core.List.{List}
@@ -12,41 +13,40 @@ use Rattle.leaves.specs.Sheet.Texts.{text_outside, text_ill_formed}
 use Rattle.leaves.specs.Refusal.Record.{bad_level, judge_texts, judge}
 use Rattle.leaves.specs.declared.sheet.records.Rec.{Rec}
 use Rattle.leaves.specs.declared.refusal.places.Open.{Open}
-use Rattle.leaves.specs.declared.refusal.verdict.Judged.{Judged}
-use Rattle.leaves.specs.declared.refusal.verdict.Refusal.TheVariants.{UnknownKind, BadLevel, Misplaced, BadField, TextOutside, NotUtf8}
-use Rattle.leaves.specs.declared.refusal.verdict.Judged.TheVariants.{Accepted, Refused}
+use Rattle.leaves.specs.Refusal.Verdict.{Judged}
+use Rattle.leaves.specs.declared.refusal.verdict.Malformed.TheVariants.{UnknownKind, BadLevel, Misplaced, BadField, TextOutside, NotUtf8}
 
 module _ (bytes : List ℕ) (i : ℕ) (r : Rec) {p q : Bool} (ep : p ≡ text_outside bytes r.first) (eq : q ≡ text_outside bytes r.second) where
-  pub texts-outside : (p || q) ≡ true → Refused (TextOutside i) ≡ judge_texts bytes i r
+  pub texts-outside : (p || q) ≡ true → Err (TextOutside i) ≡ judge_texts bytes i r
   unfolding judge_texts
   texts-outside y = rw (← ep, ← eq, y)
 
   module _ {u v : Bool} (n : (p || q) ≡ false) (eu : u ≡ text_ill_formed bytes r.first) (ev : v ≡ text_ill_formed bytes r.second) where
-    pub texts-ill : (u || v) ≡ true → Refused (NotUtf8 i) ≡ judge_texts bytes i r
+    pub texts-ill : (u || v) ≡ true → Err (NotUtf8 i) ≡ judge_texts bytes i r
     unfolding judge_texts
     texts-ill y = rw (← ep, ← eq, n, ← eu, ← ev, y)
 
-    pub texts-pass : (u || v) ≡ false → Accepted ≡ judge_texts bytes i r
+    pub texts-pass : (u || v) ≡ false → Ok tt ≡ judge_texts bytes i r
     unfolding judge_texts
     texts-pass y = rw (← ep, ← eq, n, ← eu, ← ev, y)
 
 module _ (bytes : List ℕ) (i : ℕ) (r : Rec) (before : ℕ) (o : Open) {k : Bool} (ek : k ≡ is_kind r.kind) where
-  pub judge-kind : k ≡ false → Refused (UnknownKind i) ≡ judge bytes i r before o
+  pub judge-kind : k ≡ false → Err (UnknownKind i) ≡ judge bytes i r before o
   unfolding judge
   judge-kind n = rw (← ek, n)
 
   module _ {l : Bool} (yk : k ≡ true) (el : l ≡ bad_level before r.level) where
-    pub judge-level : l ≡ true → Refused (BadLevel i) ≡ judge bytes i r before o
+    pub judge-level : l ≡ true → Err (BadLevel i) ≡ judge bytes i r before o
     unfolding judge
     judge-level y = rw (← ek, yk, ← el, y)
 
     module _ {m : Bool} (nl : l ≡ false) (em : m ≡ misplaced o r.kind) where
-      pub judge-place : m ≡ true → Refused (Misplaced i) ≡ judge bytes i r before o
+      pub judge-place : m ≡ true → Err (Misplaced i) ≡ judge bytes i r before o
       unfolding judge
       judge-place y = rw (← ek, yk, ← el, nl, ← em, y)
 
       module _ {f : Bool} (nm : m ≡ false) (ef : f ≡ bad_field r) where
-        pub judge-field : f ≡ true → Refused (BadField i) ≡ judge bytes i r before o
+        pub judge-field : f ≡ true → Err (BadField i) ≡ judge bytes i r before o
         unfolding judge
         judge-field y = rw (← ek, yk, ← el, nl, ← em, nm, ← ef, y)
 

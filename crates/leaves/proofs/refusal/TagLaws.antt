@@ -1,4 +1,5 @@
 -- Refusal 10: once the records are placed, a container's tags are the two records after it.
+use Rattle.std.specs.Prelude.{Err, Ok}
 use mathlib.Core.Path.{◌≡◌, refl, sym, ap, ◌∙◌}
 use mathlib.Core.Bool.{Bool, true, false, not, ◌&&◌, ◌||◌, true≢false, and-false, and-true}
 use mathlib.Core.List.{List}
@@ -20,8 +21,7 @@ use Rattle.leaves.specs.Refusal.Tags.{lacks_tags, tags_from}
 use Rattle.leaves.specs.Refusal.TagsPlaced.{Placed, tag_under}
 use Rattle.leaves.specs.declared.sheet.records.Rec.{Rec}
 use Rattle.leaves.specs.declared.refusal.places.Open.{Open}
-use Rattle.leaves.specs.declared.refusal.verdict.Refusal.TheVariants.{TagsMissing}
-use Rattle.leaves.specs.declared.refusal.verdict.Judged.TheVariants.{Accepted, Refused}
+use Rattle.leaves.specs.declared.refusal.verdict.Malformed.TheVariants.{TagsMissing}
 use Rattle.leaves.proofs.text.TestLaws.{or_right}
 use Rattle.leaves.proofs.refusal.OpenLaws.{open-kid, open-same}
 use Rattle.leaves.proofs.refusal.PassLaws.{Deep, deep}
@@ -175,18 +175,18 @@ pub record Tagging (w : List ℕ) (n i : ℕ) : Type 0 where
 pub tagging-start : (w : List ℕ) (n : ℕ) → Tagging w n 0
 tagging-start w n = record { within = omega arith; same = rw sub-zero }
 
-tags-step : (w : List ℕ) (n i : ℕ) → i < n → tags_from w n (n - i) i ≡ (when lacks_tags w n i then Refused (TagsMissing i) else tags_from w n (n - (i + 1)) (i + 1))
+tags-step : (w : List ℕ) (n i : ℕ) → i < n → tags_from w n (n - i) i ≡ (when lacks_tags w n i then Err (TagsMissing i) else tags_from w n (n - (i + 1)) (i + 1))
 unfolding tags_from
 tags-step w n i h = let e : n - i ≡ suc (n - (i + 1)) = omega arith in rw (e, add-one i)
 
 module _ (w : List ℕ) (n i : ℕ) (h : i < n) (v : Tagging w n i) {t : Bool} (e : t ≡ lacks_tags w n i) where
-  pub tagging-stop : t ≡ true → Refused (TagsMissing i) ≡ tags_from w n n 0
+  pub tagging-stop : t ≡ true → Err (TagsMissing i) ≡ tags_from w n n 0
   tagging-stop y = sym (v.same ∙ tags-step w n i h ∙ rw (← e, y))
 
   pub tagging-turn : t ≡ false → Tagging w n (i + 1)
   tagging-turn o = record { within = omega arith; same = v.same ∙ tags-step w n i h ∙ rw (← e, o) }
 
-pub tagging-end : (w : List ℕ) (n i : ℕ) → n ≤ i → Tagging w n i → Accepted ≡ tags_from w n n 0
+pub tagging-end : (w : List ℕ) (n i : ℕ) → n ≤ i → Tagging w n i → Ok tt ≡ tags_from w n n 0
 unfolding tags_from
 tagging-end w n i h v = let e : n - i ≡ 0 = omega (arith, v.within) in sym (v.same ∙ rw e)
 

@@ -7,7 +7,7 @@ ghost use Rattle.leaves.specs.Refusal.Record.{bad_level, judge_texts, judge};
 
 use crate::refusal::limits::MOST_LEVEL;
 use crate::refusal::places::Open;
-use crate::refusal::verdict::{Judged, Refusal};
+use crate::refusal::verdict::Malformed;
 use crate::refusal::{fields, places};
 use crate::sheet::records::Rec;
 use crate::sheet::{kinds, texts};
@@ -21,18 +21,18 @@ fn bad_level(before: u32, level: u32) -> bool
 }
 
 // The tests 8 and 9.
-fn judge_texts(bytes: &[u8], i: usize, r: Rec) -> Judged
+fn judge_texts(bytes: &[u8], i: usize, r: Rec) -> Result<(), Malformed>
     ensures { result ≡ judge_texts bytes.now i r }
 {
     let first = r.first;
     let second = r.second;
     if texts::text_outside(bytes, first) | texts::text_outside(bytes, second) {
-        return Judged::Refused(Refusal::TextOutside(i));
+        return Err(Malformed::TextOutside(i));
     }
     if texts::text_ill_formed(bytes, first) | texts::text_ill_formed(bytes, second) {
-        return Judged::Refused(Refusal::NotUtf8(i));
+        return Err(Malformed::NotUtf8(i));
     }
-    Judged::Accepted
+    Ok(())
 }
 
 // The tests 4 to 9 of record `i`.
@@ -44,21 +44,21 @@ pub(crate) fn judge(
     r: Rec,
     before: u32,
     o: Open,
-) -> Judged
+) -> Result<(), Malformed>
     requires { (table.now ≡ place_table) × (groups.now ≡ kind_groups) × (before ≤ most_level) }
     ensures { result ≡ judge bytes.now i r before o }
 {
     if !kinds::is_kind(r.kind) {
-        return Judged::Refused(Refusal::UnknownKind(i));
+        return Err(Malformed::UnknownKind(i));
     }
     if bad_level(before, r.level) {
-        return Judged::Refused(Refusal::BadLevel(i));
+        return Err(Malformed::BadLevel(i));
     }
     if places::misplaced(table, groups, o, r.kind) {
-        return Judged::Refused(Refusal::Misplaced(i));
+        return Err(Malformed::Misplaced(i));
     }
     if fields::bad_field(r) {
-        return Judged::Refused(Refusal::BadField(i));
+        return Err(Malformed::BadField(i));
     }
     judge_texts(bytes, i, r)
 }

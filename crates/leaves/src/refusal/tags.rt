@@ -4,7 +4,7 @@ ghost use Rattle.leaves.specs.Sheet.Records.{record_words};
 ghost use Rattle.leaves.specs.Refusal.Tags.{lacks_tags, tags_from};
 ghost use Rattle.leaves.specs.Refusal.TagsPlaced.{Containers, tag_under};
 
-use crate::refusal::verdict::{Judged, Refusal};
+use crate::refusal::verdict::Malformed;
 use crate::sheet::{kinds, records};
 
 // Whether record `i` is there, is an HTML tag, and is deeper than `level`.
@@ -31,16 +31,14 @@ fn lacks_tags(sheet: &[u32], n: usize, i: usize) -> bool
 }
 
 // Makes test 10, and answers the first container that lacks a tag.
-pub(crate) fn judge_tags(sheet: &[u32], n: usize) -> Judged
+pub(crate) fn judge_tags(sheet: &[u32], n: usize) -> Result<(), Malformed>
     requires { Containers sheet.now n }
     ensures { result ≡ tags_from sheet.now n n 0 }
 {
-    let mut i: usize = 0;
-    while i < n {
+    for i in 0..n {
         if lacks_tags(sheet, n, i) {
-            return Judged::Refused(Refusal::TagsMissing(i));
+            return Err(Malformed::TagsMissing(i));
         }
-        i = i + 1;
     }
-    Judged::Accepted
+    Ok(())
 }
