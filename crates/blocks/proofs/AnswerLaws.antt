@@ -29,20 +29,20 @@ use Rattle.leaves.proofs.refusal.VerdictLaws.{is-accepted, same_number, same-val
 use Rattle.blocks.specs.Walk.{validate_document}
 use Rattle.blocks.specs.Check.{checked_answer, outcome}
 use Rattle.blocks.proofs.CountLaws.{few-accepted}
-use Rattle.blocks.specs.declared.answer.Checked.{Checked}
-use Rattle.blocks.specs.declared.answer.Checked.TheVariants.{Listed, Refused, ShortReport}
+use Rattle.blocks.specs.Answer.{Checked}
+use Rattle.blocks.specs.declared.answer.CheckError.TheVariants.{Malformed, ShortReport}
 
 -- ---- number and value tell which answer it is
 pub checked-one : (c d : Checked) → checked_answer c ≡ checked_answer d → c ≡ d
-checked-one (Listed m) (Listed n) e = ap Listed (same-value e)
-checked-one (Listed m) (Refused r) e = absurd (omega (arith, same_number e, (refusal-numbered r).some))
-checked-one (Listed m) ShortReport e = absurd (omega (arith, same_number e))
-checked-one (Refused r) (Listed n) e = absurd (omega (arith, same_number e, (refusal-numbered r).some))
-checked-one (Refused r) (Refused s) e = ap Refused (refusal-one r s e)
-checked-one (Refused r) ShortReport e = absurd (omega (arith, same_number e, (refusal-numbered r).most))
-checked-one ShortReport (Listed n) e = absurd (omega (arith, same_number e))
-checked-one ShortReport (Refused r) e = absurd (omega (arith, same_number e, (refusal-numbered r).most))
-checked-one ShortReport ShortReport e = refl
+checked-one (Ok m) (Ok n) e = ap Ok (same-value e)
+checked-one (Ok m) (Err (Malformed r)) e = absurd (omega (arith, same_number e, (refusal-numbered r).some))
+checked-one (Ok m) (Err ShortReport) e = absurd (omega (arith, same_number e))
+checked-one (Err (Malformed r)) (Ok n) e = absurd (omega (arith, same_number e, (refusal-numbered r).some))
+checked-one (Err (Malformed r)) (Err (Malformed s)) e = ap (λ m. Err (Malformed m)) (refusal-one r s e)
+checked-one (Err (Malformed r)) (Err ShortReport) e = absurd (omega (arith, same_number e, (refusal-numbered r).most))
+checked-one (Err ShortReport) (Ok n) e = absurd (omega (arith, same_number e))
+checked-one (Err ShortReport) (Err (Malformed r)) e = absurd (omega (arith, same_number e, (refusal-numbered r).most))
+checked-one (Err ShortReport) (Err ShortReport) e = refl
 
 -- ---- the record of a refusal
 either : (b : Bool) (j k : Judged) (n : ℕ) → (judged_answer j).value ≤ n → (judged_answer k).value ≤ n → (judged_answer (when b then j else k)).value ≤ n
@@ -53,7 +53,7 @@ texts-record : (bytes : List ℕ) (i : ℕ) (r : Rec) → (judged_answer (judge_
 unfolding judge_texts
 texts-record bytes i r =
     let ill = text_ill_formed bytes r.first || text_ill_formed bytes r.second in
-    either (text_outside bytes r.first || text_outside bytes r.second) (Err (TextOutside i)) (when ill then Err (NotUtf8 i) else Ok tt) i (omega arith) (either ill (Err (NotUtf8 i)) Ok tt i (omega arith) (omega arith))
+    either (text_outside bytes r.first || text_outside bytes r.second) (Err (TextOutside i)) (when ill then Err (NotUtf8 i) else Ok tt) i (omega arith) (either ill (Err (NotUtf8 i)) (Ok tt) i (omega arith) (omega arith))
 
 judge-record : (bytes : List ℕ) (i : ℕ) (r : Rec) (before : ℕ) (o : Open) → (judged_answer (judge bytes i r before o)).value ≤ i
 unfolding judge
