@@ -15,10 +15,9 @@ use Rattle.leaves.specs.Refusal.Judge.{judge_sheet, sheet_answer}
 use Rattle.leaves.proofs.refusal.VerdictLaws.{none-refused, is-accepted}
 use Rattle.blocks.specs.Walk.{validate_document}
 use Rattle.blocks.specs.Check.{checked_answer, outcome}
-use Rattle.blocks.specs.declared.answer.Checked.{Checked}
-use Rattle.setter.specs.Answer.{Answers}
+use Rattle.blocks.specs.Answer.{Checked}
+use Rattle.setter.specs.Answer.{Set, Answers}
 use Rattle.setter.specs.Setting.{setting_of}
-use Rattle.setter.specs.declared.answer.Setting.{Setting}
 use Rattle.setter.specs.Agrees.{Agrees, Demand}
 use Rattle.setter.proofs.agrees.Demand.{demand-accepted}
 use Rattle.setter.specs.Both.{ChecksAndSets}
@@ -46,7 +45,7 @@ pub written-agrees : (w bytes x : List ℕ) {y : List ℕ} {n : ℕ} → Written
 unfolding Demand
 written-agrees w bytes x b = rw (b.count, b.holds, read_back (validate_document w bytes) (drop (length (flat (validate_document w bytes))) x)) (demand-accepted w bytes b.accepted)
 
-pub both-done : (w bytes report marks : List ℕ) {checked : Checked} {y : List ℕ} {set : Setting} {marked : List ℕ} → (checked_answer checked, y) ≡ outcome w bytes report → Answers (setting_of w bytes marks) set marked → ChecksAndSets w bytes report marks checked y set marked
+pub both-done : (w bytes report marks : List ℕ) {checked : Checked} {y : List ℕ} {set : Set} {marked : List ℕ} → (checked_answer checked, y) ≡ outcome w bytes report → Answers (setting_of w bytes marks) set marked → ChecksAndSets w bytes report marks checked y set marked
 both-done w bytes report marks {checked} {y} c m =
     let a : checked_answer checked ≡ (outcome w bytes report).0 = ap (λ (p : Answer × List ℕ). p.0) c in
     let b : y ≡ (outcome w bytes report).1 = ap (λ (p : Answer × List ℕ). p.1) c in

@@ -15,9 +15,8 @@ use Rattle.leaves.proofs.refusal.VerdictLaws.{is-accepted}
 use Rattle.blocks.specs.Check.{outcome}
 use Rattle.blocks.proofs.AnswerLaws.{judged-record, value-word}
 use Rattle.setter.specs.Machine.{run_answer}
-use Rattle.setter.specs.Answer.{setting_answer, Answers}
+use Rattle.setter.specs.Answer.{Set, setting_answer, Answers}
 use Rattle.setter.specs.Setting.{after_run, setting_of}
-use Rattle.setter.specs.declared.answer.Setting.{Setting}
 use Rattle.setter.specs.Agrees.{Agrees}
 use Rattle.setter.specs.Exports.{Halves, CheckPromise, SetPromise, Shipped}
 use Rattle.setter.proofs.agrees.Inside.{run_inside}
@@ -44,7 +43,7 @@ set_word w bytes x = go (is_ok (judge_sheet w bytes)) refl (ltb (length x) (reco
     go true a true f = rw (a, f) (omega arith)
     go true a false f = rw (a, f) (omega (arith, run_inside w bytes (is-accepted (judge_sheet w bytes) a)))
 
-module _ (w bytes x : List ℕ) {s : Setting} {y : List ℕ} (e : Answers (setting_of w bytes x) s y) {n v : ℕ} (a : n ≡ (setting_answer s).number) (b : v ≡ (setting_answer s).value) where
+module _ (w bytes x : List ℕ) {s : Set} {y : List ℕ} (e : Answers (setting_of w bytes x) s y) {n v : ℕ} (a : n ≡ (setting_answer s).number) (b : v ≡ (setting_answer s).value) where
   of-set : answer n v ≡ (setting_of w bytes x).0
   of-set = rw (a, b) (ap (λ (p : Answer × List ℕ). p.0) e.answer)
 

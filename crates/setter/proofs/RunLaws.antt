@@ -28,11 +28,13 @@ use Rattle.setter.specs.Seen.{only_empty, last_mark, item_mark, seen}
 use Rattle.setter.proofs.StepLaws.{Low, open-one, close-one, goes_on, stops-here}
 use Rattle.setter.specs.Kept.{most_kids, most_item_mark, kept_of, seen_by, opened_in, joined_by}
 use Rattle.setter.specs.declared.kept.Kept.{Kept}
-use Rattle.setter.proofs.KeptLaws.{seen-kept, opened-kept, joined-kept, proper-stop, small-number}
-use Rattle.setter.specs.Answer.{Answers}
+use Rattle.setter.proofs.SetLaws.{stop-numbered}
+use Rattle.setter.proofs.KeptLaws.{seen-kept, opened-kept, joined-kept, small-number}
+use Rattle.setter.specs.Answer.{stop_number, Answers}
 use Rattle.setter.specs.Setting.{after_run}
 use Rattle.setter.specs.MachineRunning.{next_level}
 use Rattle.setter.specs.declared.answer.Setting.TheVariants.{Ended, Stopped}
+use Rattle.setter.specs.declared.answer.Stop.{Stop}
 
 -- ---- the levels of an accepted sheet
 module _ (w bytes : List ℕ) (ok : judge_sheet w bytes ≡ Ok tt) where
@@ -138,7 +140,7 @@ unfolding records_from
 left-none w n i h = let e : n - i ≡ 0 = omega arith in rw e
 
 -- after the last record nothing is open
-pub run_end : (w bytes old : List ℕ) (n : ℕ) (new : List ℕ) (os : List Kept) (depth i : ℕ) → Running w bytes old n new os depth i → (ltb i n || ltb 0 depth) ≡ false → Answers (after_run w bytes old) (Ended n) new
+pub run_end : (w bytes old : List ℕ) (n : ℕ) (new : List ℕ) (os : List Kept) (depth i : ℕ) → Running w bytes old n new os depth i → (ltb i n || ltb 0 depth) ≡ false → Answers (after_run w bytes old) (Ok (Ended n)) new
 unfolding after_run run_answer steps_from closings run_of marks_of
 run_end w bytes old n new os depth i v h = go v.around refl
   where
@@ -148,9 +150,9 @@ run_end w bytes old n new os depth i v h = go v.around refl
     none_open : depth ≤ 0
     none_open = ltb-false 0 depth (or_right (ltb i n) (ltb 0 depth) h)
 
-    go : (st : List Frame) → v.around ≡ st → Answers (after_run w bytes old) (Ended n) new
+    go : (st : List Frame) → v.around ≡ st → Answers (after_run w bytes old) (Ok (Ended n)) new
     go (g ∷ st) e = absurd (omega (arith, v.deep, ap length e, none_open))
-    go [] e = record { answer = rw (v.ends, v.marked, e, left-none w n i out, v.all); proper = refl }
+    go [] e = record { answer = rw (v.ends, v.marked, e, left-none w n i out, v.all) }
 
 -- ---- a turn that closes the innermost record
 
@@ -257,11 +259,12 @@ module _ (w bytes old : List ℕ) (n : ℕ) (new : List ℕ) (os : List Kept) (d
     unfolding stop_of kept_of
     closes-stop = es bytes ∙ rw (top_kept, under-kept, closes-of) (ap (stop_at closing bytes z.top.of) (seen-kept z.top z.under z.around))
 
-    pub close-stop : (s ≡ 0 → ⊥) → Answers (after_run w bytes old) (Stopped s (get_or os depth unkept).at) new
+    pub close-stop : {stop : Stop} → s ≡ stop_number stop → Answers (after_run w bytes old) (Ok (Stopped stop (get_or os depth unkept).at)) new
     unfolding after_run run_answer marks_of
-    close-stop h =
+    close-stop {stop} e =
+        let h : (s ≡ 0 → ⊥) = λ n. omega (arith, (stop-numbered stop).low) in
         let here = stops-here bytes (closes z.top (z.under ∷ z.around)) after-close (rw closes-stop at h) in
-        record { answer = rw (z.ends, z.marked, here, top-at, closes-stop); proper = proper-stop closing [] r _ (es []) h }
+        record { answer = rw (z.ends, z.marked, here, top-at, ← e, closes-stop) }
 
     pub close-turn : {q : Kept} → s ≡ 0 → q ≡ joined_by (get_or os (depth - 1) unkept) r → Running w bytes old n new (set os (depth - 1) q) (depth - 1) i
     unfolding Held marks_of last_mark
@@ -354,11 +357,12 @@ module _ (w bytes old : List ℕ) (n : ℕ) (new : List ℕ) (os : List Kept) (d
     unfolding stop_of
     opens-stop = es ∙ rw (seen-is, er)
 
-    pub open-stop : (s ≡ 0 → ⊥) → Answers (after_run w bytes old) (Stopped s i) new
+    pub open-stop : {stop : Stop} → s ≡ stop_number stop → Answers (after_run w bytes old) (Ok (Stopped stop i)) new
     unfolding after_run run_answer marks_of
-    open-stop h =
+    open-stop {stop} e =
+        let h : (s ≡ 0 → ⊥) = λ n. omega (arith, (stop-numbered stop).low) in
         let here = stops-here bytes open_step after_open (rw opens-stop at h) in
-        record { answer = rw (z.running.ends, z.running.marked, steps-are, here, opens-stop); proper = proper-stop opening bytes r _ es h }
+        record { answer = rw (z.running.ends, z.running.marked, steps-are, here, ← e, opens-stop) }
 
     pub open_turn : {m : ℕ} {q : Kept} → s ≡ 0 → m ≡ mark_of r (seen_by r (get_or os depth unkept) 0 true) → q ≡ opened_in i r (get_or os depth unkept) → Running w bytes old n (set new i m) (set os (depth + 1) q) (depth + 1) (i + 1)
     unfolding Held marks_of last_mark stop_of

@@ -6,17 +6,19 @@ ghost use Rattle.leaves.specs.Sheet.Kinds.{text, emphasis, strong, delete, mark,
 ghost use Rattle.leaves.specs.Text.Lines.{holds_line_ending};
 ghost use Rattle.leaves.specs.Sheet.Texts.{text_of};
 ghost use Rattle.setter.specs.Stops.{opening, closing, stop_at};
+ghost use Rattle.setter.specs.Answer.{number_in};
 ghost use Rattle.setter.specs.Kept.{seen_by};
 
+use crate::answer::Stop;
 use crate::kept::Kept;
 use leaves::sheet::records::Rec;
 use leaves::sheet::texts::text_of;
 use leaves::sheet::{classes, kinds};
-use leaves::text::bytes::{between, pick};
+use leaves::text::bytes::between;
 use leaves::text::lines::holds_line_ending;
 use leaves::text::marker::written_marker;
 
-// The largest own number of an ordered item.
+// The largest own number of an ordered item. The check has a constant of its own: the machine asks nothing of the check.
 const MOST_OWN_NUMBER: u32 = 999999999;
 
 // A text or inline code that holds a line ending.
@@ -49,9 +51,10 @@ fn holds_prose(kind: u32) -> bool
         | (kind == kinds::MARK)
 }
 
-// The stop of record r as it opens under the record of which `k` is kept; 0 where it has none.
-pub(crate) fn opening_stop(bytes: &[u8], r: Rec, k: Kept) -> u32
-    ensures { result ≡ stop_at opening bytes.now r (seen_by r k 0 true) }
+// The stop of record r as it opens under the record of which `k` is kept: the first in the order of the table.
+#[tactic(auto, unfolding(crate::specs::Stops::stop_at))]
+pub(crate) fn opening_stop(bytes: &[u8], r: Rec, k: Kept) -> Option<Stop>
+    ensures { number_in result ≡ stop_at opening bytes.now r (seen_by r k 0 true) }
 {
     let item = r.kind == kinds::ITEM;
     let numbered = r.b == 1;
@@ -63,23 +66,51 @@ pub(crate) fn opening_stop(bytes: &[u8], r: Rec, k: Kept) -> u32
     let bullet = item & !k.ordered & numbered;
     let again = classes::is_plain_break(r.kind, r.a) & k.broke;
     let inside = (r.kind == kinds::FRONTMATTER) & (1 < r.level);
-    let text = is_broken_text(bytes, r);
     let list = (r.kind == kinds::LIST) & (k.marker == written_marker(r.a, r.b));
-    let stop = pick(text, 13, pick(list, 14, 0));
-    let stop = pick(again, 11, pick(inside, 12, stop));
-    let stop = pick(large, 7, pick(bullet, 8, stop));
-    let stop = pick(link, 5, pick(heading, 6, stop));
-    pick(cell, 1, pick(line, 4, stop))
+    if cell {
+        Some(Stop::CellPastColumns)
+    } else if line {
+        Some(Stop::BreakInOneLine)
+    } else if link {
+        Some(Stop::LinkInLink)
+    } else if heading {
+        Some(Stop::HeadingDepth)
+    } else if large {
+        Some(Stop::LargeNumber)
+    } else if bullet {
+        Some(Stop::NumberedBullet)
+    } else if again {
+        Some(Stop::BreakAfterBreak)
+    } else if inside {
+        Some(Stop::NestedFrontmatter)
+    } else if is_broken_text(bytes, r) {
+        Some(Stop::BrokenText)
+    } else if list {
+        Some(Stop::ListAfterList)
+    } else {
+        None
+    }
 }
 
-// The stop of record r as it closes; 0 where it has none. `k` is kept of r, and `around` of the record that holds it.
-// No closing asks for the text, so the promise is for every text.
-pub(crate) fn closing_stop(r: Rec, k: Kept, around: Kept) -> u32
-    ensures { (bytes : List ℕ) → result ≡ stop_at closing bytes r (seen_by r around k.kids k.empty) }
+// The stop of record r as it closes: the first in the order of the table. `k` is kept of r, and `around` of the record
+// that holds it. No closing asks for the text, so the promise is for every text.
+#[tactic(auto, unfolding(crate::specs::Stops::stop_at))]
+pub(crate) fn closing_stop(r: Rec, k: Kept, around: Kept) -> Option<Stop>
+    ensures { (bytes : List ℕ) → number_in result ≡ stop_at closing bytes r (seen_by r around k.kids k.empty) }
 {
     let row = (r.kind == kinds::ROW) & (k.kids < around.columns);
     let table = (r.kind == kinds::TABLE) & ((k.kids == 0) | (r.a == 0));
     let list = (r.kind == kinds::LIST) & (k.kids == 0);
-    let stop = pick(list, 9, pick(holds_prose(r.kind) & k.empty, 10, 0));
-    pick(row, 2, pick(table, 3, stop))
+    let prose = holds_prose(r.kind) & k.empty;
+    if row {
+        Some(Stop::ShortRow)
+    } else if table {
+        Some(Stop::EmptyTable)
+    } else if list {
+        Some(Stop::EmptyList)
+    } else if prose {
+        Some(Stop::EmptyProse)
+    } else {
+        None
+    }
 }

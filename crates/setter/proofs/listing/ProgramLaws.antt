@@ -19,9 +19,8 @@ use Rattle.leaves.specs.Refusal.Verdict.{Answer, answer}
 use Rattle.leaves.specs.Refusal.Judge.{judge_sheet}
 use Rattle.blocks.specs.Walk.{validate_document}
 use Rattle.setter.specs.Machine.{run_answer}
-use Rattle.setter.specs.Answer.{setting_answer, Answers}
+use Rattle.setter.specs.Answer.{Set, setting_answer, Answers}
 use Rattle.setter.specs.Setting.{after_run, setting_of}
-use Rattle.setter.specs.declared.answer.Setting.{Setting}
 use Rattle.blocks.specs.Check.{outcome}
 use Rattle.blocks.proofs.CheckLaws.{no-entries}
 use Rattle.blocks.proofs.AnswerLaws.{value-word}
@@ -77,7 +76,7 @@ module _ (w bytes x : List ℕ) {y : List ℕ} {c : Answer} {number value : ℕ}
     pub list-few : value ≤ report_words
     list-few = omega (arith, few-entries (validate_document w bytes), list-is.fits, list-is.count)
 
-    module _ (marks : List ℕ) {m : List ℕ} {s : Setting} {stop at : ℕ} (q : Answers (setting_of w bytes marks) s m) (few : records_of w ≤ most_film_records) (same : length marks ≡ most_film_records) (f : stop ≡ (setting_answer s).number) (g : at ≡ (setting_answer s).value) where
+    module _ (marks : List ℕ) {m : List ℕ} {s : Set} {stop at : ℕ} (q : Answers (setting_of w bytes marks) s m) (few : records_of w ≤ most_film_records) (same : length marks ≡ most_film_records) (f : stop ≡ (setting_answer s).number) (g : at ≡ (setting_answer s).value) where
       run_is : setting_answer s ≡ run_answer w bytes
       run_is = ap (λ (u : Answer × List ℕ). u.0) q.answer ∙ ran w bytes marks list-is.accepted (omega arith)
 
