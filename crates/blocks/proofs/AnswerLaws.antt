@@ -18,12 +18,11 @@ use Rattle.leaves.specs.declared.sheet.records.Rec.{Rec}
 use Rattle.leaves.specs.declared.refusal.places.Open.{Open}
 use Rattle.leaves.specs.Report.Entries.{flat}
 use Rattle.leaves.proofs.refusal.FormedLaws.{accepted}
-use Rattle.leaves.specs.Refusal.Verdict.{judged_answer, or_else}
+use Rattle.leaves.specs.Refusal.Verdict.{judged_answer, or_else, Judged}
 use Rattle.leaves.specs.Refusal.Limits.{most_records, most_bytes}
 use Rattle.leaves.specs.Refusal.Record.{bad_level, judge_texts, judge}
 use Rattle.leaves.specs.Refusal.Judge.{judge_at, judge_from, judge_sheet, sheet_answer}
 use Rattle.leaves.specs.Refusal.Tags.{lacks_tags, tags_from}
-use Rattle.leaves.specs.Refusal.Verdict.{Judged}
 use Rattle.leaves.specs.declared.refusal.verdict.Malformed.TheVariants.{OddSheet, LongSheet, LongText, UnknownKind, BadLevel, Misplaced, BadField, TextOutside, NotUtf8, TagsMissing}
 use Rattle.leaves.proofs.refusal.VerdictLaws.{is-accepted, same_number, same-value, refusal-numbered, refusal-one}
 use Rattle.blocks.specs.Walk.{validate_document}

@@ -1,7 +1,7 @@
 -- The list of a paragraph's inlines, and what is compared of it.
-use Rattle.std.specs.Prelude.{is_ok}
+use Rattle.std.specs.Prelude.{Ok, Err, is_ok, is_err}
 use mathlib.Core.Path.{◌≡◌, refl, sym, ap, ◌∙◌}
-use mathlib.Core.Bool.{Bool, true, false, ◌&&◌}
+use mathlib.Core.Bool.{Bool, true, false, ◌&&◌, false≢true}
 use mathlib.Core.List.{List, [], ◌∷◌}
 use Prim.Native.Nat.{ℕ, ◌+◌, ◌*◌, ◌<◌, ◌≤◌}
 use borrow.Author.Rules.{rules}
@@ -28,22 +28,30 @@ use Rattle.replay.specs.Words.{words_of, first_of, same_words, Gives}
 use Rattle.replay.specs.Sheets.{sheet_in}
 use Rattle.replay.specs.Lists.{listed_of, list_of, list_replayed}
 
+refused : (j : Judged) → is_err j ≡ true → is_ok j ≡ false
+refused (Ok u) h = absurd (false≢true h)
+refused (Err m) h = refl
+
+not-refused : (j : Judged) → is_err j ≡ false → is_ok j ≡ true
+not-refused (Ok u) h = refl
+not-refused (Err m) h = absurd (false≢true (sym h))
+
 module _ (w bytes report : List ℕ) where
   pub listed-none : records_of w < 1 → Gives (listed_of w bytes report) 0 report
   unfolding listed_of
   listed-none h = rw (lt-ltb (records_of w) 1 h) (record { first = refl; second = refl })
 
-  module _ (j : Judged) (t : Bool) (some : 1 ≤ records_of w) (judged : Judges w bytes j) (told : t ≡ is_ok j) where
-    pub listed-refused : t ≡ false → Gives (listed_of w bytes report) 0 report
+  module _ (j : Judged) (t : Bool) (some : 1 ≤ records_of w) (judged : Judges w bytes j) (told : t ≡ is_err j) where
+    pub listed-refused : t ≡ true → Gives (listed_of w bytes report) 0 report
     unfolding listed_of
-    listed-refused e = rw (le-ltb (records_of w) 1 some, sym (ap is_ok judged.enum) ∙ sym told ∙ e) (record { first = refl; second = refl })
+    listed-refused e = rw (le-ltb (records_of w) 1 some, sym (ap is_ok judged.enum) ∙ refused j (sym told ∙ e)) (record { first = refl; second = refl })
 
-    pub listed-some : t ≡ true → (s : Words) (q : Walked) (left : List ℕ) → s ≡ start → Done w (records_of w) 1 1 (validate_inlines bytes (0 ∷ []) (under w (records_of w) 1 1)) s report q left → Gives (listed_of w bytes report) q.tally.words left
+    pub listed-some : t ≡ false → (s : Words) (q : Walked) (left : List ℕ) → s ≡ start → Done w (records_of w) 1 1 (validate_inlines bytes (0 ∷ []) (under w (records_of w) 1 1)) s report q left → Gives (listed_of w bytes report) q.tally.words left
     unfolding listed_of
-    listed-some e s q left n d = rw (le-ltb (records_of w) 1 some, sym (ap is_ok judged.enum) ∙ sym told ∙ e) (record { first = rw (← n) (ap (λ (u : Words). u.words) d.lists.tally); second = rw (← n) d.lists.written })
+    listed-some e s q left n d = rw (le-ltb (records_of w) 1 some, sym (ap is_ok judged.enum) ∙ not-refused j (sym told ∙ e)) (record { first = rw (← n) (ap (λ (u : Words). u.words) d.lists.tally); second = rw (← n) d.lists.written })
 
-    pub list-starts : t ≡ true → Start w (0 ∷ []) (records_of w) 1
-    list-starts e = start_of (accepted w bytes (sym judged.enum ∙ is-accepted j (sym told ∙ e))) refl (search rules) (search rules)
+    pub list-starts : t ≡ false → Start w (0 ∷ []) (records_of w) 1
+    list-starts e = start_of (accepted w bytes (sym judged.enum ∙ is-accepted j (not-refused j (sym told ∙ e)))) refl (search rules) (search rules)
 
 pub list-record : (r w text filled part wanted left : List ℕ) (n k m found : ℕ) (same : Bool) (t t₁ t₂ t₃ : Tally) → t₃ ≡ comparing same t₂ → t₂ ≡ comparing (leb n 800 && leb m 800 && eqb found m) t₁ → t₁ ≡ recorded t → same ≡ same_words left wanted 0 → wanted ≡ part_of r (6 + n * 4 + k) (m * 4) → Gives (listed_of w text (replicate 800 0)) found left → w ≡ first_of filled n → filled ≡ words_of 800 part → part ≡ part_of r 6 (n * 4) → text ≡ part_of r (6 + n * 4) k → n ≡ pair_at r 0 → k ≡ pair_at r 2 → m ≡ pair_at r 4 → t₃ ≡ list_replayed r t
 unfolding list_replayed list_of sheet_in

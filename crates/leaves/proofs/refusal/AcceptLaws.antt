@@ -11,12 +11,11 @@ use borrow.Author.Tests.{not-true, not-false, lt-ltb, le-ltb, eq-eqb, ne_eqb}
 use lib.ListN.{length}
 use Rattle.leaves.specs.Sheet.Records.{record_at}
 use Rattle.leaves.specs.Refusal.Places.{open_at}
-use Rattle.leaves.specs.Refusal.Verdict.{judged_answer, or_else}
+use Rattle.leaves.specs.Refusal.Verdict.{judged_answer, or_else, Judged}
 use Rattle.leaves.specs.Refusal.Record.{level_before}
 use Rattle.leaves.specs.Refusal.Tags.{tags_from}
 use Rattle.leaves.specs.Refusal.TagsPlaced.{Placed, Containers}
 use Rattle.leaves.specs.Refusal.Judge.{judge_at, judge_from, judge_sheet, Judges}
-use Rattle.leaves.specs.Refusal.Verdict.{Judged}
 use Rattle.leaves.specs.declared.refusal.verdict.Malformed.{Malformed}
 use Rattle.leaves.specs.declared.refusal.verdict.Malformed.TheVariants.{OddSheet, LongSheet, LongText}
 use Rattle.leaves.proofs.refusal.VerdictLaws.{or-first, or-second, both_first, both-second}

@@ -15,13 +15,12 @@ use lib.Seq.{get_or-set_same, get_or-set_other}
 use Rattle.leaves.specs.Sheet.Records.{record_at}
 use Rattle.leaves.specs.Refusal.Groups.{parent_group}
 use Rattle.leaves.specs.Refusal.Places.{opened, joined, open_at}
-use Rattle.leaves.specs.Refusal.Verdict.{or_else}
+use Rattle.leaves.specs.Refusal.Verdict.{or_else, Judged}
 use Rattle.leaves.specs.Refusal.Record.{level_before, bad_level, judge}
 use Rattle.leaves.specs.Refusal.Judge.{judge_at, judge_from}
 use Rattle.leaves.specs.Refusal.Judging.{slot_of, Slot}
 use Rattle.leaves.specs.declared.sheet.records.Rec.{Rec}
 use Rattle.leaves.specs.declared.refusal.places.Open.{Open}
-use Rattle.leaves.specs.Refusal.Verdict.{Judged}
 use Rattle.leaves.specs.declared.refusal.verdict.Malformed.{Malformed}
 use Rattle.leaves.specs.Sheet.Siblings.{gather}
 use Rattle.leaves.proofs.refusal.OpenLaws.{open-kid, open-same, open_above}

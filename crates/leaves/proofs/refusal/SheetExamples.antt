@@ -14,11 +14,10 @@ use Rattle.leaves.specs.Refusal.Groups.{parent_group, other_group, child_group}
 use Rattle.leaves.specs.Refusal.Places.{holds, place_in, place_of, opened, joined, misplaced, open_at}
 use Rattle.leaves.specs.Refusal.Fields.{most_a, most_b, most_c, has_first, has_second, bad_text, bad_span, is_surrogate, bad_number, bad_field}
 use Rattle.leaves.specs.Sheet.Texts.{text_of, text_outside, text_ill_formed}
-use Rattle.leaves.specs.Refusal.Verdict.{answer, refusal_answer, or_else}
+use Rattle.leaves.specs.Refusal.Verdict.{answer, refusal_answer, or_else, Judged}
 use Rattle.leaves.specs.Refusal.Record.{level_before, bad_level, judge_texts, judge}
 use Rattle.leaves.specs.Refusal.Judge.{judge_at, judge_from, judge_sheet}
 use Rattle.leaves.specs.Refusal.Tags.{lacks_tags, tags_from}
-use Rattle.leaves.specs.Refusal.Verdict.{Judged}
 use Rattle.leaves.specs.declared.refusal.verdict.Malformed.TheVariants.{OddSheet, LongSheet, LongText, UnknownKind, BadLevel, Misplaced, BadField, TextOutside, NotUtf8, TagsMissing}
 
 -- the answer; a declaration that unfolds this unfolds all that the answer computes with

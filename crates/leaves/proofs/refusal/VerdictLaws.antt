@@ -6,10 +6,9 @@ use mathlib.Core.List.{[], ◌∷◌}
 use Prim.Native.Nat.{ℕ, ◌<◌, ◌≤◌}
 use native.Mathlib.Omega.{arith}
 use lib.ListN.{get_or}
-use Rattle.leaves.specs.Refusal.Verdict.{Answer, refusal_answer, judged_answer, or_else}
+use Rattle.leaves.specs.Refusal.Verdict.{Answer, Judged, refusal_answer, judged_answer, or_else}
 use Rattle.leaves.specs.declared.refusal.verdict.Malformed.{Malformed}
 use Rattle.leaves.specs.declared.refusal.verdict.Malformed.TheVariants.{OddSheet, LongSheet, LongText, UnknownKind, BadLevel, Misplaced, BadField, TextOutside, NotUtf8, TagsMissing}
-use Rattle.leaves.specs.Refusal.Verdict.{Judged}
 
 -- ---- a refusal's number is one of 1 to 10
 pub record Numbered (n : ℕ) : Type 0 where

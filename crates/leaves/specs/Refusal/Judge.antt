@@ -4,11 +4,10 @@ use Rattle.std.specs.Prelude.{ℕ, zero, suc, ◌%◌, ◌≡◌, not, List, eqb
 use Rattle.leaves.specs.Text.Lists.{when◌then◌else◌}
 use Rattle.leaves.specs.Sheet.Records.{record_words, records_of, record_at}
 use Rattle.leaves.specs.Refusal.Places.{open_at}
-use Rattle.leaves.specs.Refusal.Verdict.{Answer, judged_answer, or_else}
+use Rattle.leaves.specs.Refusal.Verdict.{Answer, Judged, judged_answer, or_else}
 use Rattle.leaves.specs.Refusal.Limits.{most_records, most_bytes}
 use Rattle.leaves.specs.Refusal.Record.{level_before, judge}
 use Rattle.leaves.specs.Refusal.Tags.{tags_from}
-use Rattle.leaves.specs.Refusal.Verdict.{Judged}
 use Rattle.leaves.specs.declared.refusal.verdict.Malformed.TheVariants.{OddSheet, LongSheet, LongText}
 
 -- the tests 4 to 9 of record i, where it stands
