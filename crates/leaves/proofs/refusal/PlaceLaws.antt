@@ -2,6 +2,7 @@
 use mathlib.Core.Path.{◌≡◌, refl}
 use mathlib.Core.Bool.{Bool, true, false, not, ◌&&◌, ◌||◌}
 use mathlib.Core.List.{List, [], ◌∷◌}
+use Rattle.std.proofs.Common.{◌⊎◌, inl, inr}
 use Prim.Native.Nat.{ℕ, suc, ◌+◌, ◌<◌, ◌≤◌}
 use native.Mathlib.Omega.{arith}
 use lib.Dec.{eqb, ltb, leb}
@@ -41,7 +42,7 @@ holds-none group h = simp other
     other : (n : ℕ) → ltb n 10 ≡ true → eqb group n ≡ false
     other n e = ne_eqb group n (λ q. omega (arith, ltb-true n 10 e))
 
-pub place-below : (group column : ℕ) → 10 ≤ group → 0 ≡ place_in 1 (holds group) column
+place-below : (group column : ℕ) → 10 ≤ group → 0 ≡ place_in 1 (holds group) column
 unfolding place_in
 place-below group column h = rw (holds-none group h)
 
@@ -57,9 +58,13 @@ place_none first (group ∷ groups) column e h =
     let g : group < 7 = ltb-true group 7 (and_left (ltb group 7) (few groups) e) in
     rw (ne_eqb column group (λ q. omega arith)) (place_none (suc first) groups column (and_right (ltb group 7) (few groups) e) h)
 
-pub place-right : (group column : ℕ) → group < 10 → 7 ≤ column → 0 ≡ place_in 1 (holds group) column
+place-right : (group column : ℕ) → group < 10 → 7 ≤ column → 0 ≡ place_in 1 (holds group) column
 unfolding all_below few holds
 place-right group column g h = place_none 1 (holds group) column (each (λ g. few (holds g)) 10 refl group g) h
+
+pub place-outside : (group column : ℕ) → (10 ≤ group) ⊎ ((group < 10) × (7 ≤ column)) → 0 ≡ place_in 1 (holds group) column
+place-outside group column (inl h) = place-below group column h
+place-outside group column (inr h) = place-right group column h.0 h.1
 
 -- a tag that is not misplaced is the first or the second
 pub few-tags : (o : Open) (kind : ℕ) → misplaced o kind ≡ false → eqb kind html_tag ≡ true → o.tags < 2
@@ -80,4 +85,4 @@ module _ (o : Open) (kind : ℕ) {place : ℕ} (e : place ≡ place_of o.group k
   unfolding joined
   joined-other n = rw (e, n)
 
-pub ruleset place-laws = (place-below, place-right, place_inside, joined-tag, joined-other, eq-eqb, ne_eqb, rules)
+pub ruleset place-laws = (place_inside, joined-tag, joined-other, eq-eqb, ne_eqb, rules)

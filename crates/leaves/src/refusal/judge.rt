@@ -7,10 +7,10 @@ ghost use Rattle.leaves.specs.Refusal.Judging.{Slot};
 
 use crate::refusal::groups::HOLDS_BLOCKS;
 use crate::refusal::limits::{MOST_BYTES, MOST_LEVEL, MOST_RECORDS};
+use crate::refusal::places::{Open, Tables};
 use crate::refusal::record::judge;
 use crate::refusal::tags::judge_tags;
 use crate::refusal::verdict::Malformed;
-use crate::refusal::{groups, places};
 use crate::sheet::records;
 use crate::sheet::records::RECORD_WORDS;
 
@@ -34,17 +34,16 @@ fn judge_records(sheet: &[u32], bytes: &[u8], n: usize) -> Result<(), Malformed>
     requires { (n * record_words ≤ length sheet.now) × (n ≤ most_records) }
     ensures { result ≡ judge_from sheet.now bytes.now n 0 }
 {
-    let table = places::table();
-    let groups = groups::groups();
-    let mut open = [places::opened(HOLDS_BLOCKS); SLOTS];
+    let tables = Tables::new();
+    let mut open = [Open::under(HOLDS_BLOCKS); SLOTS];
     let mut before: u32 = 0;
     for i in 0..n {
         let r = records::record_at(sheet, i);
         let slot = slot_of(r.level);
         let o = open[slot];
-        judge(&table, &groups, bytes, i, r, before, o)?;
-        open[slot] = places::joined(&table, &groups, o, r.kind);
-        open[slot + 1] = places::opened(groups::parent_group(&groups, r.kind, r.a));
+        judge(&tables, bytes, i, r, before, o)?;
+        open[slot] = o.joined(&tables, r.kind);
+        open[slot + 1] = Open::under(tables.parent_group(r.kind, r.a));
         before = r.level;
     }
     Ok(())

@@ -1,14 +1,12 @@
 // The tests of one record: refusals 4 to 9.
 ghost use Rattle.std.specs.Prelude.{◌≡◌, ◌≤◌};
-ghost use Rattle.leaves.specs.Refusal.PlaceTable.{place_table};
-ghost use Rattle.leaves.specs.Refusal.KindGroups.{kind_groups};
 ghost use Rattle.leaves.specs.Refusal.Limits.{most_level};
 ghost use Rattle.leaves.specs.Refusal.Record.{bad_level, judge_texts, judge};
 
+use crate::refusal::fields;
 use crate::refusal::limits::MOST_LEVEL;
-use crate::refusal::places::Open;
+use crate::refusal::places::{Open, Tables};
 use crate::refusal::verdict::Malformed;
-use crate::refusal::{fields, places};
 use crate::sheet::records::Rec;
 use crate::sheet::{kinds, texts};
 
@@ -37,15 +35,14 @@ fn judge_texts(bytes: &[u8], i: usize, r: Rec) -> Result<(), Malformed>
 
 // The tests 4 to 9 of record `i`.
 pub(crate) fn judge(
-    table: &[[u32; 7]; 10],
-    groups: &[[u32; 2]; 54],
+    tables: &Tables,
     bytes: &[u8],
     i: usize,
     r: Rec,
     before: u32,
     o: Open,
 ) -> Result<(), Malformed>
-    requires { (table.now ≡ place_table) × (groups.now ≡ kind_groups) × (before ≤ most_level) }
+    requires { before ≤ most_level }
     ensures { result ≡ judge bytes.now i r before o }
 {
     if !kinds::is_kind(r.kind) {
@@ -54,7 +51,7 @@ pub(crate) fn judge(
     if bad_level(before, r.level) {
         return Err(Malformed::BadLevel(i));
     }
-    if places::misplaced(table, groups, o, r.kind) {
+    if o.misplaced(tables, r.kind) {
         return Err(Malformed::Misplaced(i));
     }
     if fields::bad_field(r) {

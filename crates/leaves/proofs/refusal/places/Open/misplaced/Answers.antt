@@ -1,6 +1,6 @@
--- `leaves::refusal::places::misplaced` meets its contract.
+-- `leaves::refusal::places::Open::misplaced` meets its contract.
 use Rattle.leaves.specs.Refusal.Places.{misplaced}
-use Rattle.leaves.proofs.refusal.places.misplaced.Goals as goal
+use Rattle.leaves.proofs.refusal.places.Open.misplaced.Goals as goal
 
 pub returns : goal.returns
 unfolding misplaced

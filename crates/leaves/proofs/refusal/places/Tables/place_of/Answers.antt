@@ -1,6 +1,6 @@
--- `leaves::refusal::places::place_of` meets its contract.
+-- `leaves::refusal::places::Tables::place_of` meets its contract.
 use Rattle.leaves.specs.Refusal.Places.{place_of}
-use Rattle.leaves.proofs.refusal.places.place_of.Goals as goal
+use Rattle.leaves.proofs.refusal.places.Tables.place_of.Goals as goal
 
 pub returns : goal.returns
 unfolding place_of
