@@ -1,7 +1,7 @@
 -- The tests of a record, one after another.
-use Rattle.std.specs.Prelude.{Err, Ok}
+use Rattle.std.specs.Prelude.{Err}
 use mathlib.Core.Path.{◌≡◌, ◌∙◌}
-use mathlib.Core.Bool.{Bool, true, false, ◌||◌}
+use mathlib.Core.Bool.{Bool, true, false}
 use mathlib.Core.List.{List}
 use Prim.Native.Nat.{ℕ}
 use borrow.Author.Rules.{rules}
@@ -9,26 +9,11 @@ use borrow.Author.Tests.{not-true, not-false}
 use Rattle.leaves.specs.Sheet.Kinds.{is_kind}
 use Rattle.leaves.specs.Refusal.Places.{misplaced}
 use Rattle.leaves.specs.Refusal.Fields.{bad_field}
-use Rattle.leaves.specs.Sheet.Texts.{text_outside, text_ill_formed}
 use Rattle.leaves.specs.Refusal.Record.{bad_level, judge_texts, judge}
 use Rattle.leaves.specs.declared.sheet.records.Rec.{Rec}
 use Rattle.leaves.specs.declared.refusal.places.Open.{Open}
 use Rattle.leaves.specs.Refusal.Verdict.{Judged}
-use Rattle.leaves.specs.declared.refusal.verdict.Malformed.TheVariants.{UnknownKind, BadLevel, Misplaced, BadField, TextOutside, NotUtf8}
-
-module _ (bytes : List ℕ) (i : ℕ) (r : Rec) {p q : Bool} (ep : p ≡ text_outside bytes r.first) (eq : q ≡ text_outside bytes r.second) where
-  pub texts-outside : (p || q) ≡ true → Err (TextOutside i) ≡ judge_texts bytes i r
-  unfolding judge_texts
-  texts-outside y = rw (← ep, ← eq, y)
-
-  module _ {u v : Bool} (n : (p || q) ≡ false) (eu : u ≡ text_ill_formed bytes r.first) (ev : v ≡ text_ill_formed bytes r.second) where
-    pub texts-ill : (u || v) ≡ true → Err (NotUtf8 i) ≡ judge_texts bytes i r
-    unfolding judge_texts
-    texts-ill y = rw (← ep, ← eq, n, ← eu, ← ev, y)
-
-    pub texts-pass : (u || v) ≡ false → Ok tt ≡ judge_texts bytes i r
-    unfolding judge_texts
-    texts-pass y = rw (← ep, ← eq, n, ← eu, ← ev, y)
+use Rattle.leaves.specs.declared.refusal.verdict.Malformed.TheVariants.{UnknownKind, BadLevel, Misplaced, BadField}
 
 module _ (bytes : List ℕ) (i : ℕ) (r : Rec) (before : ℕ) (o : Open) {k : Bool} (ek : k ≡ is_kind r.kind) where
   pub judge-kind : k ≡ false → Err (UnknownKind i) ≡ judge bytes i r before o
@@ -54,4 +39,4 @@ module _ (bytes : List ℕ) (i : ℕ) (r : Rec) (before : ℕ) (o : Open) {k : B
         unfolding judge
         judge-rest n e = e ∙ rw (← ek, yk, ← el, nl, ← em, nm, ← ef, n)
 
-pub ruleset judging = (texts-outside, texts-ill, texts-pass, judge-kind, judge-level, judge-place, judge-field, judge-rest, not-true, not-false, rules)
+pub ruleset judging = (judge-kind, judge-level, judge-place, judge-field, judge-rest, not-true, not-false, rules)

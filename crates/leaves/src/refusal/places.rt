@@ -116,6 +116,7 @@ impl Open {
     }
 
     // Whether the kind is not allowed there or is out of order, is a third HTML tag, or is content before the second.
+    #[tactic(auto, unfolding(crate::specs::Refusal::Places::misplaced))]
     pub(crate) fn misplaced(self, tables: &Tables, kind: u32) -> bool
         requires { is_kind kind ≡ true }
         ensures { result ≡ misplaced self kind }

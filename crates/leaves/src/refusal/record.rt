@@ -11,23 +11,25 @@ use crate::sheet::records::Rec;
 use crate::sheet::{kinds, texts};
 
 // Whether a level is 0, over `MOST_LEVEL`, or over the level before plus 1.
+#[tactic(auto, unfolding(crate::specs::Refusal::Record::bad_level))]
 fn bad_level(before: u32, level: u32) -> bool
     requires { before ≤ most_level }
     ensures { result ≡ bad_level before level }
 {
-    (level == 0) | (MOST_LEVEL < level) | (before + 1 < level)
+    level == 0 || MOST_LEVEL < level || before + 1 < level
 }
 
 // The tests 8 and 9.
+#[tactic(auto, unfolding(crate::specs::Refusal::Record::judge_texts))]
 fn judge_texts(bytes: &[u8], i: usize, r: Rec) -> Result<(), Malformed>
     ensures { result ≡ judge_texts bytes.now i r }
 {
     let first = r.first;
     let second = r.second;
-    if texts::text_outside(bytes, first) | texts::text_outside(bytes, second) {
+    if texts::text_outside(bytes, first) || texts::text_outside(bytes, second) {
         return Err(Malformed::TextOutside(i));
     }
-    if texts::text_ill_formed(bytes, first) | texts::text_ill_formed(bytes, second) {
+    if texts::text_ill_formed(bytes, first) || texts::text_ill_formed(bytes, second) {
         return Err(Malformed::NotUtf8(i));
     }
     Ok(())
