@@ -3,17 +3,16 @@ use mathlib.Core.Path.{◌≡◌, refl}
 use mathlib.Core.Bool.{Bool, true, false, not, ◌&&◌, ◌||◌}
 use mathlib.Core.List.{List, [], ◌∷◌}
 use Rattle.std.proofs.Common.{◌⊎◌, inl, inr}
-use Prim.Native.Nat.{ℕ, suc, ◌+◌, ◌<◌, ◌≤◌}
+use Prim.Native.Nat.{ℕ, suc, ◌<◌, ◌≤◌}
 use native.Mathlib.Omega.{arith}
 use lib.Dec.{eqb, ltb, leb}
 use lib.ListN.{get_or}
-use borrow.Author.Rules.{rules}
-use borrow.Author.Tests.{eqb-true, ltb-true, leb-false, eq-eqb, ne_eqb}
+use borrow.Author.Tests.{eqb-true, ltb-true, leb-false, ne_eqb}
 use Rattle.leaves.proofs.text.TestLaws.{all_below, each, and_left, and_right, or_left, or_right}
 use Rattle.leaves.specs.Sheet.Kinds.{html_tag}
 use Rattle.leaves.specs.Refusal.Groups.{holds_tags_and_blocks, holds_tags_and_inlines}
 use Rattle.leaves.specs.Refusal.PlaceTable.{place_table}
-use Rattle.leaves.specs.Refusal.Places.{holds, place_in, place_of, joined, misplaced}
+use Rattle.leaves.specs.Refusal.Places.{holds, place_in, place_of, misplaced}
 use Rattle.leaves.specs.declared.refusal.places.Open.{Open}
 
 -- ---- the table that the code reads has the places of the definitions, by one computed test of all its cells
@@ -75,14 +74,3 @@ few-tags o kind h e =
     let first : (eqb place 0 || ltb place o.stage || third) ≡ false = or_left _ ((eqb o.group holds_tags_and_blocks || eqb o.group holds_tags_and_inlines) && not (eqb kind html_tag) && ltb o.tags 2) h in
     let none : third ≡ false = or_right (eqb place 0 || ltb place o.stage) third first in
     leb-false 2 o.tags (rw e at none)
-
-module _ (o : Open) (kind : ℕ) {place : ℕ} (e : place ≡ place_of o.group kind) where
-  pub joined-tag : eqb kind html_tag ≡ true → ◌≡◌ {A = Open} (record { group = o.group; stage = place; tags = o.tags + 1 }) (joined o kind)
-  unfolding joined
-  joined-tag y = rw (e, y)
-
-  pub joined-other : eqb kind html_tag ≡ false → ◌≡◌ {A = Open} (record { group = o.group; stage = place; tags = o.tags }) (joined o kind)
-  unfolding joined
-  joined-other n = rw (e, n)
-
-pub ruleset place-laws = (place_inside, joined-tag, joined-other, eq-eqb, ne_eqb, rules)

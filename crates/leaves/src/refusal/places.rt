@@ -62,6 +62,7 @@ impl Tables {
     }
 
     // The place of a kind under a group of parents; 0 where it is not allowed there.
+    #[tactic(auto, unfolding(crate::specs::Refusal::Places::place_of))]
     fn place_of(&self, group: u32, kind: u32) -> u32
         requires { is_kind kind ≡ true }
         ensures { result ≡ place_of group kind }
@@ -89,6 +90,7 @@ pub struct Open {
 
 impl Open {
     // Under a parent, before its first child.
+    #[tactic(auto, unfolding(crate::specs::Refusal::Places::opened))]
     pub(crate) fn under(group: u32) -> Open
         ensures { result ≡ opened group }
     {
@@ -100,19 +102,21 @@ impl Open {
     }
 
     // The same after one more child, of the kind.
+    #[tactic(auto, unfolding(crate::specs::Refusal::Places::joined))]
     pub(crate) fn joined(self, tables: &Tables, kind: u32) -> Open
         requires { (is_kind kind ≡ true) × (misplaced self kind ≡ false) }
         ensures { result ≡ joined self kind }
     {
         let stage = tables.place_of(self.group, kind);
         if kind == kinds::HTML_TAG {
-            return Open {
+            Open {
                 stage,
                 tags: self.tags + 1,
                 ..self
-            };
+            }
+        } else {
+            Open { stage, ..self }
         }
-        Open { stage, ..self }
     }
 
     // Whether the kind is not allowed there or is out of order, is a third HTML tag, or is content before the second.
@@ -122,12 +126,11 @@ impl Open {
         ensures { result ≡ misplaced self kind }
     {
         let place = tables.place_of(self.group, kind);
-        let container = (self.group == HOLDS_TAGS_AND_BLOCKS)
-            | (self.group == HOLDS_TAGS_AND_INLINES);
+        let container = matches!(self.group, HOLDS_TAGS_AND_BLOCKS | HOLDS_TAGS_AND_INLINES);
         let tag = kind == kinds::HTML_TAG;
-        (place == 0)
-            | (place < self.stage)
-            | (tag & (2 <= self.tags))
-            | (container & !tag & (self.tags < 2))
+        place == 0
+            || place < self.stage
+            || (tag && 2 <= self.tags)
+            || (container && !tag && self.tags < 2)
     }
 }

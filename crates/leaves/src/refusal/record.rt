@@ -36,6 +36,7 @@ fn judge_texts(bytes: &[u8], i: usize, r: Rec) -> Result<(), Malformed>
 }
 
 // The tests 4 to 9 of record `i`.
+#[tactic(auto, unfolding(crate::specs::Refusal::Record::judge))]
 pub(crate) fn judge(
     tables: &Tables,
     bytes: &[u8],
