@@ -8,7 +8,7 @@ ghost use Rattle.setter.specs.Setting.{after_run, setting_of};
 ghost use Rattle.setter.specs.MachineRunning.{next_level};
 
 use crate::answer::{SetError, Setting};
-use crate::kept;
+use crate::kept::Kept;
 use crate::marks::mark_of;
 use crate::stops::{closing_stop, opening_stop};
 use leaves::refusal::judge::accept;
@@ -35,7 +35,7 @@ fn run_records(sheet: &[u32], text: &[u8], marks: &mut [u32], n: usize) -> Setti
     ensures { Answers (after_run sheet.now text.now marks.old)
         (Ok result) marks.new }
 {
-    let mut open = [kept::the_sheet(); 65];
+    let mut open = [Kept::the_sheet(); 65];
     let mut depth: usize = 0;
     let mut i: usize = 0;
     while (i < n) | (0 < depth) {
@@ -48,7 +48,7 @@ fn run_records(sheet: &[u32], text: &[u8], marks: &mut [u32], n: usize) -> Setti
                 return Setting::Stopped(stop, k.at);
             }
             depth = depth - 1;
-            open[depth] = kept::joined(around, r);
+            open[depth] = around.joined(r);
             continue;
         }
         let r = record_at(sheet, i);
@@ -57,7 +57,7 @@ fn run_records(sheet: &[u32], text: &[u8], marks: &mut [u32], n: usize) -> Setti
         }
         marks[i] = mark_of(r, k);
         depth = depth + 1;
-        open[depth] = kept::opened(i as u32, r, k);
+        open[depth] = k.opened(i as u32, r);
         i = i + 1;
     }
     Setting::Ended(n as u32)
