@@ -1,7 +1,7 @@
 -- The machine's loop, a turn for each opening and closing: what is kept by level is what the open records show, and what is left decides the answer and the marks.
 use Rattle.std.specs.Prelude.{Ok}
 use mathlib.Core.Path.{◌≡◌, refl, sym, ap, ◌∙◌}
-use mathlib.Core.Bool.{Bool, true, false, ◌||◌}
+use mathlib.Core.Bool.{Bool, true, false}
 use mathlib.Core.List.{List, [], ◌∷◌}
 use Prim.Native.Nat.{ℕ, suc, ◌+◌, ◌-◌, ◌*◌, ◌<◌, ◌≤◌}
 use native.Mathlib.Numerals.{add-one}
@@ -17,7 +17,6 @@ use Rattle.leaves.specs.Sheet.Forest.{records_from}
 use Rattle.leaves.specs.declared.sheet.records.Rec.{Rec}
 use Rattle.leaves.specs.Refusal.Judge.{judge_sheet}
 use Rattle.leaves.specs.Refusal.Record.{level_before}
-use Rattle.leaves.proofs.text.TestLaws.{or_left, or_right}
 use Rattle.leaves.proofs.refusal.PassLaws.{Deep, deep}
 use Rattle.leaves.proofs.refusal.FormedLaws.{each-passed, accepted}
 use Rattle.setter.specs.Steps.{Frame, fresh, with_kid, the_sheet, Step, closings, steps_from, steps_of, opens, closes}
@@ -140,16 +139,10 @@ unfolding records_from
 left-none w n i h = let e : n - i ≡ 0 = omega arith in rw e
 
 -- after the last record nothing is open
-pub run_end : (w bytes old : List ℕ) (n : ℕ) (new : List ℕ) (os : List Kept) (depth i : ℕ) → Running w bytes old n new os depth i → (ltb i n || ltb 0 depth) ≡ false → Answers (after_run w bytes old) (Ok (Ended n)) new
+pub run_end : (w bytes old : List ℕ) (n : ℕ) (new : List ℕ) (os : List Kept) (depth i : ℕ) → Running w bytes old n new os depth i → n ≤ i → depth ≤ 0 → Answers (after_run w bytes old) (Ok (Ended n)) new
 unfolding after_run run_answer steps_from closings run_of marks_of
-run_end w bytes old n new os depth i v h = go v.around refl
+run_end w bytes old n new os depth i v out none_open = go v.around refl
   where
-    out : n ≤ i
-    out = ltb-false i n (or_left (ltb i n) (ltb 0 depth) h)
-
-    none_open : depth ≤ 0
-    none_open = ltb-false 0 depth (or_right (ltb i n) (ltb 0 depth) h)
-
     go : (st : List Frame) → v.around ≡ st → Answers (after_run w bytes old) (Ok (Ended n)) new
     go (g ∷ st) e = absurd (omega (arith, v.deep, ap length e, none_open))
     go [] e = record { answer = rw (v.ends, v.marked, e, left-none w n i out, v.all) }
@@ -300,7 +293,7 @@ pub record Opening (w bytes old : List ℕ) (n : ℕ) (new : List ℕ) (os : Lis
   pub most : depth + 1 ≤ 64
 
 module _ (w bytes old : List ℕ) (n : ℕ) (new : List ℕ) (os : List Kept) (depth i : ℕ) (v : Running w bytes old n new os depth i) where
-  pub opens-next : {l : ℕ} → l ≡ next_level w n i → depth < l → (ltb i n || ltb 0 depth) ≡ true → Opening w bytes old n new os depth i
+  pub opens-next : {l : ℕ} → l ≡ next_level w n i → depth < l → i < n + depth → Opening w bytes old n new os depth i
   opens-next {l} e h t = go (ltb i n) refl
     where
       go : (b : Bool) → ltb i n ≡ b → Opening w bytes old n new os depth i
@@ -312,8 +305,7 @@ module _ (w bytes old : List ℕ) (n : ℕ) (new : List ℕ) (os : List Kept) (d
       go false a =
           let g : n ≤ i = ltb-false i n a in
           let m : depth < 1 = rw (e, le-leb n i g) at h in
-          let d : 0 < depth = ltb-true 0 depth (rw a at t) in
-          absurd (omega arith)
+          absurd (omega (arith, t))
 
 module _ (w bytes old : List ℕ) (n : ℕ) (new : List ℕ) (os : List Kept) (depth i : ℕ) (z : Opening w bytes old n new os depth i) where
   abbrev top : Frame

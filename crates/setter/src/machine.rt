@@ -20,14 +20,12 @@ fn next_level(sheet: &[u32], n: usize, i: usize) -> u32
     requires { n * record_words ≤ length sheet.now }
     ensures { result ≡ next_level sheet.now n i }
 {
-    if n <= i {
-        return 1;
-    }
-    level_at(sheet, i)
+    if i < n { level_at(sheet, i) } else { 1 }
 }
 
-// Opens and closes the records one after another, a turn for each opening and closing, until one stops. `open` has, by
-// level, what is kept of each open record, and `depth` is the innermost's level.
+// Opens and closes the records one after another until one stops. `open` is a stack in fixed memory, since nothing may be
+// allocated: by level what is kept of each open record, and `depth` is the innermost's level. A turn for each opening
+// and closing, and no `for` over the records, since the closings would then stand twice: before a record and at the end.
 fn run_records(sheet: &[u32], text: &[u8], marks: &mut [u32], n: usize) -> Setting
     requires { (judge_sheet sheet.now text.now ≡ Ok tt)
         × (n ≡ records_of sheet.now)
@@ -38,7 +36,7 @@ fn run_records(sheet: &[u32], text: &[u8], marks: &mut [u32], n: usize) -> Setti
     let mut open = [Kept::the_sheet(); 65];
     let mut depth: usize = 0;
     let mut i: usize = 0;
-    while (i < n) | (0 < depth) {
+    while i < n || 0 < depth {
         let level = next_level(sheet, n, i) as usize;
         let k = open[depth];
         if level <= depth {
@@ -47,7 +45,7 @@ fn run_records(sheet: &[u32], text: &[u8], marks: &mut [u32], n: usize) -> Setti
             if let Some(stop) = closing_stop(r, k, around) {
                 return Setting::Stopped(stop, k.at);
             }
-            depth = depth - 1;
+            depth -= 1;
             open[depth] = around.joined(r);
             continue;
         }
@@ -56,9 +54,9 @@ fn run_records(sheet: &[u32], text: &[u8], marks: &mut [u32], n: usize) -> Setti
             return Setting::Stopped(stop, i as u32);
         }
         marks[i] = mark_of(r, k);
-        depth = depth + 1;
+        depth += 1;
         open[depth] = k.opened(i as u32, r);
-        i = i + 1;
+        i += 1;
     }
     Setting::Ended(n as u32)
 }
