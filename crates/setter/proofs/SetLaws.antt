@@ -14,7 +14,7 @@ use Rattle.leaves.specs.declared.refusal.verdict.Malformed.{Malformed}
 use Rattle.setter.specs.Answer.{stop_number, last_stop, Set, setting_answer, Answers}
 use Rattle.setter.specs.Setting.{after_run, setting_of}
 use Rattle.setter.specs.declared.answer.Stop.{Stop}
-use Rattle.setter.specs.declared.answer.Stop.TheVariants.{CellPastColumns, ShortRow, EmptyTable, BreakInOneLine, LinkInLink, HeadingDepth, LargeNumber, NumberedBullet, EmptyList, EmptyProse, BreakAfterBreak, NestedFrontmatter, BrokenText, ListAfterList}
+use Rattle.setter.specs.declared.answer.Stop.TheVariants.{CellTooMany, CellTooFew, EmptyTable, BreakInLine, LinkInLink, HeadingDepth, ItemNumber, BulletNumber, EmptyList, EmptyContent, BreakAfterBreak, InnerFrontmatter, LineEnding, AdjacentLists}
 use Rattle.setter.specs.declared.answer.Setting.TheVariants.{Ended, Stopped}
 use Rattle.setter.specs.declared.answer.SetError.TheVariants.{Malformed as IsMalformed, ShortMarks}
 
@@ -41,40 +41,40 @@ pub record Placed (n : ℕ) : Type 0 where
   pub high : n ≤ last_stop
 
 pub stop-numbered : (stop : Stop) → Placed (stop_number stop)
-stop-numbered CellPastColumns = record { low = omega arith; high = omega arith }
-stop-numbered ShortRow = record { low = omega arith; high = omega arith }
+stop-numbered CellTooMany = record { low = omega arith; high = omega arith }
+stop-numbered CellTooFew = record { low = omega arith; high = omega arith }
 stop-numbered EmptyTable = record { low = omega arith; high = omega arith }
-stop-numbered BreakInOneLine = record { low = omega arith; high = omega arith }
+stop-numbered BreakInLine = record { low = omega arith; high = omega arith }
 stop-numbered LinkInLink = record { low = omega arith; high = omega arith }
 stop-numbered HeadingDepth = record { low = omega arith; high = omega arith }
-stop-numbered LargeNumber = record { low = omega arith; high = omega arith }
-stop-numbered NumberedBullet = record { low = omega arith; high = omega arith }
+stop-numbered ItemNumber = record { low = omega arith; high = omega arith }
+stop-numbered BulletNumber = record { low = omega arith; high = omega arith }
 stop-numbered EmptyList = record { low = omega arith; high = omega arith }
-stop-numbered EmptyProse = record { low = omega arith; high = omega arith }
+stop-numbered EmptyContent = record { low = omega arith; high = omega arith }
 stop-numbered BreakAfterBreak = record { low = omega arith; high = omega arith }
-stop-numbered NestedFrontmatter = record { low = omega arith; high = omega arith }
-stop-numbered BrokenText = record { low = omega arith; high = omega arith }
-stop-numbered ListAfterList = record { low = omega arith; high = omega arith }
+stop-numbered InnerFrontmatter = record { low = omega arith; high = omega arith }
+stop-numbered LineEnding = record { low = omega arith; high = omega arith }
+stop-numbered AdjacentLists = record { low = omega arith; high = omega arith }
 
 read : ℕ → Stop
-read n = get_or (CellPastColumns ∷ CellPastColumns ∷ ShortRow ∷ EmptyTable ∷ BreakInOneLine ∷ LinkInLink ∷ HeadingDepth ∷ LargeNumber ∷ NumberedBullet ∷ EmptyList ∷ EmptyProse ∷ BreakAfterBreak ∷ NestedFrontmatter ∷ BrokenText ∷ ListAfterList ∷ []) n CellPastColumns
+read n = get_or (CellTooMany ∷ CellTooMany ∷ CellTooFew ∷ EmptyTable ∷ BreakInLine ∷ LinkInLink ∷ HeadingDepth ∷ ItemNumber ∷ BulletNumber ∷ EmptyList ∷ EmptyContent ∷ BreakAfterBreak ∷ InnerFrontmatter ∷ LineEnding ∷ AdjacentLists ∷ []) n CellTooMany
 
 stop-back : (stop : Stop) → read (stop_number stop) ≡ stop
 unfolding read
-stop-back CellPastColumns = refl
-stop-back ShortRow = refl
+stop-back CellTooMany = refl
+stop-back CellTooFew = refl
 stop-back EmptyTable = refl
-stop-back BreakInOneLine = refl
+stop-back BreakInLine = refl
 stop-back LinkInLink = refl
 stop-back HeadingDepth = refl
-stop-back LargeNumber = refl
-stop-back NumberedBullet = refl
+stop-back ItemNumber = refl
+stop-back BulletNumber = refl
 stop-back EmptyList = refl
-stop-back EmptyProse = refl
+stop-back EmptyContent = refl
 stop-back BreakAfterBreak = refl
-stop-back NestedFrontmatter = refl
-stop-back BrokenText = refl
-stop-back ListAfterList = refl
+stop-back InnerFrontmatter = refl
+stop-back LineEnding = refl
+stop-back AdjacentLists = refl
 
 pub stop-one : (a b : Stop) → stop_number a ≡ stop_number b → a ≡ b
 stop-one a b e = sym (stop-back a) ∙ ap read e ∙ stop-back b

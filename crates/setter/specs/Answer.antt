@@ -3,20 +3,20 @@ use Rattle.std.specs.Prelude.{ℕ, ◌+◌, ◌≡◌, List, Result, Ok, Err, Op
 use Rattle.leaves.specs.Refusal.Verdict.{Answer, answer, refusal_answer}
 use Rattle.setter.specs.declared.answer.Stop.{Stop}
 use Rattle.setter.specs.declared.answer.Stop.TheVariants.{
-  CellPastColumns,
-  ShortRow,
+  CellTooMany,
+  CellTooFew,
   EmptyTable,
-  BreakInOneLine,
+  BreakInLine,
   LinkInLink,
   HeadingDepth,
-  LargeNumber,
-  NumberedBullet,
+  ItemNumber,
+  BulletNumber,
   EmptyList,
-  EmptyProse,
+  EmptyContent,
   BreakAfterBreak,
-  NestedFrontmatter,
-  BrokenText,
-  ListAfterList,
+  InnerFrontmatter,
+  LineEnding,
+  AdjacentLists,
 }
 use Rattle.setter.specs.declared.answer.Setting.{Setting}
 use Rattle.setter.specs.declared.answer.Setting.TheVariants.{Ended, Stopped}
@@ -34,20 +34,20 @@ refused_as a = answer (256 + a.number) a.value
 
 -- the number of a stop, in the table of stops
 abbrev pub stop_number : Stop → ℕ
-stop_number CellPastColumns = 1
-stop_number ShortRow = 2
+stop_number CellTooMany = 1
+stop_number CellTooFew = 2
 stop_number EmptyTable = 3
-stop_number BreakInOneLine = 4
+stop_number BreakInLine = 4
 stop_number LinkInLink = 5
 stop_number HeadingDepth = 6
-stop_number LargeNumber = 7
-stop_number NumberedBullet = 8
+stop_number ItemNumber = 7
+stop_number BulletNumber = 8
 stop_number EmptyList = 9
-stop_number EmptyProse = 10
+stop_number EmptyContent = 10
 stop_number BreakAfterBreak = 11
-stop_number NestedFrontmatter = 12
-stop_number BrokenText = 13
-stop_number ListAfterList = 14
+stop_number InnerFrontmatter = 12
+stop_number LineEnding = 13
+stop_number AdjacentLists = 14
 
 -- the number of the stop, and 0 where there is none
 abbrev pub number_in : Option Stop → ℕ

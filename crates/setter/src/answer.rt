@@ -13,34 +13,34 @@ const SHORT_MARKS: u32 = 12;
 // A stop of the machine, in the order of document 01's table.
 #[derive(Clone, Copy, PartialEq, Eq, Debug)]
 pub enum Stop {
-    // a cell that stands past the table's columns
-    CellPastColumns,
-    // a row with fewer cells than the table has columns
-    ShortRow,
-    // a table without a row or a column
+    // a cell, opened past the columns of its table
+    CellTooMany,
+    // a row, closed with fewer cells than its table has columns
+    CellTooFew,
+    // a table, closed without a row or a column
     EmptyTable,
-    // an inline break inside what is written on one line
-    BreakInOneLine,
-    // a link under a link
+    // an inline break, opened in a cell or in the label of a leaf or container directive
+    BreakInLine,
+    // a link, autolink, link reference or wikilink, opened under a link or link reference
     LinkInLink,
-    // a heading whose depth is not 1 to 6
+    // a heading, opened with a depth that is not 1 to 6
     HeadingDepth,
-    // an ordered item whose number is too large
-    LargeNumber,
-    // a bullet item with a number
-    NumberedBullet,
-    // a list without an item
+    // an ordered item, opened with a number of its own that is too large
+    ItemNumber,
+    // a bullet item, opened with a number
+    BulletNumber,
+    // a list, closed without an item
     EmptyList,
-    // a paragraph, emphasis, strong, delete or mark that holds nothing but empty texts
-    EmptyProse,
-    // a plain break straight after a break
+    // a paragraph, emphasis, strong, delete or mark, closed with nothing but empty texts
+    EmptyContent,
+    // a soft or spaces break, opened straight after a break
     BreakAfterBreak,
-    // frontmatter inside another block
-    NestedFrontmatter,
-    // a text or inline code with a line ending
-    BrokenText,
-    // a list that would join the list before it
-    ListAfterList,
+    // frontmatter, opened inside something
+    InnerFrontmatter,
+    // a text or inline code, opened with a line ending in it
+    LineEnding,
+    // a list, opened after a list of the same written marker, with nothing but blank lines between
+    AdjacentLists,
 }
 
 impl Stop {
@@ -49,20 +49,20 @@ impl Stop {
         ensures { result ≡ stop_number self }
     {
         match self {
-            Stop::CellPastColumns => 1,
-            Stop::ShortRow => 2,
+            Stop::CellTooMany => 1,
+            Stop::CellTooFew => 2,
             Stop::EmptyTable => 3,
-            Stop::BreakInOneLine => 4,
+            Stop::BreakInLine => 4,
             Stop::LinkInLink => 5,
             Stop::HeadingDepth => 6,
-            Stop::LargeNumber => 7,
-            Stop::NumberedBullet => 8,
+            Stop::ItemNumber => 7,
+            Stop::BulletNumber => 8,
             Stop::EmptyList => 9,
-            Stop::EmptyProse => 10,
+            Stop::EmptyContent => 10,
             Stop::BreakAfterBreak => 11,
-            Stop::NestedFrontmatter => 12,
-            Stop::BrokenText => 13,
-            Stop::ListAfterList => 14,
+            Stop::InnerFrontmatter => 12,
+            Stop::LineEnding => 13,
+            Stop::AdjacentLists => 14,
         }
     }
 }

@@ -33,23 +33,21 @@ pub(crate) fn opening_stop(bytes: &[u8], r: Rec, k: Kept) -> Option<Stop>
     ensures { number_in result ≡ stop_at opening bytes.now r (seen_by r k 0 true) }
 {
     match r.kind {
-        kinds::CELL if k.columns <= k.kids => Some(Stop::CellPastColumns),
-        kinds::SOFT_BREAK | kinds::LINE_BREAK if is_one_line(k.nearest) => Some(
-            Stop::BreakInOneLine,
-        ),
+        kinds::CELL if k.columns <= k.kids => Some(Stop::CellTooMany),
+        kinds::SOFT_BREAK | kinds::LINE_BREAK if is_one_line(k.nearest) => Some(Stop::BreakInLine),
         kinds::LINK | kinds::AUTOLINK | kinds::LINK_REFERENCE | kinds::WIKI_LINK if k.linked => {
             Some(Stop::LinkInLink)
         }
         kinds::HEADING if r.a < 1 || 6 < r.a => Some(Stop::HeadingDepth),
-        kinds::ITEM if k.ordered && r.b == 1 && MOST_OWN_NUMBER < r.c => Some(Stop::LargeNumber),
-        kinds::ITEM if !k.ordered && r.b == 1 => Some(Stop::NumberedBullet),
+        kinds::ITEM if k.ordered && r.b == 1 && MOST_OWN_NUMBER < r.c => Some(Stop::ItemNumber),
+        kinds::ITEM if !k.ordered && r.b == 1 => Some(Stop::BulletNumber),
         kinds::SOFT_BREAK if k.broke => Some(Stop::BreakAfterBreak),
         kinds::LINE_BREAK if r.a == 1 && k.broke => Some(Stop::BreakAfterBreak),
-        kinds::FRONTMATTER if 1 < r.level => Some(Stop::NestedFrontmatter),
+        kinds::FRONTMATTER if 1 < r.level => Some(Stop::InnerFrontmatter),
         kinds::TEXT | kinds::CODE if holds_line_ending(text_of(bytes, r.first)) => {
-            Some(Stop::BrokenText)
+            Some(Stop::LineEnding)
         }
-        kinds::LIST if k.marker == written_marker(r.a, r.b) => Some(Stop::ListAfterList),
+        kinds::LIST if k.marker == written_marker(r.a, r.b) => Some(Stop::AdjacentLists),
         _ => None,
     }
 }
@@ -61,11 +59,11 @@ pub(crate) fn closing_stop(r: Rec, k: Kept, around: Kept) -> Option<Stop>
     ensures { (bytes : List ℕ) → number_in result ≡ stop_at closing bytes r (seen_by r around k.kids k.empty) }
 {
     match r.kind {
-        kinds::ROW if k.kids < around.columns => Some(Stop::ShortRow),
+        kinds::ROW if k.kids < around.columns => Some(Stop::CellTooFew),
         kinds::TABLE if k.kids == 0 || r.a == 0 => Some(Stop::EmptyTable),
         kinds::LIST if k.kids == 0 => Some(Stop::EmptyList),
         kinds::PARAGRAPH | kinds::EMPHASIS | kinds::STRONG | kinds::DELETE | kinds::MARK
-            if k.empty => { Some(Stop::EmptyProse) }
+            if k.empty => { Some(Stop::EmptyContent) }
         _ => None,
     }
 }
