@@ -11,18 +11,13 @@ use Rattle.leaves.specs.declared.report.entries.Tally.{Tally}
 use Rattle.leaves.proofs.report.EntryLaws.{entries-counted, counted-fits, counted-short, counted-whole, put_whole}
 use Rattle.leaves.specs.Refusal.Judge.{judge_sheet, Judges}
 use Rattle.leaves.specs.Refusal.Formed.{Sound}
-use Rattle.leaves.specs.declared.refusal.verdict.Malformed.{Malformed}
 use Rattle.leaves.specs.Refusal.Verdict.{Judged}
 use Rattle.leaves.proofs.refusal.FormedLaws.{accepted}
 use Rattle.blocks.specs.Walk.{validate_document}
 use Rattle.blocks.specs.Check.{checked_answer, outcome}
-use Rattle.blocks.specs.declared.answer.CheckError.TheVariants.{Malformed as IsMalformed, ShortReport}
+use Rattle.blocks.specs.declared.answer.CheckError.TheVariants.{ShortReport}
 
 module _ (w bytes : List ℕ) {j : Judged} (e : Judges w bytes j) where
-  pub check-refused : (x : List ℕ) {malformed : Malformed} → j ≡ Err malformed → (checked_answer (Err (IsMalformed malformed)), x) ≡ outcome w bytes x
-  unfolding outcome
-  check-refused x {malformed} h = let r : judge_sheet w bytes ≡ Err malformed = sym e.enum ∙ h in rw r
-
   pub accepts : {u : Unit {0}} → j ≡ Ok u → judge_sheet w bytes ≡ Ok tt
   accepts h = sym e.enum ∙ h
 

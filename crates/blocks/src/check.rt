@@ -23,6 +23,7 @@ fn measure(sheet: &[u32], text: &[u8], n: usize) -> Tally
 
 // Refuses a malformed sheet by number and changes no lent word; or writes the whole list into the report's front.
 // It measures the list before it says that the report is short, and does not walk again to write a list of no entries.
+#[tactic(auto, unfolding(crate::specs::Check::outcome))]
 pub fn check(sheet: &[u32], text: &[u8], report: &mut [u32]) -> Result<usize, CheckError>
     ensures { (checked_answer result, report.new) ≡
         outcome sheet.now text.now report.old }

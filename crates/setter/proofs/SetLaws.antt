@@ -1,39 +1,18 @@
--- The answer of the machine, by the tests that lead to it; its number and value tell which answer it is.
+-- The number of a stop tells which stop it is, and the machine's number and value which answer.
 use Rattle.std.specs.Prelude.{Err, Ok}
 use mathlib.Core.Path.{◌≡◌, refl, sym, ap, ◌∙◌}
-use mathlib.Core.List.{List, [], ◌∷◌}
-use Prim.Native.Nat.{ℕ, ◌<◌, ◌≤◌}
+use mathlib.Core.List.{[], ◌∷◌}
+use Prim.Native.Nat.{ℕ, ◌≤◌}
 use native.Mathlib.Omega.{arith}
-use borrow.Author.Tests.{lt-ltb, le-ltb}
-use lib.ListN.{length, get_or}
-use Rattle.leaves.specs.Refusal.Verdict.{Judged, refusal_answer}
+use lib.ListN.{get_or}
+use Rattle.leaves.specs.Refusal.Verdict.{refusal_answer}
 use Rattle.leaves.proofs.refusal.VerdictLaws.{same_number, same-value, refusal-numbered, refusal-one}
-use Rattle.leaves.specs.Sheet.Records.{records_of}
-use Rattle.leaves.specs.Refusal.Judge.{judge_sheet, Judges}
 use Rattle.leaves.specs.declared.refusal.verdict.Malformed.{Malformed}
-use Rattle.setter.specs.Answer.{stop_number, last_stop, Set, setting_answer, Answers}
-use Rattle.setter.specs.Setting.{after_run, setting_of}
+use Rattle.setter.specs.Answer.{stop_number, last_stop, Set, setting_answer}
 use Rattle.setter.specs.declared.answer.Stop.{Stop}
 use Rattle.setter.specs.declared.answer.Stop.TheVariants.{CellTooMany, CellTooFew, EmptyTable, BreakInLine, LinkInLink, HeadingDepth, ItemNumber, BulletNumber, EmptyList, EmptyContent, BreakAfterBreak, InnerFrontmatter, LineEnding, AdjacentLists}
 use Rattle.setter.specs.declared.answer.Setting.TheVariants.{Ended, Stopped}
 use Rattle.setter.specs.declared.answer.SetError.TheVariants.{Malformed as IsMalformed, ShortMarks}
-
-module _ (w bytes : List ℕ) {j : Judged} (e : Judges w bytes j) where
-  pub set-refused : (x : List ℕ) {malformed : Malformed} → j ≡ Err malformed → Answers (setting_of w bytes x) (Err (IsMalformed malformed)) x
-  unfolding setting_of
-  set-refused x {malformed} h = let r : judge_sheet w bytes ≡ Err malformed = sym e.enum ∙ h in record { answer = rw r }
-
-  pub set-accepts : {u : Unit {0}} → j ≡ Ok u → judge_sheet w bytes ≡ Ok tt
-  set-accepts h = sym e.enum ∙ h
-
-module _ (w bytes x : List ℕ) (a : judge_sheet w bytes ≡ Ok tt) where
-  pub set-short : length x < records_of w → Answers (setting_of w bytes x) (Err ShortMarks) x
-  unfolding setting_of
-  set-short h = record { answer = rw (a, lt-ltb _ _ h) }
-
-  pub set-run : {s : Set} {y : List ℕ} → records_of w ≤ length x → Answers (after_run w bytes x) s y → Answers (setting_of w bytes x) s y
-  unfolding setting_of
-  set-run h e = record { answer = e.answer ∙ rw (a, le-ltb _ _ h) }
 
 -- ---- a stop's number is one of the table's, and tells which stop it is
 pub record Placed (n : ℕ) : Type 0 where

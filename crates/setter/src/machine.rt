@@ -62,6 +62,7 @@ fn run_records(sheet: &[u32], text: &[u8], marks: &mut [u32], n: usize) -> Setti
 }
 
 // Refuses a malformed sheet by number, or marks that are too few, and leaves every mark; else runs the machine.
+#[tactic(auto, unfolding(crate::specs::Setting::setting_of))]
 pub fn set(sheet: &[u32], text: &[u8], marks: &mut [u32]) -> Result<Setting, SetError>
     ensures { Answers (setting_of sheet.now text.now marks.old)
         result marks.new }

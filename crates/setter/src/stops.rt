@@ -38,7 +38,7 @@ pub(crate) fn opening_stop(bytes: &[u8], r: Rec, k: Kept) -> Option<Stop>
         kinds::LINK | kinds::AUTOLINK | kinds::LINK_REFERENCE | kinds::WIKI_LINK if k.linked => {
             Some(Stop::LinkInLink)
         }
-        kinds::HEADING if r.a < 1 || 6 < r.a => Some(Stop::HeadingDepth),
+        kinds::HEADING if !(1..=6).contains(&r.a) => Some(Stop::HeadingDepth),
         kinds::ITEM if k.ordered && r.b == 1 && MOST_OWN_NUMBER < r.c => Some(Stop::ItemNumber),
         kinds::ITEM if !k.ordered && r.b == 1 => Some(Stop::BulletNumber),
         kinds::SOFT_BREAK if k.broke => Some(Stop::BreakAfterBreak),

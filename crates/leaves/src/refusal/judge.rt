@@ -50,6 +50,7 @@ fn judge_records(sheet: &[u32], bytes: &[u8], n: usize) -> Result<(), Malformed>
 }
 
 // The answer for a sheet and its text: refused by 1 to 10, or accepted.
+#[tactic(auto, unfolding(crate::specs::Refusal::Judge::judge_sheet, crate::specs::Refusal::Verdict::or_else))]
 pub fn accept(sheet: &[u32], text: &[u8]) -> Result<(), Malformed>
     ensures { Judges sheet.now text.now result }
 {
