@@ -14,6 +14,9 @@ use crate::stops::{closing_stop, opening_stop};
 use leaves::refusal::judge::accept;
 use leaves::sheet::records::{RECORD_WORDS, level_at, record_at};
 
+// How many levels there are: the sheet's, 0, and those of the records, 1 to 64.
+const LEVELS: usize = 65;
+
 // Open records of this level or deeper close next. It is the level of record `i`; after the last record it is 1, so
 // that all close.
 fn next_level(sheet: &[u32], n: usize, i: usize) -> u32
@@ -33,7 +36,7 @@ fn run_records(sheet: &[u32], text: &[u8], marks: &mut [u32], n: usize) -> Setti
     ensures { Answers (after_run sheet.now text.now marks.old)
         (Ok result) marks.new }
 {
-    let mut open = [Kept::the_sheet(); 65];
+    let mut open = [Kept::the_sheet(); LEVELS];
     let mut depth: usize = 0;
     let mut i: usize = 0;
     while i < n || 0 < depth {

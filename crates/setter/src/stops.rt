@@ -15,7 +15,7 @@ use leaves::text::lines::holds_line_ending;
 use leaves::text::marker::written_marker;
 
 // The largest own number of an ordered item. The check has a constant of its own: the machine asks nothing of the check.
-const MOST_OWN_NUMBER: u32 = 999999999;
+const MOST_OWN_NUMBER: u32 = 999_999_999;
 
 // A cell, leaf directive or container directive: no line may break inside it.
 fn is_one_line(kind: u32) -> bool

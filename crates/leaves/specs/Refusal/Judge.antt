@@ -34,7 +34,7 @@ judge_sheet w bytes =
 abbrev pub sheet_answer : List ℕ → List ℕ → Answer
 sheet_answer w bytes = judged_answer (judge_sheet w bytes)
 
--- What an answer for a sheet and its text has to be: by number and record, and as an enum.
+-- What an answer for a sheet and its text has to be: by number and record, and as a value.
 pub record Judges (w bytes : List ℕ) (j : Judged) : Type 0 where
   pub answer : judged_answer j ≡ sheet_answer w bytes
   pub enum : j ≡ judge_sheet w bytes
