@@ -28,6 +28,7 @@ fn lacks_tags(sheet: &[u32], n: usize, i: usize) -> bool
 }
 
 // Makes test 10, and answers the first container that lacks a tag.
+#[tactic(auto, using(crate::proofs::refusal::TagLaws::tagging))]
 pub(crate) fn judge_tags(sheet: &[u32], n: usize) -> Result<(), Malformed>
     requires { Containers sheet.now n }
     ensures { result ≡ tags_from sheet.now n n 0 }
