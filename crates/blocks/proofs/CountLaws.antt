@@ -1,5 +1,5 @@
 -- How long the list of a sheet is, from the number of its records. Each entry is charged to the record whose span it copies, so that a bound on what one record is charged with is a bound on the whole list.
-use Rattle.std.specs.Prelude.{Option, Some, None}
+use Rattle.std.specs.Prelude.{Option, Some, None, Ok}
 use mathlib.Core.Path.{◌≡◌, refl}
 use mathlib.Core.Bool.{Bool, true, false, not, ◌&&◌, ◌||◌}
 use mathlib.Core.List.{List, [], ◌∷◌, ◌++◌}
@@ -20,7 +20,6 @@ use Rattle.leaves.specs.Refusal.Places.{opened, joined}
 use Rattle.leaves.specs.Refusal.Formed.{Formed}
 use Rattle.leaves.specs.Refusal.Judge.{judge_sheet}
 use Rattle.leaves.specs.declared.refusal.places.Open.{Open}
-use Rattle.leaves.specs.declared.refusal.verdict.Judged.TheVariants.{Accepted}
 use Rattle.leaves.specs.Report.Entries.{Entry, list_if, ◌⊕◌}
 use Rattle.leaves.specs.Report.Rules
 use Rattle.leaves.specs.declared.sheet.records.Rec.{Rec}
@@ -512,7 +511,7 @@ record Stands (bytes : List ℕ) (f : Forest) : Type 0 where
   state : Open
   formed : Formed bytes level state f
 
-pub few-accepted : (w bytes : List ℕ) → judge_sheet w bytes ≡ Accepted → length (validate_document w bytes) ≤ entries_of_one * records_of w
+pub few-accepted : (w bytes : List ℕ) → judge_sheet w bytes ≡ Ok tt → length (validate_document w bytes) ≤ entries_of_one * records_of w
 unfolding validate_document Formed
 few-accepted w bytes a =
     rw (← size_of w)

@@ -1,8 +1,8 @@
 -- The answer of the check, and the report that it leaves.
-use Rattle.std.specs.Prelude.{ℕ, not, List, ◌++◌, ltb, length, drop}
+use Rattle.std.specs.Prelude.{ℕ, not, List, ◌++◌, ltb, length, drop, is_ok}
 use Rattle.leaves.specs.Text.Lists.{when◌then◌else◌}
 use Rattle.leaves.specs.Report.Entries.{flat}
-use Rattle.leaves.specs.Refusal.Verdict.{Answer, answer, is_accepted}
+use Rattle.leaves.specs.Refusal.Verdict.{Answer, answer}
 use Rattle.leaves.specs.Refusal.Judge.{judge_sheet, sheet_answer}
 pub use Rattle.blocks.specs.Answer.{short_report, checked_answer}
 use Rattle.blocks.specs.Walk.{validate_document}
@@ -14,7 +14,7 @@ use Rattle.blocks.specs.Walk.{validate_document}
 unfoldable pub outcome : List ℕ → List ℕ → List ℕ → Answer × List ℕ
 outcome w bytes report =
     let es = validate_document w bytes in
-    when not (is_accepted (judge_sheet w bytes))
+    when not (is_ok (judge_sheet w bytes))
     then (sheet_answer w bytes, report)
     else when ltb (length report) (length (flat es))
     then (answer short_report 0, report)

@@ -1,38 +1,65 @@
 // The answer of the check, with its number and its record or count.
 ghost use Rattle.std.specs.Prelude.{◌≡◌};
-ghost use Rattle.blocks.specs.Answer.{checked_answer};
+ghost use Rattle.blocks.specs.Answer.{error_answer, checked_answer};
+ghost use Rattle.blocks.specs.declared.answer.CheckError.TheVariants.{Malformed as IsMalformed};
 
-use leaves::refusal::verdict;
-use leaves::refusal::verdict::Refusal;
-
-// The answer: how many entries were listed, or why nothing was.
-#[derive(Clone, Copy)]
-pub enum Checked {
-    Listed(usize),
-    Refused(Refusal),
-    ShortReport,
-}
+use leaves::refusal::verdict::Malformed;
 
 const SHORT_REPORT: u32 = 11;
 
+// Why nothing is listed.
+#[derive(Clone, Copy, PartialEq, Eq, Debug)]
+pub enum CheckError {
+    Malformed(Malformed),
+    ShortReport,
+}
+
+impl From<Malformed> for CheckError {
+    ghost from_gives = { λ malformed e. e ≡ IsMalformed malformed };
+
+    fn from(malformed: Malformed) -> CheckError {
+        CheckError::Malformed(malformed)
+    }
+}
+
+impl CheckError {
+    // Document 01's number of the refusal.
+    pub fn number(self) -> u32
+        ensures { result ≡ (error_answer self).number }
+    {
+        match self {
+            CheckError::Malformed(malformed) => malformed.number(),
+            CheckError::ShortReport => SHORT_REPORT,
+        }
+    }
+
+    // The record that the refusal names; 0 where it names none.
+    pub fn record(self) -> usize
+        ensures { result ≡ (error_answer self).value }
+    {
+        match self {
+            CheckError::Malformed(malformed) => malformed.record(),
+            CheckError::ShortReport => 0,
+        }
+    }
+}
+
 // Document 01's number of the answer; 0 where the sheet is accepted.
-pub fn answer_number(c: Checked) -> u32
-    ensures { result ≡ (checked_answer c).number }
+pub fn answer_number(checked: Result<usize, CheckError>) -> u32
+    ensures { result ≡ (checked_answer checked).number }
 {
-    match c {
-        Checked::Listed(_) => 0,
-        Checked::Refused(refusal) => verdict::refusal_number(refusal),
-        Checked::ShortReport => SHORT_REPORT,
+    match checked {
+        Ok(_) => 0,
+        Err(error) => error.number(),
     }
 }
 
 // The number of entries, or the record of a refusal.
-pub fn answer_value(c: Checked) -> usize
-    ensures { result ≡ (checked_answer c).value }
+pub fn answer_value(checked: Result<usize, CheckError>) -> usize
+    ensures { result ≡ (checked_answer checked).value }
 {
-    match c {
-        Checked::Listed(entries) => entries,
-        Checked::Refused(refusal) => verdict::refusal_record(refusal),
-        Checked::ShortReport => 0,
+    match checked {
+        Ok(entries) => entries,
+        Err(error) => error.record(),
     }
 }

@@ -6,10 +6,9 @@ ghost use Rattle.leaves.specs.Refusal.Formed.{Sound};
 ghost use Rattle.blocks.specs.Walk.{validate_document};
 ghost use Rattle.blocks.specs.Check.{checked_answer, outcome};
 
-use crate::answer::Checked;
+use crate::answer::CheckError;
 use crate::walk::validate_document;
-use leaves::refusal::judge;
-use leaves::refusal::verdict::Judged;
+use leaves::refusal::judge::accept;
 use leaves::report::entries::Tally;
 
 // How many words and entries the list has: a walk with an empty report.
@@ -23,21 +22,19 @@ fn measure(sheet: &[u32], text: &[u8]) -> Tally
 
 // Refuses a malformed sheet by number and changes no lent word; or writes the whole list into the report's front.
 // It measures the list before it says that the report is short, and does not walk again to write a list of no entries.
-pub fn check(sheet: &[u32], text: &[u8], report: &mut [u32]) -> Checked
+#[tactic(auto, unfolding(crate::specs::Check::outcome))]
+pub fn check(sheet: &[u32], text: &[u8], report: &mut [u32]) -> Result<usize, CheckError>
     ensures { (checked_answer result, report.new) ≡
         outcome sheet.now text.now report.old }
 {
-    let judged = judge::accept(sheet, text);
-    if let Judged::Refused(refusal) = judged {
-        return Checked::Refused(refusal);
-    }
+    accept(sheet, text)?;
     let need = measure(sheet, text);
     if need.entries == 0 {
-        return Checked::Listed(0);
+        return Ok(0);
     }
     if report.len() < need.words {
-        return Checked::ShortReport;
+        return Err(CheckError::ShortReport);
     }
     let listed = validate_document(sheet, text, report);
-    Checked::Listed(listed.entries)
+    Ok(listed.entries)
 }

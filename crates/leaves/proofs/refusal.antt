@@ -6,7 +6,6 @@ pub mod OpenLaws
 pub mod PassLaws
 pub mod PlaceLaws
 pub mod PlacedLaws
-pub mod RecordTestLaws
 pub mod SheetExamples
 pub mod TagLaws
 pub mod VerdictLaws

@@ -1,6 +1,7 @@
 -- The list of a paragraph's inlines, and what is compared of it.
+use Rattle.std.specs.Prelude.{Ok, Err, is_ok, is_err}
 use mathlib.Core.Path.{◌≡◌, refl, sym, ap, ◌∙◌}
-use mathlib.Core.Bool.{Bool, true, false, ◌&&◌}
+use mathlib.Core.Bool.{Bool, true, false, ◌&&◌, false≢true}
 use mathlib.Core.List.{List, [], ◌∷◌}
 use Prim.Native.Nat.{ℕ, ◌+◌, ◌*◌, ◌<◌, ◌≤◌}
 use borrow.Author.Rules.{rules}
@@ -11,9 +12,8 @@ use Rattle.leaves.specs.Text.Part.{part_of}
 use Rattle.leaves.specs.Sheet.Records.{records_of}
 use Rattle.leaves.specs.Sheet.Forest.{Forest, under}
 use Rattle.leaves.specs.Refusal.Judge.{Judges}
-use Rattle.leaves.specs.Refusal.Verdict.{is_accepted}
 use Rattle.leaves.specs.Report.Entries.{start}
-use Rattle.leaves.specs.declared.refusal.verdict.Judged.{Judged}
+use Rattle.leaves.specs.Refusal.Verdict.{Judged}
 use Rattle.leaves.specs.Refusal.Formed.{Sound}
 use Rattle.leaves.specs.Sheet.Trees.{trees}
 use Rattle.leaves.specs.Report.Listed.{path_of, Enters}
@@ -38,27 +38,35 @@ lists-as s x y e l = rw (y, ← e, ← s, ← x) l
 inlines-are : (w : List ℕ) {bytes text path : List ℕ} {f : Forest} → text ≡ bytes → path ≡ 0 ∷ [] → f ≡ under w (records_of w) 1 1 → validate_inlines text path f ≡ inlines_of w bytes
 inlines-are w t p f = rw (t, p, f)
 
+refused : (j : Judged) → is_err j ≡ true → is_ok j ≡ false
+refused (Ok u) h = absurd (false≢true h)
+refused (Err m) h = refl
+
+not-refused : (j : Judged) → is_err j ≡ false → is_ok j ≡ true
+not-refused (Ok u) h = refl
+not-refused (Err m) h = absurd (false≢true (sym h))
+
 module _ (w bytes report : List ℕ) where
   pub listed-none : records_of w < 1 → Gives (listed_of w bytes report) 0 report
   unfolding listed_of
   listed-none h = rw (lt-ltb (records_of w) 1 h) (record { first = refl; second = refl })
 
-  module _ (j : Judged) (t : Bool) (some : 1 ≤ records_of w) (judged : Judges w bytes j) (told : t ≡ is_accepted j) where
-    pub listed-refused : t ≡ false → Gives (listed_of w bytes report) 0 report
+  module _ (j : Judged) (t : Bool) (some : 1 ≤ records_of w) (judged : Judges w bytes j) (told : t ≡ is_err j) where
+    pub listed-refused : t ≡ true → Gives (listed_of w bytes report) 0 report
     unfolding listed_of
-    listed-refused e = rw (le-ltb (records_of w) 1 some, sym (ap is_accepted judged.enum) ∙ sym told ∙ e) (record { first = refl; second = refl })
+    listed-refused e = rw (le-ltb (records_of w) 1 some, sym (ap is_ok judged.enum) ∙ refused j (sym told ∙ e)) (record { first = refl; second = refl })
 
-    pub list-sound : t ≡ true → Sound w bytes
-    list-sound e = accepted w bytes (sym judged.enum ∙ is-accepted j (sym told ∙ e))
+    pub list-sound : t ≡ false → Sound w bytes
+    list-sound e = accepted w bytes (sym judged.enum ∙ is-accepted j (not-refused j (sym told ∙ e)))
 
     -- the records from record 1 on, k, and the report y, which stands at the first block
-    pub listed-some : t ≡ true → {k i : Records} {x y z : Report} {left : List ℕ} → k.sheet.now ≡ w → k.bytes.now ≡ bytes → k.n ≡ records_of w → k.next ≡ 1 → x.words.now ≡ report → x.tally ≡ start → (x.depth ≡ 0) × (x.level ≡ 0) → Enters x y 0 1 → Done k i 1 y z (validate_inlines k.bytes.now (path_of y) (trees k 1)) → left ≡ z.words.now → Gives (listed_of w bytes report) z.tally.words left
+    pub listed-some : t ≡ false → {k i : Records} {x y z : Report} {left : List ℕ} → k.sheet.now ≡ w → k.bytes.now ≡ bytes → k.n ≡ records_of w → k.next ≡ 1 → x.words.now ≡ report → x.tally ≡ start → (x.depth ≡ 0) × (x.level ≡ 0) → Enters x y 0 1 → Done k i 1 y z (validate_inlines k.bytes.now (path_of y) (trees k 1)) → left ≡ z.words.now → Gives (listed_of w bytes report) z.tally.words left
     unfolding listed_of
     listed-some e {k} {x = x} {y} a b c f v s top n d l =
         let p : path_of y ≡ 0 ∷ [] = n.path ∙ rw top.0 in
         let o : y.words.now ≡ x.words.now = rw n.words in
         let m = lists-as (n.tally ∙ s) (o ∙ v) l (inlines-are w b p (rw (a, c, f))) d.adds.lists in
-        rw (le-ltb (records_of w) 1 some, sym (ap is_accepted judged.enum) ∙ sym told ∙ e) (record { first = ap (λ (u : Words). u.words) m.tally; second = m.written })
+        rw (le-ltb (records_of w) 1 some, sym (ap is_ok judged.enum) ∙ not-refused j (sym told ∙ e)) (record { first = ap (λ (u : Words). u.words) m.tally; second = m.written })
 
 pub list-record : (r w text filled part wanted left : List ℕ) (n k m found : ℕ) (same : Bool) (t t₁ t₂ t₃ : Tally) → t₃ ≡ comparing same t₂ → t₂ ≡ comparing (leb n 800 && leb m 800 && eqb found m) t₁ → t₁ ≡ recorded t → same ≡ same_words left wanted 0 → wanted ≡ part_of r (6 + n * 4 + k) (m * 4) → Gives (listed_of w text (replicate 800 0)) found left → w ≡ first_of filled n → filled ≡ words_of 800 part → part ≡ part_of r 6 (n * 4) → text ≡ part_of r (6 + n * 4) k → n ≡ pair_at r 0 → k ≡ pair_at r 2 → m ≡ pair_at r 4 → t₃ ≡ list_replayed r t
 unfolding list_replayed list_of sheet_in

@@ -7,8 +7,7 @@ use borrow.Author.Rules.{rules}
 use lib.Dec.{eqb, leb}
 use Rattle.leaves.specs.Text.Part.{part_of}
 use Rattle.leaves.specs.Refusal.Judge.{Judges}
-use Rattle.leaves.specs.Refusal.Verdict.{judged_answer}
-use Rattle.leaves.specs.declared.refusal.verdict.Judged.{Judged}
+use Rattle.leaves.specs.Refusal.Verdict.{judged_answer, Judged}
 use Rattle.replay.specs.declared.tally.Tally.{Tally}
 use Rattle.replay.specs.Bytes.{byte_at, pair_at}
 use Rattle.replay.specs.Tally.{recorded, comparing}

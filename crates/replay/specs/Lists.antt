@@ -1,11 +1,10 @@
 -- Stored sheets of one paragraph, each with the list of its inlines.
-use Rattle.std.specs.Prelude.{ℕ, ◌+◌, ◌*◌, ◌&&◌, List, [], ◌∷◌, eqb, leb, ltb, replicate}
+use Rattle.std.specs.Prelude.{ℕ, ◌+◌, ◌*◌, ◌&&◌, List, [], ◌∷◌, eqb, leb, ltb, replicate, is_ok}
 use Rattle.leaves.specs.Text.Lists.{when◌then◌else◌}
 use Rattle.leaves.specs.Text.Part.{part_of}
 use Rattle.leaves.specs.Sheet.Records.{records_of}
 use Rattle.leaves.specs.Sheet.Forest.{under}
 use Rattle.leaves.specs.Refusal.Judge.{judge_sheet}
-use Rattle.leaves.specs.Refusal.Verdict.{is_accepted}
 use Rattle.leaves.specs.Report.Entries.{Entry, start, after, put}
 use Rattle.inlines.specs.Nodes.{validate_inlines}
 use Rattle.replay.specs.declared.tally.Tally.{Tally}
@@ -24,7 +23,7 @@ unfoldable pub listed_of : List ℕ → List ℕ → List ℕ → ℕ × List �
 listed_of w bytes report =
     when ltb (records_of w) 1
     then (0, report)
-    else when is_accepted (judge_sheet w bytes)
+    else when is_ok (judge_sheet w bytes)
     then ((after start (inlines_of w bytes)).words, put report start (inlines_of w bytes))
     else (0, report)
 

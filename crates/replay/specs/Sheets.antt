@@ -2,8 +2,7 @@
 use Rattle.std.specs.Prelude.{ℕ, ◌+◌, ◌*◌, Bool, ◌&&◌, List, eqb, leb}
 use Rattle.leaves.specs.Text.Part.{part_of}
 use Rattle.leaves.specs.Refusal.Judge.{judge_sheet}
-use Rattle.leaves.specs.Refusal.Verdict.{judged_answer}
-use Rattle.leaves.specs.declared.refusal.verdict.Judged.{Judged}
+use Rattle.leaves.specs.Refusal.Verdict.{judged_answer, Judged}
 use Rattle.replay.specs.declared.tally.Tally.{Tally}
 use Rattle.replay.specs.Bytes.{byte_at, pair_at}
 use Rattle.replay.specs.Tally.{recorded, comparing}

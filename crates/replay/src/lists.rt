@@ -7,7 +7,6 @@ use crate::tally::Tally;
 use crate::{bytes, words};
 use inlines::nodes::validate_inlines;
 use leaves::refusal::judge::accept;
-use leaves::refusal::verdict::is_accepted;
 use leaves::report::entries::Report;
 use leaves::sheet::records::RECORD_WORDS;
 use leaves::sheet::trees::Records;
@@ -36,7 +35,7 @@ fn listed(sheet: &[u32], text: &[u8], report: &mut [u32]) -> usize
     if n < 1 {
         return 0;
     }
-    if !is_accepted(accept(sheet, text)) {
+    if accept(sheet, text).is_err() {
         return 0;
     }
     let mut records = Records::of_sheet(sheet, text);

@@ -5,8 +5,7 @@ ghost use Rattle.replay.specs.Sheets.{judged_of, sheet_replayed};
 use crate::tally::Tally;
 use crate::{bytes, words};
 use leaves::refusal::judge::accept;
-use leaves::refusal::verdict;
-use leaves::refusal::verdict::Judged;
+use leaves::refusal::verdict::{Malformed, number_of, record_of};
 use leaves::text::part::part;
 
 // How many bytes stand before a record's words: two counts (words of the sheet, bytes of the text), and the number and
@@ -23,7 +22,7 @@ pub fn behind(r: &[u8]) -> usize
 }
 
 // The answer for a stored sheet. A sheet of over MOST words is judged as a sheet of no words.
-fn judged(r: &[u8]) -> Judged
+fn judged(r: &[u8]) -> Result<(), Malformed>
     ensures { result ≡ judged_of r.now }
 {
     let mut sheet = [0u32; MOST];
@@ -39,8 +38,8 @@ pub fn replay_record(r: &[u8], tally: Tally) -> Tally
 {
     let fits = bytes::pair(r, 0) <= MOST;
     let answer = judged(r);
-    let number = verdict::number_of(answer) as usize;
-    let record = verdict::record_of(answer);
+    let number = number_of(answer) as usize;
+    let record = record_of(answer);
     tally
         .record()
         .compare(fits & (number == bytes::small(r, 4)))

@@ -1,4 +1,5 @@
 -- What the C functions promise, from what the check and the machine do; and demand 3 from the two promises.
+use Rattle.std.specs.Prelude.{Ok, is_ok}
 use mathlib.Core.Path.{◌≡◌, refl, sym, ap, ◌∙◌}
 use mathlib.Core.Bool.{Bool, true, false}
 use mathlib.Core.List.{List}
@@ -8,16 +9,14 @@ use lib.ListN.{length}
 use lib.Dec.{ltb}
 use Rattle.leaves.specs.Sheet.Records.{records_of}
 use Rattle.leaves.specs.Report.Entries.{entries_in}
-use Rattle.leaves.specs.Refusal.Verdict.{Answer, answer, is_accepted}
+use Rattle.leaves.specs.Refusal.Verdict.{Answer, answer}
 use Rattle.leaves.specs.Refusal.Judge.{judge_sheet}
-use Rattle.leaves.specs.declared.refusal.verdict.Judged.TheVariants.{Accepted}
 use Rattle.leaves.proofs.refusal.VerdictLaws.{is-accepted}
 use Rattle.blocks.specs.Check.{outcome}
 use Rattle.blocks.proofs.AnswerLaws.{judged-record, value-word}
 use Rattle.setter.specs.Machine.{run_answer}
-use Rattle.setter.specs.Answer.{setting_answer, Answers}
+use Rattle.setter.specs.Answer.{Set, setting_answer, Answers}
 use Rattle.setter.specs.Setting.{after_run, setting_of}
-use Rattle.setter.specs.declared.answer.Setting.{Setting}
 use Rattle.setter.specs.Agrees.{Agrees}
 use Rattle.setter.specs.Exports.{Halves, CheckPromise, SetPromise, Shipped}
 use Rattle.setter.proofs.agrees.Inside.{run_inside}
@@ -37,14 +36,14 @@ module _ (w bytes x : List ℕ) {c : Answer} {y : List ℕ} (e : (c, y) ≡ outc
 -- ---- the machine: its value is one of the sheet's records, or their number
 set_word : (w bytes x : List ℕ) → (setting_of w bytes x).0.value < 2 ^ 32
 unfolding setting_of after_run
-set_word w bytes x = go (is_accepted (judge_sheet w bytes)) refl (ltb (length x) (records_of w)) refl
+set_word w bytes x = go (is_ok (judge_sheet w bytes)) refl (ltb (length x) (records_of w)) refl
   where
-    go : (b : Bool) → is_accepted (judge_sheet w bytes) ≡ b → (c : Bool) → ltb (length x) (records_of w) ≡ c → (setting_of w bytes x).0.value < 2 ^ 32
+    go : (b : Bool) → is_ok (judge_sheet w bytes) ≡ b → (c : Bool) → ltb (length x) (records_of w) ≡ c → (setting_of w bytes x).0.value < 2 ^ 32
     go false a c f = rw a (omega (arith, judged-record w bytes))
     go true a true f = rw (a, f) (omega arith)
     go true a false f = rw (a, f) (omega (arith, run_inside w bytes (is-accepted (judge_sheet w bytes) a)))
 
-module _ (w bytes x : List ℕ) {s : Setting} {y : List ℕ} (e : Answers (setting_of w bytes x) s y) {n v : ℕ} (a : n ≡ (setting_answer s).number) (b : v ≡ (setting_answer s).value) where
+module _ (w bytes x : List ℕ) {s : Set} {y : List ℕ} (e : Answers (setting_of w bytes x) s y) {n v : ℕ} (a : n ≡ (setting_answer s).number) (b : v ≡ (setting_answer s).value) where
   of-set : answer n v ≡ (setting_of w bytes x).0
   of-set = rw (a, b) (ap (λ (p : Answer × List ℕ). p.0) e.answer)
 
@@ -57,7 +56,7 @@ module _ (w bytes x : List ℕ) {s : Setting} {y : List ℕ} (e : Answers (setti
 -- ---- demand 3 of what a C caller holds
 
 -- where the sheet is accepted and the marks are not refused, the machine's answer is that of the run
-set-ran : (w bytes x : List ℕ) → judge_sheet w bytes ≡ Accepted → (setting_of w bytes x).0.number < 256 → (setting_of w bytes x).0 ≡ run_answer w bytes
+set-ran : (w bytes x : List ℕ) → judge_sheet w bytes ≡ Ok tt → (setting_of w bytes x).0.number < 256 → (setting_of w bytes x).0 ≡ run_answer w bytes
 unfolding setting_of after_run
 set-ran w bytes x a h = go (ltb (length x) (records_of w)) refl
   where

@@ -7,9 +7,8 @@ use native.Mathlib.Numerals.{add-one}
 use native.Mathlib.Omega.{arith}
 use lib.Dec.{eqb, ltb}
 use lib.ListN.{length}
-use borrow.Author.Tests.{eq-eqb, ltb-true, ltb-false, le-leb}
+use borrow.Author.Tests.{eq-eqb, ltb-true, ltb-false}
 use Rattle.leaves.specs.Text.Lists.{when◌then◌else◌}
-use Rattle.leaves.specs.Text.Bytes.{between}
 use Rattle.leaves.specs.Sheet.Kinds.{list, blank_line, item}
 use Rattle.leaves.specs.declared.sheet.records.Rec.{Rec}
 use Rattle.leaves.specs.Refusal.Fields.{most_a, most_b, most_c, is_surrogate, bad_number, bad_field}
@@ -18,7 +17,6 @@ use Rattle.leaves.specs.Text.Marker.{written_marker}
 use Rattle.setter.specs.Steps.{Frame, fresh, with_kid}
 use Rattle.setter.specs.Seen.{columns, nearest, in_link, behind_list, only_empty, last_mark, Seen, seen}
 use Rattle.setter.specs.Stops.{Moment, opening, same_moment, Row, most_own_number, stops, lowest, stop_at}
-use Rattle.setter.specs.Answer.{last_stop}
 use Rattle.setter.specs.Kept.{marker_behind, kept_of, seen_by, opened_in, joined_by}
 
 -- a list's written marker is never 0
@@ -55,30 +53,6 @@ opened-kept i r f st = refl
 pub joined-kept : (r : Rec) (f : Frame) (st : List Frame) → joined_by (kept_of f st) r ≡ kept_of (with_kid r f) st
 unfolding kept_of joined_by columns nearest in_link only_empty last_mark marker_behind
 joined-kept r f st = rw (add-one (length f.kids))
-
--- ---- a stop is one of the table
-Small : List Row → Type 0
-Small [] = Unit {0}
-Small (t ∷ ts) = (t.stop ≤ last_stop) × Small ts
-
-small-stops : Small stops
-unfolding Small
-small-stops = omega arith
-
-lowest-small : (m : Moment) (bytes : List ℕ) (r : Rec) (s : Seen) (ts : List Row) → Small ts → lowest m bytes r s ts ≤ last_stop
-unfolding Small
-lowest-small m bytes r s [] h = omega arith
-lowest-small m bytes r s (t ∷ ts) h = go (same_moment m t.moment && t.holds bytes r s) (lowest-small m bytes r s ts h.1)
-  where
-    go : (b : Bool) → lowest m bytes r s ts ≤ last_stop → (when b then t.stop else lowest m bytes r s ts) ≤ last_stop
-    go true later = h.0
-    go false later = later
-
-pub proper-stop : (m : Moment) (bytes : List ℕ) (r : Rec) (s : Seen) {n : ℕ} → n ≡ stop_at m bytes r s → (n ≡ 0 → ⊥) → between 1 last_stop n ≡ true
-unfolding stop_at
-proper-stop m bytes r s {n} e h =
-    let most : n ≤ last_stop = rw e (lowest-small m bytes r s stops small-stops) in
-    rw (le-leb 1 n (omega arith), le-leb n last_stop most)
 
 -- ---- an item that opens has a small number, or none
 -- where the lowest of the stops is none, no row of that moment holds

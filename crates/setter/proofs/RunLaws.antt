@@ -1,6 +1,7 @@
 -- The machine's loop, a turn for each opening and closing: what is kept by level is what the open records show, and what is left decides the answer and the marks.
+use Rattle.std.specs.Prelude.{Ok}
 use mathlib.Core.Path.{◌≡◌, refl, sym, ap, ◌∙◌}
-use mathlib.Core.Bool.{Bool, true, false, ◌||◌}
+use mathlib.Core.Bool.{Bool, true, false}
 use mathlib.Core.List.{List, [], ◌∷◌}
 use Prim.Native.Nat.{ℕ, suc, ◌+◌, ◌-◌, ◌*◌, ◌<◌, ◌≤◌}
 use native.Mathlib.Numerals.{add-one}
@@ -16,8 +17,6 @@ use Rattle.leaves.specs.Sheet.Forest.{records_from}
 use Rattle.leaves.specs.declared.sheet.records.Rec.{Rec}
 use Rattle.leaves.specs.Refusal.Judge.{judge_sheet}
 use Rattle.leaves.specs.Refusal.Record.{level_before}
-use Rattle.leaves.specs.declared.refusal.verdict.Judged.TheVariants.{Accepted}
-use Rattle.leaves.proofs.text.TestLaws.{or_left, or_right}
 use Rattle.leaves.proofs.refusal.PassLaws.{Deep, deep}
 use Rattle.leaves.proofs.refusal.FormedLaws.{each-passed, accepted}
 use Rattle.setter.specs.Steps.{Frame, fresh, with_kid, the_sheet, Step, closings, steps_from, steps_of, opens, closes}
@@ -28,14 +27,16 @@ use Rattle.setter.specs.Seen.{only_empty, last_mark, item_mark, seen}
 use Rattle.setter.proofs.StepLaws.{Low, open-one, close-one, goes_on, stops-here}
 use Rattle.setter.specs.Kept.{most_kids, most_item_mark, kept_of, seen_by, opened_in, joined_by}
 use Rattle.setter.specs.declared.kept.Kept.{Kept}
-use Rattle.setter.proofs.KeptLaws.{seen-kept, opened-kept, joined-kept, proper-stop, small-number}
-use Rattle.setter.specs.Answer.{Answers}
+use Rattle.setter.proofs.SetLaws.{stop-numbered}
+use Rattle.setter.proofs.KeptLaws.{seen-kept, opened-kept, joined-kept, small-number}
+use Rattle.setter.specs.Answer.{stop_number, Answers}
 use Rattle.setter.specs.Setting.{after_run}
 use Rattle.setter.specs.MachineRunning.{next_level}
 use Rattle.setter.specs.declared.answer.Setting.TheVariants.{Ended, Stopped}
+use Rattle.setter.specs.declared.answer.Stop.{Stop}
 
 -- ---- the levels of an accepted sheet
-module _ (w bytes : List ℕ) (ok : judge_sheet w bytes ≡ Accepted) where
+module _ (w bytes : List ℕ) (ok : judge_sheet w bytes ≡ Ok tt) where
   deep-at : (i : ℕ) → i < records_of w → Deep (level_before w i) (record_at w i).level
   deep-at i h = deep (level_before w i) (record_at w i).level (each-passed w bytes ok i h).level
 
@@ -88,7 +89,7 @@ module _ (w : List ℕ) (n : ℕ) (os : List Kept) (j : ℕ) (q : Kept) where
 
 -- n records, of which i have opened, and the records from the sheet down to a level are open: `old` are the marks before, and `new` those so far
 pub record Running (w bytes old : List ℕ) (n : ℕ) (new : List ℕ) (os : List Kept) (depth i : ℕ) : Type 0 where
-  pub ok : judge_sheet w bytes ≡ Accepted
+  pub ok : judge_sheet w bytes ≡ Ok tt
   pub all : n ≡ records_of w
   pub few : n ≤ 65535
   pub room : n ≤ length new
@@ -104,7 +105,7 @@ pub record Running (w bytes old : List ℕ) (n : ℕ) (new : List ℕ) (os : Lis
   pub ends : (run w bytes).end ≡ (run_of bytes (steps_from (record { top = top; around = around }) i (records_from w (n - i) i))).end
   pub marked : marks_of (run w bytes).steps old ≡ marks_of (run_of bytes (steps_from (record { top = top; around = around }) i (records_from w (n - i) i))).steps new
 
-pub run-start : (w bytes marks : List ℕ) (n : ℕ) {k : Kept} → k ≡ kept_of the_sheet [] → judge_sheet w bytes ≡ Accepted → n ≡ records_of w → n ≤ length marks → Running w bytes marks n marks (replicate 65 k) 0 0
+pub run-start : (w bytes marks : List ℕ) (n : ℕ) {k : Kept} → k ≡ kept_of the_sheet [] → judge_sheet w bytes ≡ Ok tt → n ≡ records_of w → n ≤ length marks → Running w bytes marks n marks (replicate 65 k) 0 0
 unfolding Held last_mark run steps_of
 run-start w bytes marks n e ok all room =
     record {
@@ -138,19 +139,13 @@ unfolding records_from
 left-none w n i h = let e : n - i ≡ 0 = omega arith in rw e
 
 -- after the last record nothing is open
-pub run_end : (w bytes old : List ℕ) (n : ℕ) (new : List ℕ) (os : List Kept) (depth i : ℕ) → Running w bytes old n new os depth i → (ltb i n || ltb 0 depth) ≡ false → Answers (after_run w bytes old) (Ended n) new
+pub run_end : (w bytes old : List ℕ) (n : ℕ) (new : List ℕ) (os : List Kept) (depth i : ℕ) → Running w bytes old n new os depth i → n ≤ i → depth ≤ 0 → Answers (after_run w bytes old) (Ok (Ended n)) new
 unfolding after_run run_answer steps_from closings run_of marks_of
-run_end w bytes old n new os depth i v h = go v.around refl
+run_end w bytes old n new os depth i v out none_open = go v.around refl
   where
-    out : n ≤ i
-    out = ltb-false i n (or_left (ltb i n) (ltb 0 depth) h)
-
-    none_open : depth ≤ 0
-    none_open = ltb-false 0 depth (or_right (ltb i n) (ltb 0 depth) h)
-
-    go : (st : List Frame) → v.around ≡ st → Answers (after_run w bytes old) (Ended n) new
+    go : (st : List Frame) → v.around ≡ st → Answers (after_run w bytes old) (Ok (Ended n)) new
     go (g ∷ st) e = absurd (omega (arith, v.deep, ap length e, none_open))
-    go [] e = record { answer = rw (v.ends, v.marked, e, left-none w n i out, v.all); proper = refl }
+    go [] e = record { answer = rw (v.ends, v.marked, e, left-none w n i out, v.all) }
 
 -- ---- a turn that closes the innermost record
 
@@ -257,11 +252,12 @@ module _ (w bytes old : List ℕ) (n : ℕ) (new : List ℕ) (os : List Kept) (d
     unfolding stop_of kept_of
     closes-stop = es bytes ∙ rw (top_kept, under-kept, closes-of) (ap (stop_at closing bytes z.top.of) (seen-kept z.top z.under z.around))
 
-    pub close-stop : (s ≡ 0 → ⊥) → Answers (after_run w bytes old) (Stopped s (get_or os depth unkept).at) new
+    pub close-stop : {stop : Stop} → s ≡ stop_number stop → Answers (after_run w bytes old) (Ok (Stopped stop (get_or os depth unkept).at)) new
     unfolding after_run run_answer marks_of
-    close-stop h =
+    close-stop {stop} e =
+        let h : (s ≡ 0 → ⊥) = λ n. omega (arith, (stop-numbered stop).low) in
         let here = stops-here bytes (closes z.top (z.under ∷ z.around)) after-close (rw closes-stop at h) in
-        record { answer = rw (z.ends, z.marked, here, top-at, closes-stop); proper = proper-stop closing [] r _ (es []) h }
+        record { answer = rw (z.ends, z.marked, here, top-at, ← e, closes-stop) }
 
     pub close-turn : {q : Kept} → s ≡ 0 → q ≡ joined_by (get_or os (depth - 1) unkept) r → Running w bytes old n new (set os (depth - 1) q) (depth - 1) i
     unfolding Held marks_of last_mark
@@ -297,7 +293,7 @@ pub record Opening (w bytes old : List ℕ) (n : ℕ) (new : List ℕ) (os : Lis
   pub most : depth + 1 ≤ 64
 
 module _ (w bytes old : List ℕ) (n : ℕ) (new : List ℕ) (os : List Kept) (depth i : ℕ) (v : Running w bytes old n new os depth i) where
-  pub opens-next : {l : ℕ} → l ≡ next_level w n i → depth < l → (ltb i n || ltb 0 depth) ≡ true → Opening w bytes old n new os depth i
+  pub opens-next : {l : ℕ} → l ≡ next_level w n i → depth < l → i < n + depth → Opening w bytes old n new os depth i
   opens-next {l} e h t = go (ltb i n) refl
     where
       go : (b : Bool) → ltb i n ≡ b → Opening w bytes old n new os depth i
@@ -309,8 +305,7 @@ module _ (w bytes old : List ℕ) (n : ℕ) (new : List ℕ) (os : List Kept) (d
       go false a =
           let g : n ≤ i = ltb-false i n a in
           let m : depth < 1 = rw (e, le-leb n i g) at h in
-          let d : 0 < depth = ltb-true 0 depth (rw a at t) in
-          absurd (omega arith)
+          absurd (omega (arith, t))
 
 module _ (w bytes old : List ℕ) (n : ℕ) (new : List ℕ) (os : List Kept) (depth i : ℕ) (z : Opening w bytes old n new os depth i) where
   abbrev top : Frame
@@ -354,11 +349,12 @@ module _ (w bytes old : List ℕ) (n : ℕ) (new : List ℕ) (os : List Kept) (d
     unfolding stop_of
     opens-stop = es ∙ rw (seen-is, er)
 
-    pub open-stop : (s ≡ 0 → ⊥) → Answers (after_run w bytes old) (Stopped s i) new
+    pub open-stop : {stop : Stop} → s ≡ stop_number stop → Answers (after_run w bytes old) (Ok (Stopped stop i)) new
     unfolding after_run run_answer marks_of
-    open-stop h =
+    open-stop {stop} e =
+        let h : (s ≡ 0 → ⊥) = λ n. omega (arith, (stop-numbered stop).low) in
         let here = stops-here bytes open_step after_open (rw opens-stop at h) in
-        record { answer = rw (z.running.ends, z.running.marked, steps-are, here, opens-stop); proper = proper-stop opening bytes r _ es h }
+        record { answer = rw (z.running.ends, z.running.marked, steps-are, here, ← e, opens-stop) }
 
     pub open_turn : {m : ℕ} {q : Kept} → s ≡ 0 → m ≡ mark_of r (seen_by r (get_or os depth unkept) 0 true) → q ≡ opened_in i r (get_or os depth unkept) → Running w bytes old n (set new i m) (set os (depth + 1) q) (depth + 1) (i + 1)
     unfolding Held marks_of last_mark stop_of

@@ -1,72 +1,86 @@
--- The answer of the machine, by the tests that lead to it.
+-- The number of a stop tells which stop it is, and the machine's number and value which answer.
+use Rattle.std.specs.Prelude.{Err, Ok}
 use mathlib.Core.Path.{◌≡◌, refl, sym, ap, ◌∙◌}
-use mathlib.Core.Bool.{true}
-use mathlib.Core.List.{List}
-use Prim.Native.Nat.{ℕ, ◌<◌, ◌≤◌}
+use mathlib.Core.List.{[], ◌∷◌}
+use Prim.Native.Nat.{ℕ, ◌≤◌}
 use native.Mathlib.Omega.{arith}
-use borrow.Author.Tests.{lt-ltb, le-ltb, leb-true}
-use lib.Dec.{leb}
-use lib.ListN.{length}
-use Rattle.leaves.specs.Text.Bytes.{between}
-use Rattle.leaves.proofs.text.TestLaws.{and_left, and_right}
+use lib.ListN.{get_or}
 use Rattle.leaves.specs.Refusal.Verdict.{refusal_answer}
 use Rattle.leaves.proofs.refusal.VerdictLaws.{same_number, same-value, refusal-numbered, refusal-one}
-use Rattle.leaves.specs.Sheet.Records.{records_of}
-use Rattle.leaves.specs.Refusal.Judge.{judge_sheet, Judges}
-use Rattle.leaves.specs.declared.refusal.verdict.Refusal.{Refusal}
-use Rattle.leaves.specs.declared.refusal.verdict.Judged.{Judged}
-use Rattle.leaves.specs.declared.refusal.verdict.Judged.TheVariants.{Accepted, Refused as Refuses}
-use Rattle.setter.specs.Answer.{setting_answer, last_stop, is_proper, Answers}
-use Rattle.setter.specs.Setting.{after_run, setting_of}
-use Rattle.setter.specs.declared.answer.Setting.{Setting}
-use Rattle.setter.specs.declared.answer.Setting.TheVariants.{Ended, Stopped, Refused, ShortMarks}
+use Rattle.leaves.specs.declared.refusal.verdict.Malformed.{Malformed}
+use Rattle.setter.specs.Answer.{stop_number, last_stop, Set, setting_answer}
+use Rattle.setter.specs.declared.answer.Stop.{Stop}
+use Rattle.setter.specs.declared.answer.Stop.TheVariants.{CellTooMany, CellTooFew, EmptyTable, BreakInLine, LinkInLink, HeadingDepth, ItemNumber, BulletNumber, EmptyList, EmptyContent, BreakAfterBreak, InnerFrontmatter, LineEnding, AdjacentLists}
+use Rattle.setter.specs.declared.answer.Setting.TheVariants.{Ended, Stopped}
+use Rattle.setter.specs.declared.answer.SetError.TheVariants.{Malformed as IsMalformed, ShortMarks}
 
-module _ (w bytes : List ℕ) {j : Judged} (e : Judges w bytes j) where
-  pub set-refused : (x : List ℕ) {refusal : Refusal} → j ≡ Refuses refusal → Answers (setting_of w bytes x) (Refused refusal) x
-  unfolding setting_of
-  set-refused x {refusal} h = let r : judge_sheet w bytes ≡ Refuses refusal = sym e.enum ∙ h in record { answer = rw r; proper = refl }
+-- ---- a stop's number is one of the table's, and tells which stop it is
+pub record Placed (n : ℕ) : Type 0 where
+  pub low : 1 ≤ n
+  pub high : n ≤ last_stop
 
-  pub set-accepts : j ≡ Accepted → judge_sheet w bytes ≡ Accepted
-  set-accepts h = sym e.enum ∙ h
+pub stop-numbered : (stop : Stop) → Placed (stop_number stop)
+stop-numbered CellTooMany = record { low = omega arith; high = omega arith }
+stop-numbered CellTooFew = record { low = omega arith; high = omega arith }
+stop-numbered EmptyTable = record { low = omega arith; high = omega arith }
+stop-numbered BreakInLine = record { low = omega arith; high = omega arith }
+stop-numbered LinkInLink = record { low = omega arith; high = omega arith }
+stop-numbered HeadingDepth = record { low = omega arith; high = omega arith }
+stop-numbered ItemNumber = record { low = omega arith; high = omega arith }
+stop-numbered BulletNumber = record { low = omega arith; high = omega arith }
+stop-numbered EmptyList = record { low = omega arith; high = omega arith }
+stop-numbered EmptyContent = record { low = omega arith; high = omega arith }
+stop-numbered BreakAfterBreak = record { low = omega arith; high = omega arith }
+stop-numbered InnerFrontmatter = record { low = omega arith; high = omega arith }
+stop-numbered LineEnding = record { low = omega arith; high = omega arith }
+stop-numbered AdjacentLists = record { low = omega arith; high = omega arith }
 
-module _ (w bytes x : List ℕ) (a : judge_sheet w bytes ≡ Accepted) where
-  pub set-short : length x < records_of w → Answers (setting_of w bytes x) ShortMarks x
-  unfolding setting_of
-  set-short h = record { answer = rw (a, lt-ltb _ _ h); proper = refl }
+read : ℕ → Stop
+read n = get_or (CellTooMany ∷ CellTooMany ∷ CellTooFew ∷ EmptyTable ∷ BreakInLine ∷ LinkInLink ∷ HeadingDepth ∷ ItemNumber ∷ BulletNumber ∷ EmptyList ∷ EmptyContent ∷ BreakAfterBreak ∷ InnerFrontmatter ∷ LineEnding ∷ AdjacentLists ∷ []) n CellTooMany
 
-  pub set-run : {r : Setting} {y : List ℕ} → records_of w ≤ length x → Answers (after_run w bytes x) r y → Answers (setting_of w bytes x) r y
-  unfolding setting_of
-  set-run h e = record { answer = e.answer ∙ rw (a, le-ltb _ _ h); proper = e.proper }
+stop-back : (stop : Stop) → read (stop_number stop) ≡ stop
+unfolding read
+stop-back CellTooMany = refl
+stop-back CellTooFew = refl
+stop-back EmptyTable = refl
+stop-back BreakInLine = refl
+stop-back LinkInLink = refl
+stop-back HeadingDepth = refl
+stop-back ItemNumber = refl
+stop-back BulletNumber = refl
+stop-back EmptyList = refl
+stop-back EmptyContent = refl
+stop-back BreakAfterBreak = refl
+stop-back InnerFrontmatter = refl
+stop-back LineEnding = refl
+stop-back AdjacentLists = refl
 
--- ---- number and value tell which answer it is, among those that can be
-record Placed (n : ℕ) : Type 0 where
-  low : 1 ≤ n
-  high : n ≤ last_stop
+pub stop-one : (a b : Stop) → stop_number a ≡ stop_number b → a ≡ b
+stop-one a b e = sym (stop-back a) ∙ ap read e ∙ stop-back b
 
-placed : (n : ℕ) → between 1 last_stop n ≡ true → Placed n
-placed n h = record { low = leb-true 1 n (and_left (leb 1 n) (leb n last_stop) h); high = leb-true n last_stop (and_right (leb 1 n) (leb n last_stop) h) }
+-- ---- number and value tell which answer it is
 
 -- a refusal's own answer, from that of the machine
-refusal-same : (r s : Refusal) → setting_answer (Refused r) ≡ setting_answer (Refused s) → refusal_answer r ≡ refusal_answer s
+refusal-same : (r s : Malformed) → setting_answer (Err (IsMalformed r)) ≡ setting_answer (Err (IsMalformed s)) → refusal_answer r ≡ refusal_answer s
 refusal-same r s e =
     let n : (refusal_answer r).number ≡ (refusal_answer s).number = omega (arith, same_number e) in
     let v : (refusal_answer r).value ≡ (refusal_answer s).value = same-value e in
     λ i. record { number = n i; value = v i }
 
-pub setting-one : (s t : Setting) → is_proper s ≡ true → is_proper t ≡ true → setting_answer s ≡ setting_answer t → s ≡ t
-setting-one (Ended m) (Ended n) p q e = ap Ended (same-value e)
-setting-one (Ended m) (Stopped b j) p q e = absurd (omega (arith, same_number e, placed b q))
-setting-one (Ended m) (Refused r) p q e = absurd (omega (arith, same_number e))
-setting-one (Ended m) ShortMarks p q e = absurd (omega (arith, same_number e))
-setting-one (Stopped a i) (Ended n) p q e = absurd (omega (arith, same_number e, placed a p))
-setting-one (Stopped a i) (Stopped b j) p q e = λ k. Stopped (same_number e k) (same-value e k)
-setting-one (Stopped a i) (Refused r) p q e = absurd (omega (arith, same_number e, placed a p))
-setting-one (Stopped a i) ShortMarks p q e = absurd (omega (arith, same_number e, placed a p))
-setting-one (Refused r) (Ended n) p q e = absurd (omega (arith, same_number e))
-setting-one (Refused r) (Stopped b j) p q e = absurd (omega (arith, same_number e, placed b q))
-setting-one (Refused r) (Refused t) p q e = ap Refused (refusal-one r t (refusal-same r t e))
-setting-one (Refused r) ShortMarks p q e = absurd (omega (arith, same_number e, (refusal-numbered r).most))
-setting-one ShortMarks (Ended n) p q e = absurd (omega (arith, same_number e))
-setting-one ShortMarks (Stopped b j) p q e = absurd (omega (arith, same_number e, placed b q))
-setting-one ShortMarks (Refused r) p q e = absurd (omega (arith, same_number e, (refusal-numbered r).most))
-setting-one ShortMarks ShortMarks p q e = refl
+pub setting-one : (s t : Set) → setting_answer s ≡ setting_answer t → s ≡ t
+setting-one (Ok (Ended m)) (Ok (Ended n)) e = ap (λ k. Ok (Ended k)) (same-value e)
+setting-one (Ok (Ended m)) (Ok (Stopped b j)) e = absurd (omega (arith, same_number e, stop-numbered b))
+setting-one (Ok (Ended m)) (Err (IsMalformed r)) e = absurd (omega (arith, same_number e))
+setting-one (Ok (Ended m)) (Err ShortMarks) e = absurd (omega (arith, same_number e))
+setting-one (Ok (Stopped a i)) (Ok (Ended n)) e = absurd (omega (arith, same_number e, stop-numbered a))
+setting-one (Ok (Stopped a i)) (Ok (Stopped b j)) e = λ k. Ok (Stopped (stop-one a b (same_number e) k) (same-value e k))
+setting-one (Ok (Stopped a i)) (Err (IsMalformed r)) e = absurd (omega (arith, same_number e, stop-numbered a))
+setting-one (Ok (Stopped a i)) (Err ShortMarks) e = absurd (omega (arith, same_number e, stop-numbered a))
+setting-one (Err (IsMalformed r)) (Ok (Ended n)) e = absurd (omega (arith, same_number e))
+setting-one (Err (IsMalformed r)) (Ok (Stopped b j)) e = absurd (omega (arith, same_number e, stop-numbered b))
+setting-one (Err (IsMalformed r)) (Err (IsMalformed t)) e = ap (λ m. Err (IsMalformed m)) (refusal-one r t (refusal-same r t e))
+setting-one (Err (IsMalformed r)) (Err ShortMarks) e = absurd (omega (arith, same_number e, (refusal-numbered r).most))
+setting-one (Err ShortMarks) (Ok (Ended n)) e = absurd (omega (arith, same_number e))
+setting-one (Err ShortMarks) (Ok (Stopped b j)) e = absurd (omega (arith, same_number e, stop-numbered b))
+setting-one (Err ShortMarks) (Err (IsMalformed r)) e = absurd (omega (arith, same_number e, (refusal-numbered r).most))
+setting-one (Err ShortMarks) (Err ShortMarks) e = refl

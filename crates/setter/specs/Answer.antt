@@ -1,9 +1,27 @@
 -- The answer of the setting machine, by number and value.
-use Rattle.std.specs.Prelude.{ℕ, ◌+◌, ◌≡◌, Bool, true, List}
-use Rattle.leaves.specs.Text.Bytes.{between}
+use Rattle.std.specs.Prelude.{ℕ, ◌+◌, ◌≡◌, List, Result, Ok, Err, Option, Some, None}
 use Rattle.leaves.specs.Refusal.Verdict.{Answer, answer, refusal_answer}
+use Rattle.setter.specs.declared.answer.Stop.{Stop}
+use Rattle.setter.specs.declared.answer.Stop.TheVariants.{
+  CellTooMany,
+  CellTooFew,
+  EmptyTable,
+  BreakInLine,
+  LinkInLink,
+  HeadingDepth,
+  ItemNumber,
+  BulletNumber,
+  EmptyList,
+  EmptyContent,
+  BreakAfterBreak,
+  InnerFrontmatter,
+  LineEnding,
+  AdjacentLists,
+}
 use Rattle.setter.specs.declared.answer.Setting.{Setting}
-use Rattle.setter.specs.declared.answer.Setting.TheVariants.{Ended, Stopped, Refused, ShortMarks}
+use Rattle.setter.specs.declared.answer.Setting.TheVariants.{Ended, Stopped}
+use Rattle.setter.specs.declared.answer.SetError.{SetError}
+use Rattle.setter.specs.declared.answer.SetError.TheVariants.{Malformed, ShortMarks}
 
 -- the number of "short marks"
 abbrev pub short_marks : ℕ
@@ -14,27 +32,48 @@ short_marks = 12
 abbrev pub refused_as : Answer → Answer
 refused_as a = answer (256 + a.number) a.value
 
--- "Answer: end and record count, or stop and the record being opened or closed", and "stop (0 at the end), record";
--- "A refusal returns number and record (from 0; 0 for 1–3 and for 11 and above)".
-abbrev pub setting_answer : Setting → Answer
-setting_answer (Ended records) = answer 0 records
-setting_answer (Stopped stop i) = answer stop i
-setting_answer (Refused refusal) = refused_as (refusal_answer refusal)
-setting_answer ShortMarks = refused_as (answer short_marks 0)
+-- the number of a stop, in the table of stops
+abbrev pub stop_number : Stop → ℕ
+stop_number CellTooMany = 1
+stop_number CellTooFew = 2
+stop_number EmptyTable = 3
+stop_number BreakInLine = 4
+stop_number LinkInLink = 5
+stop_number HeadingDepth = 6
+stop_number ItemNumber = 7
+stop_number BulletNumber = 8
+stop_number EmptyList = 9
+stop_number EmptyContent = 10
+stop_number BreakAfterBreak = 11
+stop_number InnerFrontmatter = 12
+stop_number LineEnding = 13
+stop_number AdjacentLists = 14
 
--- how many stops there are
+-- the number of the stop, and 0 where there is none
+abbrev pub number_in : Option Stop → ℕ
+number_in None = 0
+number_in (Some stop) = stop_number stop
+
+-- how many stops there are; the number of each is one of 1 to this (`stop-numbered` in proofs/SetLaws.antt)
 abbrev pub last_stop : ℕ
 last_stop = 14
 
--- an answer that can be: where the machine stopped, the number is one of the stops
-abbrev pub is_proper : Setting → Bool
-is_proper (Ended records) = true
-is_proper (Stopped stop i) = between 1 last_stop stop
-is_proper (Refused refusal) = true
-is_proper ShortMarks = true
+-- "A refusal returns number and record (from 0; 0 for 1–3 and for 11 and above)".
+abbrev pub error_answer : SetError → Answer
+error_answer (Malformed malformed) = refused_as (refusal_answer malformed)
+error_answer ShortMarks = refused_as (answer short_marks 0)
 
--- s and the marks after it are the answer and the marks of p. s is an answer that can be, and no other such answer has
--- its number and value (`setting-one` in proofs/SetLaws.antt).
-pub record Answers (p : Answer × List ℕ) (s : Setting) (marked : List ℕ) : Type 0 where
+-- the answer of the machine: how its run ended, or why nothing was set
+abbrev pub Set : Type 0
+Set = Result Setting SetError
+
+-- "Answer: end and record count, or stop and the record being opened or closed", and "stop (0 at the end), record"
+abbrev pub setting_answer : Set → Answer
+setting_answer (Ok (Ended records)) = answer 0 records
+setting_answer (Ok (Stopped stop i)) = answer (stop_number stop) i
+setting_answer (Err error) = error_answer error
+
+-- s and the marks after it are the answer and the marks of p. No other answer has the number and value of s
+-- (`setting-one` in proofs/SetLaws.antt).
+pub record Answers (p : Answer × List ℕ) (s : Set) (marked : List ℕ) : Type 0 where
   pub answer : (setting_answer s, marked) ≡ p
-  pub proper : is_proper s ≡ true

@@ -1,11 +1,10 @@
 -- What running both the check and the setting machine promises: the two equations, and demand 3 about what was written.
 use Rattle.std.specs.Prelude.{ℕ, ◌≡◌, List}
 use Rattle.leaves.specs.Report.Entries.{entries_in}
+use Rattle.blocks.specs.Answer.{Checked}
 use Rattle.blocks.specs.Check.{checked_answer, outcome}
-use Rattle.blocks.specs.declared.answer.Checked.{Checked}
-use Rattle.setter.specs.Answer.{Answers}
+use Rattle.setter.specs.Answer.{Set, Answers}
 use Rattle.setter.specs.Setting.{setting_of}
-use Rattle.setter.specs.declared.answer.Setting.{Setting}
 use Rattle.setter.specs.Agrees.{Agrees}
 
 -- a sheet, its text, the report and the marks before; the check's answer and the report after it; the machine's answer
@@ -14,7 +13,7 @@ pub record ChecksAndSets
     (w bytes report marks : List ℕ)
     (checked : Checked)
     (written : List ℕ)
-    (set : Setting)
+    (set : Set)
     (marked : List ℕ) : Type 0 where
   -- the check's equation
   pub check : (checked_answer checked, written) ≡ outcome w bytes report

@@ -1,8 +1,8 @@
 -- The answer of the setting machine, and the marks that it leaves.
-use Rattle.std.specs.Prelude.{ℕ, not, List, ltb, length}
+use Rattle.std.specs.Prelude.{ℕ, not, List, ltb, length, is_ok}
 use Rattle.leaves.specs.Text.Lists.{when◌then◌else◌}
 use Rattle.leaves.specs.Sheet.Records.{records_of}
-use Rattle.leaves.specs.Refusal.Verdict.{Answer, answer, is_accepted}
+use Rattle.leaves.specs.Refusal.Verdict.{Answer, answer}
 use Rattle.leaves.specs.Refusal.Judge.{judge_sheet, sheet_answer}
 use Rattle.setter.specs.Machine.{run, run_answer}
 use Rattle.setter.specs.Marks.{marks_of}
@@ -16,7 +16,7 @@ after_run w bytes marks = (run_answer w bytes, marks_of (run w bytes).steps mark
 -- record; then 10 ..; then .. 12 for the setter": "fewer marks than records". "A refusal .. changes no lent word."
 unfoldable pub setting_of : List ℕ → List ℕ → List ℕ → Answer × List ℕ
 setting_of w bytes marks =
-    when not (is_accepted (judge_sheet w bytes))
+    when not (is_ok (judge_sheet w bytes))
     then (refused_as (sheet_answer w bytes), marks)
     else when ltb (length marks) (records_of w)
     then (refused_as (answer short_marks 0), marks)

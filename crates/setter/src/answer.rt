@@ -1,44 +1,136 @@
 // The answer of the setting machine, with its number and its value.
 ghost use Rattle.std.specs.Prelude.{◌≡◌};
-ghost use Rattle.setter.specs.Answer.{setting_answer};
+ghost use Rattle.setter.specs.Answer.{stop_number, error_answer, setting_answer};
+ghost use Rattle.setter.specs.declared.answer.SetError.TheVariants.{Malformed as IsMalformed};
 
-use leaves::refusal::verdict;
-use leaves::refusal::verdict::Refusal;
-
-// The answer: how many records were opened and closed, or the stop and its record, or why nothing was set.
-#[derive(Clone, Copy)]
-pub enum Setting {
-    Ended(u32),
-    Stopped(u32, u32),
-    Refused(Refusal),
-    ShortMarks,
-}
+use leaves::refusal::verdict::Malformed;
 
 // Added to a refusal's number, so that it is no stop's.
 const REFUSED: u32 = 256;
 
 const SHORT_MARKS: u32 = 12;
 
+// A stop of the machine, in the order of document 01's table.
+#[derive(Clone, Copy, PartialEq, Eq, Debug)]
+pub enum Stop {
+    // a cell, opened past the columns of its table
+    CellTooMany,
+    // a row, closed with fewer cells than its table has columns
+    CellTooFew,
+    // a table, closed without a row or a column
+    EmptyTable,
+    // an inline break, opened in a cell or in the label of a leaf or container directive
+    BreakInLine,
+    // a link, autolink, link reference or wikilink, opened under a link or link reference
+    LinkInLink,
+    // a heading, opened with a depth that is not 1 to 6
+    HeadingDepth,
+    // an ordered item, opened with a number of its own that is too large
+    ItemNumber,
+    // a bullet item, opened with a number
+    BulletNumber,
+    // a list, closed without an item
+    EmptyList,
+    // a paragraph, emphasis, strong, delete or mark, closed with nothing but empty texts
+    EmptyContent,
+    // a soft or spaces break, opened straight after a break
+    BreakAfterBreak,
+    // frontmatter, opened inside something
+    InnerFrontmatter,
+    // a text or inline code, opened with a line ending in it
+    LineEnding,
+    // a list, opened after a list of the same written marker, with nothing but blank lines between
+    AdjacentLists,
+}
+
+impl Stop {
+    // Document 01's number of the stop.
+    pub fn number(self) -> u32
+        ensures { result ≡ stop_number self }
+    {
+        match self {
+            Stop::CellTooMany => 1,
+            Stop::CellTooFew => 2,
+            Stop::EmptyTable => 3,
+            Stop::BreakInLine => 4,
+            Stop::LinkInLink => 5,
+            Stop::HeadingDepth => 6,
+            Stop::ItemNumber => 7,
+            Stop::BulletNumber => 8,
+            Stop::EmptyList => 9,
+            Stop::EmptyContent => 10,
+            Stop::BreakAfterBreak => 11,
+            Stop::InnerFrontmatter => 12,
+            Stop::LineEnding => 13,
+            Stop::AdjacentLists => 14,
+        }
+    }
+}
+
+// How the machine's run ended. A stop is no error: the machine did its work, and the stop is what it found.
+#[derive(Clone, Copy, PartialEq, Eq, Debug)]
+pub enum Setting {
+    // so many records were opened and closed
+    Ended(u32),
+    // the stop, and the record that was being opened or closed
+    Stopped(Stop, u32),
+}
+
+// Why nothing was set.
+#[derive(Clone, Copy, PartialEq, Eq, Debug)]
+pub enum SetError {
+    Malformed(Malformed),
+    ShortMarks,
+}
+
+impl From<Malformed> for SetError {
+    ghost from_gives = { λ malformed e. e ≡ IsMalformed malformed };
+
+    fn from(malformed: Malformed) -> SetError {
+        SetError::Malformed(malformed)
+    }
+}
+
+impl SetError {
+    // The number of the refusal, with 256 added.
+    pub fn number(self) -> u32
+        ensures { result ≡ (error_answer self).number }
+    {
+        match self {
+            SetError::Malformed(malformed) => REFUSED + malformed.number(),
+            SetError::ShortMarks => REFUSED + SHORT_MARKS,
+        }
+    }
+
+    // The record that the refusal names; 0 where it names none.
+    pub fn record(self) -> usize
+        ensures { result ≡ (error_answer self).value }
+    {
+        match self {
+            SetError::Malformed(malformed) => malformed.record(),
+            SetError::ShortMarks => 0,
+        }
+    }
+}
+
 // The stop, and 0 at the end; or the number of a refusal, with 256 added.
-pub(crate) fn setting_number(s: Setting) -> u32
-    ensures { result ≡ (setting_answer s).number }
+pub(crate) fn setting_number(setting: Result<Setting, SetError>) -> u32
+    ensures { result ≡ (setting_answer setting).number }
 {
-    match s {
-        Setting::Ended(_) => 0,
-        Setting::Stopped(stop, _) => stop,
-        Setting::Refused(refusal) => REFUSED + verdict::refusal_number(refusal),
-        Setting::ShortMarks => REFUSED + SHORT_MARKS,
+    match setting {
+        Ok(Setting::Ended(_)) => 0,
+        Ok(Setting::Stopped(stop, _)) => stop.number(),
+        Err(error) => error.number(),
     }
 }
 
 // The record of a stop or of a refusal; the number of records at the end.
-pub(crate) fn setting_value(s: Setting) -> usize
-    ensures { result ≡ (setting_answer s).value }
+pub(crate) fn setting_value(setting: Result<Setting, SetError>) -> usize
+    ensures { result ≡ (setting_answer setting).value }
 {
-    match s {
-        Setting::Ended(records) => records as usize,
-        Setting::Stopped(_, i) => i as usize,
-        Setting::Refused(refusal) => verdict::refusal_record(refusal),
-        Setting::ShortMarks => 0,
+    match setting {
+        Ok(Setting::Ended(records)) => records as usize,
+        Ok(Setting::Stopped(_, i)) => i as usize,
+        Err(error) => error.record(),
     }
 }

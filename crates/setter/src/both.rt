@@ -1,16 +1,16 @@
 // The check and the setting machine, one after the other, on the same sheet and text.
 ghost use Rattle.setter.specs.Both.{ChecksAndSets};
 
-use crate::answer::Setting;
+use crate::answer::{SetError, Setting};
 use crate::machine::set;
-use blocks::answer::Checked;
+use blocks::answer::CheckError;
 use blocks::check::check;
 
 // What each of the two answers.
 #[derive(Clone, Copy)]
 pub struct Both {
-    pub checked: Checked,
-    pub set: Setting,
+    pub checked: Result<usize, CheckError>,
+    pub set: Result<Setting, SetError>,
 }
 
 // Runs the check, which writes the report, and then the machine, which writes the marks. Neither asks the other: that

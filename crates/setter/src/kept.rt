@@ -6,7 +6,6 @@ ghost use Rattle.setter.specs.Kept.{kept_of, opened_in, joined_by, next_marker, 
 use crate::marks::item_mark;
 use leaves::sheet::records::Rec;
 use leaves::sheet::{classes, empty, kinds};
-use leaves::text::bytes::pick;
 use leaves::text::marker::written_marker;
 
 // What the machine keeps of an open record. The first five fields are of the record and of what is open around it, the
@@ -35,66 +34,73 @@ pub(crate) struct Kept {
     pub number: u32,
 }
 
-// What is kept of the sheet itself, before anything opens.
-pub(crate) fn the_sheet() -> Kept
-    ensures { result ≡ kept_of the_sheet [] }
-{
-    Kept {
-        at: 0,
-        columns: 0,
-        nearest: 0,
-        linked: false,
-        ordered: false,
-        kids: 0,
-        broke: false,
-        marker: 0,
-        empty: true,
-        number: 0,
-    }
-}
-
-// What is kept of record `i`, which is r, as it opens under the record of which `k` is kept.
-pub(crate) fn opened(i: u32, r: Rec, k: Kept) -> Kept
-    ensures { result ≡ opened_in i r k }
-{
-    Kept {
-        at: i,
-        columns: pick(r.kind == kinds::TABLE, r.a, k.columns),
-        nearest: pick(kinds::is_inline(r.kind), k.nearest, r.kind),
-        linked: (r.kind == kinds::LINK) | (r.kind == kinds::LINK_REFERENCE) | k.linked,
-        ordered: r.a == 1,
-        kids: 0,
-        broke: false,
-        marker: 0,
-        empty: true,
-        number: 0,
-    }
-}
-
 // The marker kept once record r has closed: for a list its written one, for a blank line the one before, and 0 for any
 // other kind.
 fn next_marker(r: Rec, before: u32) -> u32
     ensures { result ≡ next_marker r before }
 {
-    let list = pick(r.kind == kinds::LIST, written_marker(r.a, r.b), 0);
-    pick(r.kind == kinds::BLANK_LINE, before, list)
+    match r.kind {
+        kinds::LIST => written_marker(r.a, r.b),
+        kinds::BLANK_LINE => before,
+        _ => 0,
+    }
 }
 
-// What is kept of a record once its child r has closed; `k` was kept before.
-pub(crate) fn joined(k: Kept, r: Rec) -> Kept
-    requires { (k.kids ≤ most_kids) × (k.number ≤ most_item_mark) }
-    ensures { result ≡ joined_by k r }
-{
-    Kept {
-        at: k.at,
-        columns: k.columns,
-        nearest: k.nearest,
-        linked: k.linked,
-        ordered: k.ordered,
-        kids: k.kids + 1,
-        broke: classes::is_break(r.kind),
-        marker: next_marker(r, k.marker),
-        empty: empty::is_empty_text(r) & k.empty,
-        number: item_mark(r, k.number),
+impl Kept {
+    // What is kept of the sheet itself, before anything opens.
+    pub(crate) fn the_sheet() -> Kept
+        ensures { result ≡ kept_of the_sheet [] }
+    {
+        Kept {
+            at: 0,
+            columns: 0,
+            nearest: 0,
+            linked: false,
+            ordered: false,
+            kids: 0,
+            broke: false,
+            marker: 0,
+            empty: true,
+            number: 0,
+        }
+    }
+
+    // What is kept of record `i`, which is r, as it opens under the record of which this is kept.
+    #[tactic(auto, unfolding(crate::specs::Kept::opened_in, crate::specs::Kept::kept_of, crate::specs::Kept::marker_behind, crate::specs::Seen::only_empty, crate::specs::Seen::last_mark))]
+    pub(crate) fn opened(self, i: u32, r: Rec) -> Kept
+        ensures { result ≡ opened_in i r self }
+    {
+        Kept {
+            at: i,
+            columns: if r.kind == kinds::TABLE {
+                r.a
+            } else {
+                self.columns
+            },
+            nearest: if kinds::is_inline(r.kind) {
+                self.nearest
+            } else {
+                r.kind
+            },
+            linked: matches!(r.kind, kinds::LINK | kinds::LINK_REFERENCE) || self.linked,
+            ordered: r.a == 1,
+            ..Kept::the_sheet()
+        }
+    }
+
+    // What is kept of a record once its child r has closed; this was kept before.
+    #[tactic(auto, unfolding(crate::specs::Kept::joined_by))]
+    pub(crate) fn joined(self, r: Rec) -> Kept
+        requires { (self.kids ≤ most_kids) × (self.number ≤ most_item_mark) }
+        ensures { result ≡ joined_by self r }
+    {
+        Kept {
+            kids: self.kids + 1,
+            broke: classes::is_break(r.kind),
+            marker: next_marker(r, self.marker),
+            empty: empty::is_empty_text(r) && self.empty,
+            number: item_mark(r, self.number),
+            ..self
+        }
     }
 }

@@ -3,18 +3,19 @@
 ghost use Rattle.std.specs.Prelude.{◌≡◌, ◌*◌, ◌≤◌, length};
 ghost use Rattle.leaves.specs.Sheet.Records.{record_words, records_of};
 ghost use Rattle.leaves.specs.Refusal.Judge.{judge_sheet};
-ghost use Rattle.leaves.specs.declared.refusal.verdict.Judged.TheVariants.{Accepted};
 ghost use Rattle.setter.specs.Answer.{Answers};
 ghost use Rattle.setter.specs.Setting.{after_run, setting_of};
 ghost use Rattle.setter.specs.MachineRunning.{next_level};
 
-use crate::answer::Setting;
-use crate::kept;
+use crate::answer::{SetError, Setting};
+use crate::kept::Kept;
 use crate::marks::mark_of;
 use crate::stops::{closing_stop, opening_stop};
-use leaves::refusal::judge;
-use leaves::refusal::verdict::Judged;
+use leaves::refusal::judge::accept;
 use leaves::sheet::records::{RECORD_WORDS, level_at, record_at};
+
+// How many levels there are: the sheet's, 0, and those of the records, 1 to 64.
+const LEVELS: usize = 65;
 
 // Open records of this level or deeper close next. It is the level of record `i`; after the last record it is 1, so
 // that all close.
@@ -22,63 +23,57 @@ fn next_level(sheet: &[u32], n: usize, i: usize) -> u32
     requires { n * record_words ≤ length sheet.now }
     ensures { result ≡ next_level sheet.now n i }
 {
-    if n <= i {
-        return 1;
-    }
-    level_at(sheet, i)
+    if i < n { level_at(sheet, i) } else { 1 }
 }
 
-// Opens and closes the records one after another, a turn for each opening and closing, until one stops. `open` has, by
-// level, what is kept of each open record, and `depth` is the innermost's level.
+// Opens and closes the records one after another until one stops. `open` is a stack in fixed memory, since nothing may be
+// allocated: by level what is kept of each open record, and `depth` is the innermost's level. A turn for each opening
+// and closing, and no `for` over the records, since the closings would then stand twice: before a record and at the end.
 fn run_records(sheet: &[u32], text: &[u8], marks: &mut [u32], n: usize) -> Setting
-    requires { (judge_sheet sheet.now text.now ≡ Accepted)
+    requires { (judge_sheet sheet.now text.now ≡ Ok tt)
         × (n ≡ records_of sheet.now)
         × (n ≤ length marks.old) }
     ensures { Answers (after_run sheet.now text.now marks.old)
-        result marks.new }
+        (Ok result) marks.new }
 {
-    let mut open = [kept::the_sheet(); 65];
+    let mut open = [Kept::the_sheet(); LEVELS];
     let mut depth: usize = 0;
     let mut i: usize = 0;
-    while (i < n) | (0 < depth) {
+    while i < n || 0 < depth {
         let level = next_level(sheet, n, i) as usize;
         let k = open[depth];
         if level <= depth {
             let r = record_at(sheet, k.at as usize);
             let around = open[depth - 1];
-            let stop = closing_stop(r, k, around);
-            if stop != 0 {
+            if let Some(stop) = closing_stop(r, k, around) {
                 return Setting::Stopped(stop, k.at);
             }
-            depth = depth - 1;
-            open[depth] = kept::joined(around, r);
+            depth -= 1;
+            open[depth] = around.joined(r);
             continue;
         }
         let r = record_at(sheet, i);
-        let stop = opening_stop(text, r, k);
-        if stop != 0 {
+        if let Some(stop) = opening_stop(text, r, k) {
             return Setting::Stopped(stop, i as u32);
         }
         marks[i] = mark_of(r, k);
-        depth = depth + 1;
-        open[depth] = kept::opened(i as u32, r, k);
-        i = i + 1;
+        depth += 1;
+        open[depth] = k.opened(i as u32, r);
+        i += 1;
     }
     Setting::Ended(n as u32)
 }
 
 // Refuses a malformed sheet by number, or marks that are too few, and leaves every mark; else runs the machine.
-pub fn set(sheet: &[u32], text: &[u8], marks: &mut [u32]) -> Setting
+#[tactic(auto, unfolding(crate::specs::Setting::setting_of))]
+pub fn set(sheet: &[u32], text: &[u8], marks: &mut [u32]) -> Result<Setting, SetError>
     ensures { Answers (setting_of sheet.now text.now marks.old)
         result marks.new }
 {
-    let judged = judge::accept(sheet, text);
-    if let Judged::Refused(refusal) = judged {
-        return Setting::Refused(refusal);
-    }
+    accept(sheet, text)?;
     let n = sheet.len() / RECORD_WORDS;
     if marks.len() < n {
-        return Setting::ShortMarks;
+        return Err(SetError::ShortMarks);
     }
-    run_records(sheet, text, marks, n)
+    Ok(run_records(sheet, text, marks, n))
 }

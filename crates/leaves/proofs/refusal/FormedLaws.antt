@@ -1,4 +1,5 @@
 -- A sheet that is accepted holds a tree that is formed.
+use Rattle.std.specs.Prelude.{Ok, is_ok}
 use mathlib.Core.Path.{◌≡◌, refl, ap, ◌∙◌}
 use mathlib.Core.Bool.{Bool, true, false, false≢true}
 use mathlib.Core.List.{List}
@@ -15,7 +16,7 @@ use Rattle.leaves.specs.Sheet.Forest.{none, forest_at, forest_of, under, size}
 use Rattle.leaves.specs.Refusal.Groups.{holds_blocks, parent_group}
 use Rattle.leaves.specs.Refusal.Places.{opened, joined, open_at}
 use Rattle.leaves.specs.Sheet.Texts.{text_of, text_outside, text_ill_formed}
-use Rattle.leaves.specs.Refusal.Verdict.{is_accepted, or_else}
+use Rattle.leaves.specs.Refusal.Verdict.{or_else}
 use Rattle.leaves.specs.Refusal.Limits.{most_records, most_bytes}
 use Rattle.leaves.specs.Refusal.Record.{level_before}
 use Rattle.leaves.specs.Refusal.Tags.{tags_from, lacks_tags}
@@ -23,7 +24,6 @@ use Rattle.leaves.specs.Refusal.TagsPlaced.{Placed}
 use Rattle.leaves.specs.Refusal.Judge.{judge_from, judge_sheet}
 use Rattle.leaves.specs.Refusal.Formed.{Named, Head, Formed, Sound}
 use Rattle.leaves.specs.declared.sheet.records.Text.{Text}
-use Rattle.leaves.specs.declared.refusal.verdict.Judged.TheVariants.{Accepted}
 use Rattle.leaves.proofs.text.TestLaws.{or_left, or_right}
 use Rattle.leaves.proofs.refusal.OpenLaws.{open-kid, open-same, open-past}
 use Rattle.leaves.proofs.refusal.PassLaws.{Passed, deep}
@@ -97,12 +97,12 @@ module _ (w bytes : List ℕ) (n : ℕ) (pass : (i : ℕ) → i < n → Passed b
   formed-all = rw (← all_under w n 0 some_level) (formed-from n 0 0 (omega arith) (omega arith) (λ h. (deep 0 (record_at w 0).level (pass 0 h).level).near))
 
 -- ---- the whole sheet
-each-tag : (w : List ℕ) (n k i m : ℕ) → m < k → is_accepted (tags_from w n k i) ≡ true → lacks_tags w n (i + m) ≡ false
+each-tag : (w : List ℕ) (n k i m : ℕ) → m < k → is_ok (tags_from w n k i) ≡ true → lacks_tags w n (i + m) ≡ false
 unfolding tags_from
 each-tag w n zero i m b h = absurd (omega arith)
 each-tag w n (suc k) i m b h = go (lacks_tags w n i) refl m b (λ p q. each-tag w n k (suc i) p q)
   where
-    go : (t : Bool) → lacks_tags w n i ≡ t → (m : ℕ) → m < suc k → ((p : ℕ) → p < k → is_accepted (tags_from w n k (suc i)) ≡ true → lacks_tags w n (suc i + p) ≡ false) → lacks_tags w n (i + m) ≡ false
+    go : (t : Bool) → lacks_tags w n i ≡ t → (m : ℕ) → m < suc k → ((p : ℕ) → p < k → is_ok (tags_from w n k (suc i)) ≡ true → lacks_tags w n (suc i + p) ≡ false) → lacks_tags w n (i + m) ≡ false
     go true e m b later = absurd (false≢true (rw e at h))
     go false e zero b later = rw add-zero e
     go false e (suc m) b later = let p : i + suc m ≡ suc i + m = omega arith in rw p (later m (omega arith) (rw e at h))
@@ -112,32 +112,32 @@ record Through (w bytes : List ℕ) : Type 0 where
   pub even : length w % record_words ≡ 0
   pub few : records_of w ≤ most_records
   pub short : length bytes ≤ most_bytes
-  pub records : is_accepted (judge_from w bytes (records_of w) 0) ≡ true
-  pub tags : is_accepted (tags_from w (records_of w) (records_of w) 0) ≡ true
+  pub records : is_ok (judge_from w bytes (records_of w) 0) ≡ true
+  pub tags : is_ok (tags_from w (records_of w) (records_of w) 0) ≡ true
 
-through : (w bytes : List ℕ) → judge_sheet w bytes ≡ Accepted → Through w bytes
+through : (w bytes : List ℕ) → judge_sheet w bytes ≡ Ok tt → Through w bytes
 unfolding judge_sheet
 through w bytes j = go (eqb (length w % record_words) 0) (ltb most_records (records_of w)) (ltb most_bytes (length bytes)) refl refl refl
   where
     go : (t u v : Bool) → eqb (length w % record_words) 0 ≡ t → ltb most_records (records_of w) ≡ u → ltb most_bytes (length bytes) ≡ v → Through w bytes
-    go false u v a b c = absurd (false≢true (ap is_accepted (rw a at j)))
-    go true true v a b c = absurd (false≢true (ap is_accepted (rw (a, b) at j)))
-    go true false true a b c = absurd (false≢true (ap is_accepted (rw (a, b, c) at j)))
+    go false u v a b c = absurd (false≢true (ap is_ok (rw a at j)))
+    go true true v a b c = absurd (false≢true (ap is_ok (rw (a, b) at j)))
+    go true false true a b c = absurd (false≢true (ap is_ok (rw (a, b, c) at j)))
     go true false false a b c =
-        let both : or_else (judge_from w bytes (records_of w) 0) (tags_from w (records_of w) (records_of w) 0) ≡ Accepted = rw (a, b, c) at j in
+        let both : or_else (judge_from w bytes (records_of w) 0) (tags_from w (records_of w) (records_of w) 0) ≡ Ok tt = rw (a, b, c) at j in
         record {
           even = eqb-true _ _ a;
           few = ltb-false _ _ b;
           short = ltb-false _ _ c;
-          records = both_first (judge_from w bytes (records_of w) 0) (tags_from w (records_of w) (records_of w) 0) (ap is_accepted both);
-          tags = both-second (judge_from w bytes (records_of w) 0) (tags_from w (records_of w) (records_of w) 0) (ap is_accepted both);
+          records = both_first (judge_from w bytes (records_of w) 0) (tags_from w (records_of w) (records_of w) 0) (ap is_ok both);
+          tags = both-second (judge_from w bytes (records_of w) 0) (tags_from w (records_of w) (records_of w) 0) (ap is_ok both);
         }
 
 -- each record of it passed, where it stands
-pub each-passed : (w bytes : List ℕ) → judge_sheet w bytes ≡ Accepted → (i : ℕ) → i < records_of w → Passed bytes (record_at w i) (level_before w i) (open_at w (record_at w i).level i)
+pub each-passed : (w bytes : List ℕ) → judge_sheet w bytes ≡ Ok tt → (i : ℕ) → i < records_of w → Passed bytes (record_at w i) (level_before w i) (open_at w (record_at w i).level i)
 each-passed w bytes j = every-passed w bytes (records_of w) (through w bytes j).records
 
-pub accepted : (w bytes : List ℕ) → judge_sheet w bytes ≡ Accepted → Sound w bytes
+pub accepted : (w bytes : List ℕ) → judge_sheet w bytes ≡ Ok tt → Sound w bytes
 unfolding forest_of
 accepted w bytes j =
     let t = through w bytes j in

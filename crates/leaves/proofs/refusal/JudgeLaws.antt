@@ -1,4 +1,5 @@
 -- What stands before a record under its parent, kept by level; and the records judged one after another.
+use Rattle.std.specs.Prelude.{Ok, Err}
 use mathlib.Core.Path.{◌≡◌, refl, sym, ◌∙◌}
 use mathlib.Core.Bool.{Bool, true, false}
 use mathlib.Core.List.{List}
@@ -14,14 +15,13 @@ use lib.Seq.{get_or-set_same, get_or-set_other}
 use Rattle.leaves.specs.Sheet.Records.{record_at}
 use Rattle.leaves.specs.Refusal.Groups.{parent_group}
 use Rattle.leaves.specs.Refusal.Places.{opened, joined, open_at}
-use Rattle.leaves.specs.Refusal.Verdict.{is_accepted, or_else}
+use Rattle.leaves.specs.Refusal.Verdict.{or_else, Judged}
 use Rattle.leaves.specs.Refusal.Record.{level_before, bad_level, judge}
 use Rattle.leaves.specs.Refusal.Judge.{judge_at, judge_from}
 use Rattle.leaves.specs.Refusal.Judging.{slot_of, Slot}
 use Rattle.leaves.specs.declared.sheet.records.Rec.{Rec}
 use Rattle.leaves.specs.declared.refusal.places.Open.{Open}
-use Rattle.leaves.specs.declared.refusal.verdict.Judged.{Judged}
-use Rattle.leaves.specs.declared.refusal.verdict.Judged.TheVariants.{Accepted}
+use Rattle.leaves.specs.declared.refusal.verdict.Malformed.{Malformed}
 use Rattle.leaves.specs.Sheet.Siblings.{gather}
 use Rattle.leaves.proofs.refusal.OpenLaws.{open-kid, open-same, open_above}
 use Rattle.leaves.proofs.refusal.VerdictLaws.{or-first, or-second}
@@ -118,22 +118,22 @@ from_step w bytes n i h = let e : n - i ≡ suc (n - (i + 1)) = omega arith in r
 pub judging-start : (w bytes : List ℕ) (n : ℕ) {o : Open} → o ≡ opened 0 → Judging w bytes n 0 0 (replicate 66 o)
 judging-start w bytes n e = record { within = omega arith; same = rw sub-zero; kept = kept-start w e }
 
-module _ (w bytes : List ℕ) (n i before : ℕ) (os : List Open) (h : i < n) (v : Judging w bytes n i before os) {j : Judged} {r : Rec} {slot : ℕ} {t : Bool} (ej : j ≡ judge bytes i r before (get_or os slot closed)) (er : r ≡ record_at w i) (es : slot ≡ slot_of r.level) (et : t ≡ is_accepted j) where
-  pub judging-stop : t ≡ false → j ≡ judge_from w bytes n 0
-  judging-stop o = sym (v.same ∙ from_step w bytes n i h ∙ rw (← judged-at w bytes i before os v.kept ej er es) (or-first j _ (sym et ∙ o)))
+module _ (w bytes : List ℕ) (n i before : ℕ) (os : List Open) (h : i < n) (v : Judging w bytes n i before os) {j : Judged} {r : Rec} {slot : ℕ} (ej : j ≡ judge bytes i r before (get_or os slot closed)) (er : r ≡ record_at w i) (es : slot ≡ slot_of r.level) where
+  pub judging-stop : {m : Malformed} → j ≡ Err m → Err m ≡ judge_from w bytes n 0
+  judging-stop {m} e = sym (v.same ∙ from_step w bytes n i h ∙ rw (← judged-at w bytes i before os v.kept ej er es) (or-first j _ (rw e) ∙ e))
 
-  pub judging-passed : t ≡ true → Passed bytes r before (get_or os slot closed)
-  judging-passed y = passed bytes i r before (get_or os slot closed) (rw ej at (sym et ∙ y))
+  pub judging-passed : {u : Unit {0}} → j ≡ Ok u → Passed bytes r before (get_or os slot closed)
+  judging-passed e = passed bytes i r before (get_or os slot closed) (rw (← ej, e))
 
-  pub judging-turn : {p q : Open} {g : ℕ} → t ≡ true → q ≡ opened g → g ≡ parent_group r.kind r.a → p ≡ joined (get_or os slot closed) r.kind → Judging w bytes n (i + 1) r.level (set (set os slot p) (slot + 1) q)
-  judging-turn y eq eg ep =
+  pub judging-turn : {u : Unit {0}} {p q : Open} {g : ℕ} → j ≡ Ok u → q ≡ opened g → g ≡ parent_group r.kind r.a → p ≡ joined (get_or os slot closed) r.kind → Judging w bytes n (i + 1) r.level (set (set os slot p) (slot + 1) q)
+  judging-turn e eq eg ep =
       record {
         within = omega arith;
-        same = v.same ∙ from_step w bytes n i h ∙ rw (← judged-at w bytes i before os v.kept ej er es) (or-second j _ (sym et ∙ y));
-        kept = kept_next w bytes i before os v.kept eq eg ep es er (judging-passed y);
+        same = v.same ∙ from_step w bytes n i h ∙ rw (← judged-at w bytes i before os v.kept ej er es) (or-second j _ (rw e));
+        kept = kept_next w bytes i before os v.kept eq eg ep es er (judging-passed e);
       }
 
-pub judging-end : (w bytes : List ℕ) (n i before : ℕ) (os : List Open) → n ≤ i → Judging w bytes n i before os → Accepted ≡ judge_from w bytes n 0
+pub judging-end : (w bytes : List ℕ) (n i before : ℕ) (os : List Open) → n ≤ i → Judging w bytes n i before os → Ok tt ≡ judge_from w bytes n 0
 unfolding judge_from
 judging-end w bytes n i before os h v = let e : n - i ≡ 0 = omega (arith, v.within) in sym (v.same ∙ rw e)
 

@@ -1,4 +1,5 @@
 -- What passing the tests says of a record.
+use Rattle.std.specs.Prelude.{Err, Ok, is_ok}
 use mathlib.Core.Path.{◌≡◌, refl}
 use mathlib.Core.Bool.{Bool, true, false, not, ◌||◌, false≢true}
 use mathlib.Core.List.{List}
@@ -11,12 +12,10 @@ use Rattle.leaves.specs.Sheet.Kinds.{is_kind}
 use Rattle.leaves.specs.Refusal.Places.{misplaced}
 use Rattle.leaves.specs.Refusal.Fields.{bad_field}
 use Rattle.leaves.specs.Sheet.Texts.{text_outside, text_ill_formed}
-use Rattle.leaves.specs.Refusal.Verdict.{is_accepted}
 use Rattle.leaves.specs.Refusal.Record.{bad_level, judge_texts, judge}
 use Rattle.leaves.specs.declared.sheet.records.Rec.{Rec}
 use Rattle.leaves.specs.declared.refusal.places.Open.{Open}
-use Rattle.leaves.specs.declared.refusal.verdict.Refusal.TheVariants.{UnknownKind, BadLevel, Misplaced, BadField, TextOutside, NotUtf8}
-use Rattle.leaves.specs.declared.refusal.verdict.Judged.TheVariants.{Accepted, Refused}
+use Rattle.leaves.specs.declared.refusal.verdict.Malformed.TheVariants.{UnknownKind, BadLevel, Misplaced, BadField, TextOutside, NotUtf8}
 use Rattle.leaves.proofs.text.TestLaws.{or_left, or_right}
 
 pub record Passed (bytes : List ℕ) (r : Rec) (before : ℕ) (o : Open) : Type 0 where
@@ -27,11 +26,11 @@ pub record Passed (bytes : List ℕ) (r : Rec) (before : ℕ) (o : Open) : Type 
   pub inside : (text_outside bytes r.first || text_outside bytes r.second) ≡ false
   pub formed : (text_ill_formed bytes r.first || text_ill_formed bytes r.second) ≡ false
 
-pub passed : (bytes : List ℕ) (i : ℕ) (r : Rec) (before : ℕ) (o : Open) → is_accepted (judge bytes i r before o) ≡ true → Passed bytes r before o
+pub passed : (bytes : List ℕ) (i : ℕ) (r : Rec) (before : ℕ) (o : Open) → is_ok (judge bytes i r before o) ≡ true → Passed bytes r before o
 unfolding judge judge_texts
 passed bytes i r before o = go (is_kind r.kind) (bad_level before r.level) (misplaced o r.kind) (bad_field r) (text_outside bytes r.first || text_outside bytes r.second) (text_ill_formed bytes r.first || text_ill_formed bytes r.second) refl refl refl refl refl refl
   where
-    go : (k l m f t u : Bool) → is_kind r.kind ≡ k → bad_level before r.level ≡ l → misplaced o r.kind ≡ m → bad_field r ≡ f → (text_outside bytes r.first || text_outside bytes r.second) ≡ t → (text_ill_formed bytes r.first || text_ill_formed bytes r.second) ≡ u → is_accepted (when not k then Refused (UnknownKind i) else when l then Refused (BadLevel i) else when m then Refused (Misplaced i) else when f then Refused (BadField i) else when t then Refused (TextOutside i) else when u then Refused (NotUtf8 i) else Accepted) ≡ true → Passed bytes r before o
+    go : (k l m f t u : Bool) → is_kind r.kind ≡ k → bad_level before r.level ≡ l → misplaced o r.kind ≡ m → bad_field r ≡ f → (text_outside bytes r.first || text_outside bytes r.second) ≡ t → (text_ill_formed bytes r.first || text_ill_formed bytes r.second) ≡ u → is_ok {T = Unit {0}} (when not k then Err (UnknownKind i) else when l then Err (BadLevel i) else when m then Err (Misplaced i) else when f then Err (BadField i) else when t then Err (TextOutside i) else when u then Err (NotUtf8 i) else Ok tt) ≡ true → Passed bytes r before o
     go false l m f t u a b c d e g h = absurd (false≢true h)
     go true true m f t u a b c d e g h = absurd (false≢true h)
     go true false true f t u a b c d e g h = absurd (false≢true h)

@@ -2,17 +2,17 @@
 use mathlib.Core.Path.{◌≡◌, refl}
 use mathlib.Core.Bool.{Bool, true, false, not, ◌&&◌, ◌||◌}
 use mathlib.Core.List.{List, [], ◌∷◌}
-use Prim.Native.Nat.{ℕ, suc, ◌+◌, ◌<◌, ◌≤◌}
+use Rattle.std.proofs.Common.{◌⊎◌, inl, inr}
+use Prim.Native.Nat.{ℕ, suc, ◌<◌, ◌≤◌}
 use native.Mathlib.Omega.{arith}
 use lib.Dec.{eqb, ltb, leb}
 use lib.ListN.{get_or}
-use borrow.Author.Rules.{rules}
-use borrow.Author.Tests.{eqb-true, ltb-true, leb-false, eq-eqb, ne_eqb}
+use borrow.Author.Tests.{eqb-true, ltb-true, leb-false, ne_eqb}
 use Rattle.leaves.proofs.text.TestLaws.{all_below, each, and_left, and_right, or_left, or_right}
 use Rattle.leaves.specs.Sheet.Kinds.{html_tag}
 use Rattle.leaves.specs.Refusal.Groups.{holds_tags_and_blocks, holds_tags_and_inlines}
 use Rattle.leaves.specs.Refusal.PlaceTable.{place_table}
-use Rattle.leaves.specs.Refusal.Places.{holds, place_in, place_of, joined, misplaced}
+use Rattle.leaves.specs.Refusal.Places.{holds, place_in, place_of, misplaced}
 use Rattle.leaves.specs.declared.refusal.places.Open.{Open}
 
 -- ---- the table that the code reads has the places of the definitions, by one computed test of all its cells
@@ -41,7 +41,7 @@ holds-none group h = simp other
     other : (n : ℕ) → ltb n 10 ≡ true → eqb group n ≡ false
     other n e = ne_eqb group n (λ q. omega (arith, ltb-true n 10 e))
 
-pub place-below : (group column : ℕ) → 10 ≤ group → 0 ≡ place_in 1 (holds group) column
+place-below : (group column : ℕ) → 10 ≤ group → 0 ≡ place_in 1 (holds group) column
 unfolding place_in
 place-below group column h = rw (holds-none group h)
 
@@ -57,9 +57,13 @@ place_none first (group ∷ groups) column e h =
     let g : group < 7 = ltb-true group 7 (and_left (ltb group 7) (few groups) e) in
     rw (ne_eqb column group (λ q. omega arith)) (place_none (suc first) groups column (and_right (ltb group 7) (few groups) e) h)
 
-pub place-right : (group column : ℕ) → group < 10 → 7 ≤ column → 0 ≡ place_in 1 (holds group) column
+place-right : (group column : ℕ) → group < 10 → 7 ≤ column → 0 ≡ place_in 1 (holds group) column
 unfolding all_below few holds
 place-right group column g h = place_none 1 (holds group) column (each (λ g. few (holds g)) 10 refl group g) h
+
+pub place-outside : (group column : ℕ) → (10 ≤ group) ⊎ ((group < 10) × (7 ≤ column)) → 0 ≡ place_in 1 (holds group) column
+place-outside group column (inl h) = place-below group column h
+place-outside group column (inr h) = place-right group column h.0 h.1
 
 -- a tag that is not misplaced is the first or the second
 pub few-tags : (o : Open) (kind : ℕ) → misplaced o kind ≡ false → eqb kind html_tag ≡ true → o.tags < 2
@@ -70,14 +74,3 @@ few-tags o kind h e =
     let first : (eqb place 0 || ltb place o.stage || third) ≡ false = or_left _ ((eqb o.group holds_tags_and_blocks || eqb o.group holds_tags_and_inlines) && not (eqb kind html_tag) && ltb o.tags 2) h in
     let none : third ≡ false = or_right (eqb place 0 || ltb place o.stage) third first in
     leb-false 2 o.tags (rw e at none)
-
-module _ (o : Open) (kind : ℕ) {place : ℕ} (e : place ≡ place_of o.group kind) where
-  pub joined-tag : eqb kind html_tag ≡ true → ◌≡◌ {A = Open} (record { group = o.group; stage = place; tags = o.tags + 1 }) (joined o kind)
-  unfolding joined
-  joined-tag y = rw (e, y)
-
-  pub joined-other : eqb kind html_tag ≡ false → ◌≡◌ {A = Open} (record { group = o.group; stage = place; tags = o.tags }) (joined o kind)
-  unfolding joined
-  joined-other n = rw (e, n)
-
-pub ruleset place-laws = (place-below, place-right, place_inside, joined-tag, joined-other, eq-eqb, ne_eqb, rules)

@@ -1,4 +1,5 @@
 -- Refusal 10: once the records are placed, a container's tags are the two records after it.
+use Rattle.std.specs.Prelude.{Err, Ok}
 use mathlib.Core.Path.{◌≡◌, refl, sym, ap, ◌∙◌}
 use mathlib.Core.Bool.{Bool, true, false, not, ◌&&◌, ◌||◌, true≢false, and-false, and-true}
 use mathlib.Core.List.{List}
@@ -7,7 +8,7 @@ use native.Mathlib.Numerals.{add-one}
 use native.Mathlib.Nat.{sub-zero, add-zero}
 use native.Mathlib.Omega.{arith}
 use borrow.Author.Rules.{rules}
-use borrow.Author.Tests.{not-false, lt-ltb, le-ltb, ltb-true, ltb-false, eq-eqb, eqb-true}
+use borrow.Author.Tests.{not-false, le-ltb, ltb-true, ltb-false, eq-eqb, ne_eqb, eqb-true}
 use lib.Dec.{eqb, ltb, leb}
 use Rattle.leaves.specs.Text.Lists.{when◌then◌else◌}
 use Rattle.leaves.specs.Sheet.Kinds.{html_container, html_tag}
@@ -20,8 +21,7 @@ use Rattle.leaves.specs.Refusal.Tags.{lacks_tags, tags_from}
 use Rattle.leaves.specs.Refusal.TagsPlaced.{Placed, tag_under}
 use Rattle.leaves.specs.declared.sheet.records.Rec.{Rec}
 use Rattle.leaves.specs.declared.refusal.places.Open.{Open}
-use Rattle.leaves.specs.declared.refusal.verdict.Refusal.TheVariants.{TagsMissing}
-use Rattle.leaves.specs.declared.refusal.verdict.Judged.TheVariants.{Accepted, Refused}
+use Rattle.leaves.specs.declared.refusal.verdict.Malformed.TheVariants.{TagsMissing}
 use Rattle.leaves.proofs.text.TestLaws.{or_right}
 use Rattle.leaves.proofs.refusal.OpenLaws.{open-kid, open-same}
 use Rattle.leaves.proofs.refusal.PassLaws.{Deep, deep}
@@ -159,13 +159,23 @@ module _ (w : List ℕ) (n : ℕ) (p : Placed w n) where
             rw (tag-there w n (i + 1) (record_at w i).level a (first-tag h d) b, count-first h d) (second-count h d)
 
   -- k is the kind of record i, l its level, t and u are what was answered of the two records after it
-  pub lacks : (i : ℕ) {k l : ℕ} {t u : Bool} → k ≡ (record_at w i).kind → l ≡ (record_at w i).level → t ≡ tag_under w n (i + 1) l → u ≡ tag_under w n (i + 1 + 1) l → (eqb k html_container && not (t && u)) ≡ lacks_tags w n i
+  lacks : (i : ℕ) {k l : ℕ} {t u : Bool} → k ≡ (record_at w i).kind → l ≡ (record_at w i).level → t ≡ tag_under w n (i + 1) l → u ≡ tag_under w n (i + 1 + 1) l → (eqb k html_container && not (t && u)) ≡ lacks_tags w n i
   unfolding lacks_tags
   lacks i e z f g = rw (e, f, g, z) (go (eqb (record_at w i).kind html_container) refl)
     where
       go : (t : Bool) → eqb (record_at w i).kind html_container ≡ t → (eqb (record_at w i).kind html_container && not (tag_under w n (i + 1) (record_at w i).level && tag_under w n (i + 1 + 1) (record_at w i).level)) ≡ (eqb (record_at w i).kind html_container && ltb (count_kind html_tag (under w n (suc i) (record_at w i).level)) 2)
       go false a = rw a
       go true a = rw (a, ← add-one i) (two i (eqb-true _ _ a))
+
+  -- r is what was answered of a container's two records
+  pub lacks-two : (i : ℕ) {k l : ℕ} {t u r : Bool} → k ≡ (record_at w i).kind → l ≡ (record_at w i).level → t ≡ tag_under w n (i + 1) l → u ≡ tag_under w n (i + 2) l → k ≡ html_container → r ≡ (t && u) → not r ≡ lacks_tags w n i
+  lacks-two i {k} e z f g c h =
+      let two : i + 2 ≡ i + 1 + 1 = omega arith in
+      rw h (rw (eq-eqb k html_container c) at (lacks i e z f (rw two at g)))
+
+  pub lacks-not : (i : ℕ) {k : ℕ} → k ≡ (record_at w i).kind → (k ≡ html_container → ⊥) → false ≡ lacks_tags w n i
+  unfolding lacks_tags
+  lacks-not i {k} e c = rw (← e, ne_eqb k html_container c)
 
 -- ---- the loop over the containers
 pub record Tagging (w : List ℕ) (n i : ℕ) : Type 0 where
@@ -175,26 +185,19 @@ pub record Tagging (w : List ℕ) (n i : ℕ) : Type 0 where
 pub tagging-start : (w : List ℕ) (n : ℕ) → Tagging w n 0
 tagging-start w n = record { within = omega arith; same = rw sub-zero }
 
-tags-step : (w : List ℕ) (n i : ℕ) → i < n → tags_from w n (n - i) i ≡ (when lacks_tags w n i then Refused (TagsMissing i) else tags_from w n (n - (i + 1)) (i + 1))
+tags-step : (w : List ℕ) (n i : ℕ) → i < n → tags_from w n (n - i) i ≡ (when lacks_tags w n i then Err (TagsMissing i) else tags_from w n (n - (i + 1)) (i + 1))
 unfolding tags_from
 tags-step w n i h = let e : n - i ≡ suc (n - (i + 1)) = omega arith in rw (e, add-one i)
 
 module _ (w : List ℕ) (n i : ℕ) (h : i < n) (v : Tagging w n i) {t : Bool} (e : t ≡ lacks_tags w n i) where
-  pub tagging-stop : t ≡ true → Refused (TagsMissing i) ≡ tags_from w n n 0
+  pub tagging-stop : t ≡ true → Err (TagsMissing i) ≡ tags_from w n n 0
   tagging-stop y = sym (v.same ∙ tags-step w n i h ∙ rw (← e, y))
 
   pub tagging-turn : t ≡ false → Tagging w n (i + 1)
   tagging-turn o = record { within = omega arith; same = v.same ∙ tags-step w n i h ∙ rw (← e, o) }
 
-pub tagging-end : (w : List ℕ) (n i : ℕ) → n ≤ i → Tagging w n i → Accepted ≡ tags_from w n n 0
+pub tagging-end : (w : List ℕ) (n i : ℕ) → n ≤ i → Tagging w n i → Ok tt ≡ tags_from w n n 0
 unfolding tags_from
 tagging-end w n i h v = let e : n - i ≡ 0 = omega (arith, v.within) in sym (v.same ∙ rw e)
 
-pub tag-none : (w : List ℕ) (n i l : ℕ) → n ≤ i → false ≡ tag_under w n i l
-tag-none w n i l h = sym (tag-end w n i l (le-ltb i n h))
-
-pub tag-some : (w : List ℕ) (n i l : ℕ) {k m : ℕ} → i < n → k ≡ (record_at w i).kind → m ≡ (record_at w i).level → (eqb k html_tag && ltb l m) ≡ tag_under w n i l
-unfolding tag_under
-tag-some w n i l h e f = rw (lt-ltb i n h, e, f)
-
-pub ruleset tagging = (tagging-start, tagging-stop, tagging-turn, tagging-end, tag-none, tag-some, lacks, rules)
+pub ruleset tagging = (tagging-start, tagging-stop, tagging-turn, tagging-end, rules)

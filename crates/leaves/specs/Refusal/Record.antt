@@ -1,5 +1,5 @@
 -- The tests of one record. Document 01, 'The call': "then 4 to 9 record by record".
-use Rattle.std.specs.Prelude.{ℕ, zero, suc, ◌+◌, Bool, not, ◌||◌, List, eqb, ltb}
+use Rattle.std.specs.Prelude.{ℕ, zero, suc, ◌+◌, Bool, not, ◌||◌, List, eqb, ltb, Err, Ok}
 use Rattle.leaves.specs.Text.Lists.{when◌then◌else◌}
 use Rattle.leaves.specs.Sheet.Kinds.{is_kind}
 use Rattle.leaves.specs.Sheet.Records.{record_at}
@@ -9,8 +9,8 @@ use Rattle.leaves.specs.Sheet.Texts.{text_outside, text_ill_formed}
 use Rattle.leaves.specs.Refusal.Limits.{most_level}
 use Rattle.leaves.specs.declared.sheet.records.Rec.{Rec}
 use Rattle.leaves.specs.declared.refusal.places.Open.{Open}
-use Rattle.leaves.specs.declared.refusal.verdict.Judged.{Judged}
-use Rattle.leaves.specs.declared.refusal.verdict.Refusal.TheVariants.{
+use Rattle.leaves.specs.Refusal.Verdict.{Judged}
+use Rattle.leaves.specs.declared.refusal.verdict.Malformed.TheVariants.{
   UnknownKind,
   BadLevel,
   Misplaced,
@@ -18,7 +18,6 @@ use Rattle.leaves.specs.declared.refusal.verdict.Refusal.TheVariants.{
   TextOutside,
   NotUtf8,
 }
-use Rattle.leaves.specs.declared.refusal.verdict.Judged.TheVariants.{Accepted, Refused}
 
 -- the level of the record before; 0 before the first
 unfoldable pub level_before : List ℕ → ℕ → ℕ
@@ -33,21 +32,21 @@ bad_level before level = eqb level 0 || ltb most_level level || ltb (before + 1)
 unfoldable pub judge_texts : List ℕ → ℕ → Rec → Judged
 judge_texts bytes i r =
     when text_outside bytes r.first || text_outside bytes r.second
-    then Refused (TextOutside i)
+    then Err (TextOutside i)
     else when text_ill_formed bytes r.first || text_ill_formed bytes r.second
-    then Refused (NotUtf8 i)
-    else Accepted
+    then Err (NotUtf8 i)
+    else Ok tt
 
 -- The tests 4 to 9 of record i, which is r. `before` is the level of the record before it, and o is what stands before
 -- it under its parent.
 unfoldable pub judge : List ℕ → ℕ → Rec → ℕ → Open → Judged
 judge bytes i r before o =
     when not (is_kind r.kind)
-    then Refused (UnknownKind i)
+    then Err (UnknownKind i)
     else when bad_level before r.level
-    then Refused (BadLevel i)
+    then Err (BadLevel i)
     else when misplaced o r.kind
-    then Refused (Misplaced i)
+    then Err (Misplaced i)
     else when bad_field r
-    then Refused (BadField i)
+    then Err (BadField i)
     else judge_texts bytes i r

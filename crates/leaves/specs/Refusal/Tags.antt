@@ -1,12 +1,11 @@
 -- Refusal 10. Document 01, 'The call': "then 10 over all records, giving the first such container".
-use Rattle.std.specs.Prelude.{ℕ, zero, suc, Bool, ◌&&◌, List, eqb, ltb}
+use Rattle.std.specs.Prelude.{ℕ, zero, suc, Bool, ◌&&◌, List, eqb, ltb, Err, Ok}
 use Rattle.leaves.specs.Text.Lists.{when◌then◌else◌}
 use Rattle.leaves.specs.Sheet.Kinds.{html_container, html_tag}
 use Rattle.leaves.specs.Sheet.Records.{record_at}
 use Rattle.leaves.specs.Sheet.Forest.{under, count_kind}
-use Rattle.leaves.specs.declared.refusal.verdict.Judged.{Judged}
-use Rattle.leaves.specs.declared.refusal.verdict.Refusal.TheVariants.{TagsMissing}
-use Rattle.leaves.specs.declared.refusal.verdict.Judged.TheVariants.{Accepted, Refused}
+use Rattle.leaves.specs.Refusal.Verdict.{Judged}
+use Rattle.leaves.specs.declared.refusal.verdict.Malformed.TheVariants.{TagsMissing}
 
 -- 10: "HTML container with fewer than two tags"
 unfoldable pub lacks_tags : List ℕ → ℕ → ℕ → Bool
@@ -16,7 +15,7 @@ lacks_tags w n i =
 
 -- of k records from record i on, the first such container; n is how many records there are in all
 unfoldable pub tags_from : List ℕ → ℕ → ℕ → ℕ → Judged
-tags_from w n zero i = Accepted
+tags_from w n zero i = Ok tt
 tags_from w n (suc k) i =
     let later = tags_from w n k (suc i) in
-    when lacks_tags w n i then Refused (TagsMissing i) else later
+    when lacks_tags w n i then Err (TagsMissing i) else later

@@ -7,10 +7,10 @@ ghost use Rattle.leaves.specs.Refusal.Judging.{Slot};
 
 use crate::refusal::groups::HOLDS_BLOCKS;
 use crate::refusal::limits::{MOST_BYTES, MOST_LEVEL, MOST_RECORDS};
+use crate::refusal::places::{Open, Tables};
 use crate::refusal::record::judge;
 use crate::refusal::tags::judge_tags;
-use crate::refusal::verdict::{Judged, Refusal, is_accepted};
-use crate::refusal::{groups, places};
+use crate::refusal::verdict::Malformed;
 use crate::sheet::records;
 use crate::sheet::records::RECORD_WORDS;
 
@@ -30,48 +30,40 @@ fn slot_of(level: u32) -> usize
 
 // Makes the tests 4 to 9, record by record, and answers the first refusal. `open` has, for each level that the next
 // record could have, what stands before it under its parent.
-fn judge_records(sheet: &[u32], bytes: &[u8], n: usize) -> Judged
+fn judge_records(sheet: &[u32], bytes: &[u8], n: usize) -> Result<(), Malformed>
     requires { (n * record_words ≤ length sheet.now) × (n ≤ most_records) }
     ensures { result ≡ judge_from sheet.now bytes.now n 0 }
 {
-    let table = places::table();
-    let groups = groups::groups();
-    let mut open = [places::opened(HOLDS_BLOCKS); SLOTS];
+    let tables = Tables::new();
+    let mut open = [Open::under(HOLDS_BLOCKS); SLOTS];
     let mut before: u32 = 0;
-    let mut i: usize = 0;
-    while i < n {
+    for i in 0..n {
         let r = records::record_at(sheet, i);
         let slot = slot_of(r.level);
         let o = open[slot];
-        let j = judge(&table, &groups, bytes, i, r, before, o);
-        if !is_accepted(j) {
-            return j;
-        }
-        open[slot] = places::joined(&table, &groups, o, r.kind);
-        open[slot + 1] = places::opened(groups::parent_group(&groups, r.kind, r.a));
+        judge(&tables, bytes, i, r, before, o)?;
+        open[slot] = o.joined(&tables, r.kind);
+        open[slot + 1] = Open::under(tables.parent_group(r.kind, r.a));
         before = r.level;
-        i = i + 1;
     }
-    Judged::Accepted
+    Ok(())
 }
 
 // The answer for a sheet and its text: refused by 1 to 10, or accepted.
-pub fn accept(sheet: &[u32], text: &[u8]) -> Judged
+#[tactic(auto, unfolding(crate::specs::Refusal::Judge::judge_sheet, crate::specs::Refusal::Verdict::or_else))]
+pub fn accept(sheet: &[u32], text: &[u8]) -> Result<(), Malformed>
     ensures { Judges sheet.now text.now result }
 {
     if sheet.len() % RECORD_WORDS != 0 {
-        return Judged::Refused(Refusal::OddSheet);
+        return Err(Malformed::OddSheet);
     }
     let n = sheet.len() / RECORD_WORDS;
     if MOST_RECORDS < n {
-        return Judged::Refused(Refusal::LongSheet);
+        return Err(Malformed::LongSheet);
     }
     if MOST_BYTES < text.len() {
-        return Judged::Refused(Refusal::LongText);
+        return Err(Malformed::LongText);
     }
-    let j = judge_records(sheet, text, n);
-    if !is_accepted(j) {
-        return j;
-    }
+    judge_records(sheet, text, n)?;
     judge_tags(sheet, n)
 }

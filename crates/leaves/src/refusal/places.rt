@@ -1,11 +1,13 @@
 // Where a record may stand under its parent.
 ghost use Rattle.std.specs.Prelude.{◌≡◌, true, false};
 ghost use Rattle.leaves.specs.Sheet.Kinds.{is_kind};
+ghost use Rattle.leaves.specs.Refusal.Groups.{parent_group};
 ghost use Rattle.leaves.specs.Refusal.KindGroups.{kind_groups};
 ghost use Rattle.leaves.specs.Refusal.PlaceTable.{place_table};
 ghost use Rattle.leaves.specs.Refusal.Places.{holds, place_in, place_of, opened, joined, misplaced};
 
-use crate::refusal::groups::{HOLDS_TAGS_AND_BLOCKS, HOLDS_TAGS_AND_INLINES, child_group};
+use crate::refusal::groups;
+use crate::refusal::groups::{HOLDS_TAGS_AND_BLOCKS, HOLDS_TAGS_AND_INLINES};
 use crate::sheet::kinds;
 
 // The allowed places: a row for each group of parents, by what it holds; a column for each group of children, in the
@@ -33,8 +35,52 @@ const PLACES: [[u32; 7]; 10] = [
     [0, 0, 0, 0, 0, 0, 0],
 ];
 
+// The two tables that say where a record may stand. A constant array is copied at each mention, so `judge_records` makes
+// them once and lends them.
+#[derive(Drop)]
+pub(crate) struct Tables {
+    places: [[u32; 7]; 10],
+    groups: [[u32; 2]; 54],
+    ghost are_tables: { (places ≡ place_table) × (groups ≡ kind_groups) },
+}
+
+impl Tables {
+    pub(crate) fn new() -> Tables {
+        Tables {
+            places: PLACES,
+            groups: groups::groups(),
+        }
+    }
+
+    fn place_at(&self, group: u32, column: u32) -> u32
+        ensures { result ≡ place_in 1 (holds group) column }
+    {
+        if 10 <= group || 7 <= column {
+            return 0;
+        }
+        self.places[group as usize][column as usize]
+    }
+
+    // The place of a kind under a group of parents; 0 where it is not allowed there.
+    #[tactic(auto, unfolding(crate::specs::Refusal::Places::place_of))]
+    fn place_of(&self, group: u32, kind: u32) -> u32
+        requires { is_kind kind ≡ true }
+        ensures { result ≡ place_of group kind }
+    {
+        self.place_at(group, groups::child_group(&self.groups, kind))
+    }
+
+    // What a record of the kind may hold.
+    pub(crate) fn parent_group(&self, kind: u32, a: u32) -> u32
+        requires { is_kind kind ≡ true }
+        ensures { result ≡ parent_group kind a }
+    {
+        groups::parent_group(&self.groups, kind, a)
+    }
+}
+
 // What stands before a record under its parent: the parent's group, the place of the child before it (0 where
-// there is none), and how many HTML tags.
+// there is none), and how many HTML tags. A group is a number and no enum, since the tables are read by it.
 #[derive(Clone, Copy)]
 pub struct Open {
     pub group: u32,
@@ -42,76 +88,49 @@ pub struct Open {
     pub tags: u32,
 }
 
-// The table of places. A constant array is copied at each mention, so `judge_records` makes it once and lends it to the
-// functions that read it. All that they ask of their parameter `table` is that it is this table.
-pub(crate) fn table() -> [[u32; 7]; 10]
-    ensures { result ≡ place_table }
-{
-    PLACES
-}
-
-fn place_at(table: &[[u32; 7]; 10], group: u32, column: u32) -> u32
-    requires { table.now ≡ place_table }
-    ensures { result ≡ place_in 1 (holds group) column }
-{
-    if 10 <= group {
-        return 0;
+impl Open {
+    // Under a parent, before its first child.
+    #[tactic(auto, unfolding(crate::specs::Refusal::Places::opened))]
+    pub(crate) fn under(group: u32) -> Open
+        ensures { result ≡ opened group }
+    {
+        Open {
+            group,
+            stage: 0,
+            tags: 0,
+        }
     }
-    if 7 <= column {
-        return 0;
-    }
-    let p = group as usize;
-    let c = column as usize;
-    table[p][c]
-}
 
-fn place_of(table: &[[u32; 7]; 10], groups: &[[u32; 2]; 54], group: u32, kind: u32) -> u32
-    requires { (table.now ≡ place_table) × (groups.now ≡ kind_groups) × (is_kind kind ≡ true) }
-    ensures { result ≡ place_of group kind }
-{
-    place_at(table, group, child_group(groups, kind))
-}
-
-// Under a parent, before its first child.
-pub(crate) fn opened(group: u32) -> Open
-    ensures { result ≡ opened group }
-{
-    Open {
-        group,
-        stage: 0,
-        tags: 0,
+    // The same after one more child, of the kind.
+    #[tactic(auto, unfolding(crate::specs::Refusal::Places::joined))]
+    pub(crate) fn joined(self, tables: &Tables, kind: u32) -> Open
+        requires { (is_kind kind ≡ true) × (misplaced self kind ≡ false) }
+        ensures { result ≡ joined self kind }
+    {
+        let stage = tables.place_of(self.group, kind);
+        if kind == kinds::HTML_TAG {
+            Open {
+                stage,
+                tags: self.tags + 1,
+                ..self
+            }
+        } else {
+            Open { stage, ..self }
+        }
     }
-}
 
-// The same after one more child, of the kind.
-pub(crate) fn joined(table: &[[u32; 7]; 10], groups: &[[u32; 2]; 54], o: Open, kind: u32) -> Open
-    requires tables { (table.now ≡ place_table) × (groups.now ≡ kind_groups) }
-    requires fits { (is_kind kind ≡ true) × (misplaced o kind ≡ false) }
-    ensures { result ≡ joined o kind }
-{
-    let stage = place_of(table, groups, o.group, kind);
-    let tag = kind == kinds::HTML_TAG;
-    if tag {
-        return Open {
-            group: o.group,
-            stage,
-            tags: o.tags + 1,
-        };
+    // Whether the kind is not allowed there or is out of order, is a third HTML tag, or is content before the second.
+    #[tactic(auto, unfolding(crate::specs::Refusal::Places::misplaced))]
+    pub(crate) fn misplaced(self, tables: &Tables, kind: u32) -> bool
+        requires { is_kind kind ≡ true }
+        ensures { result ≡ misplaced self kind }
+    {
+        let place = tables.place_of(self.group, kind);
+        let container = matches!(self.group, HOLDS_TAGS_AND_BLOCKS | HOLDS_TAGS_AND_INLINES);
+        let tag = kind == kinds::HTML_TAG;
+        place == 0
+            || place < self.stage
+            || (tag && 2 <= self.tags)
+            || (container && !tag && self.tags < 2)
     }
-    Open {
-        group: o.group,
-        stage,
-        tags: o.tags,
-    }
-}
-
-// Whether the kind is not allowed there or is out of order, is a third HTML tag, or is content before the second.
-pub(crate) fn misplaced(table: &[[u32; 7]; 10], groups: &[[u32; 2]; 54], o: Open, kind: u32) -> bool
-    requires { (table.now ≡ place_table) × (groups.now ≡ kind_groups) × (is_kind kind ≡ true) }
-    ensures { result ≡ misplaced o kind }
-{
-    let place = place_of(table, groups, o.group, kind);
-    let container = (o.group == HOLDS_TAGS_AND_BLOCKS) | (o.group == HOLDS_TAGS_AND_INLINES);
-    let tag = kind == kinds::HTML_TAG;
-    (place == 0) | (place < o.stage) | (tag & (2 <= o.tags)) | (container & !tag & (o.tags < 2))
 }

@@ -4,18 +4,16 @@ ghost use Rattle.leaves.specs.Sheet.Records.{record_words};
 ghost use Rattle.leaves.specs.Refusal.Tags.{lacks_tags, tags_from};
 ghost use Rattle.leaves.specs.Refusal.TagsPlaced.{Containers, tag_under};
 
-use crate::refusal::verdict::{Judged, Refusal};
+use crate::refusal::verdict::Malformed;
 use crate::sheet::{kinds, records};
 
 // Whether record `i` is there, is an HTML tag, and is deeper than `level`.
+#[tactic(auto, unfolding(crate::specs::Refusal::TagsPlaced::tag_under))]
 fn tag_under(sheet: &[u32], n: usize, i: usize, level: u32) -> bool
     requires { n * record_words ≤ length sheet.now }
     ensures { result ≡ tag_under sheet.now n i level }
 {
-    if n <= i {
-        return false;
-    }
-    (records::kind_at(sheet, i) == kinds::HTML_TAG) & (level < records::level_at(sheet, i))
+    i < n && records::kind_at(sheet, i) == kinds::HTML_TAG && level < records::level_at(sheet, i)
 }
 
 // Whether record `i` is an HTML container with fewer than two tags. Its tags can only be the next two records: no
@@ -25,22 +23,20 @@ fn lacks_tags(sheet: &[u32], n: usize, i: usize) -> bool
     ensures { result ≡ lacks_tags sheet.now n i }
 {
     let level = records::level_at(sheet, i);
-    let first = tag_under(sheet, n, i + 1, level);
-    let second = tag_under(sheet, n, i + 1 + 1, level);
-    (records::kind_at(sheet, i) == kinds::HTML_CONTAINER) & !(first & second)
+    records::kind_at(sheet, i) == kinds::HTML_CONTAINER
+        && !(tag_under(sheet, n, i + 1, level) && tag_under(sheet, n, i + 2, level))
 }
 
 // Makes test 10, and answers the first container that lacks a tag.
-pub(crate) fn judge_tags(sheet: &[u32], n: usize) -> Judged
+#[tactic(auto, using(crate::proofs::refusal::TagLaws::tagging))]
+pub(crate) fn judge_tags(sheet: &[u32], n: usize) -> Result<(), Malformed>
     requires { Containers sheet.now n }
     ensures { result ≡ tags_from sheet.now n n 0 }
 {
-    let mut i: usize = 0;
-    while i < n {
+    for i in 0..n {
         if lacks_tags(sheet, n, i) {
-            return Judged::Refused(Refusal::TagsMissing(i));
+            return Err(Malformed::TagsMissing(i));
         }
-        i = i + 1;
     }
-    Judged::Accepted
+    Ok(())
 }

@@ -1,10 +1,10 @@
 // The answer for a sheet, with its number and record.
 ghost use Rattle.std.specs.Prelude.{◌≡◌};
-ghost use Rattle.leaves.specs.Refusal.Verdict.{refusal_answer, judged_answer, is_accepted};
+ghost use Rattle.leaves.specs.Refusal.Verdict.{refusal_answer, judged_answer};
 
-// A refusal, by the name that document 01 gives it; from 4 on with the record that it names.
-#[derive(Clone, Copy)]
-pub enum Refusal {
+// Why a sheet is refused, by the name that document 01 gives it; from 4 on with the record that it names.
+#[derive(Clone, Copy, PartialEq, Eq, Debug)]
+pub enum Malformed {
     OddSheet,
     LongSheet,
     LongText,
@@ -17,74 +17,58 @@ pub enum Refusal {
     TagsMissing(usize),
 }
 
-// The answer for a sheet: accepted, or refused.
-#[derive(Clone, Copy)]
-pub enum Judged {
-    Accepted,
-    Refused(Refusal),
-}
-
-// Document 01's number of a refusal.
-pub fn refusal_number(refusal: Refusal) -> u32
-    ensures { result ≡ (refusal_answer refusal).number }
-{
-    match refusal {
-        Refusal::OddSheet => 1,
-        Refusal::LongSheet => 2,
-        Refusal::LongText => 3,
-        Refusal::UnknownKind(_) => 4,
-        Refusal::BadLevel(_) => 5,
-        Refusal::Misplaced(_) => 6,
-        Refusal::BadField(_) => 7,
-        Refusal::TextOutside(_) => 8,
-        Refusal::NotUtf8(_) => 9,
-        Refusal::TagsMissing(_) => 10,
+impl Malformed {
+    // Document 01's number of the refusal.
+    pub fn number(self) -> u32
+        ensures { result ≡ (refusal_answer self).number }
+    {
+        match self {
+            Malformed::OddSheet => 1,
+            Malformed::LongSheet => 2,
+            Malformed::LongText => 3,
+            Malformed::UnknownKind(_) => 4,
+            Malformed::BadLevel(_) => 5,
+            Malformed::Misplaced(_) => 6,
+            Malformed::BadField(_) => 7,
+            Malformed::TextOutside(_) => 8,
+            Malformed::NotUtf8(_) => 9,
+            Malformed::TagsMissing(_) => 10,
+        }
     }
-}
 
-// The record that a refusal names; 0 where it names none.
-pub fn refusal_record(refusal: Refusal) -> usize
-    ensures { result ≡ (refusal_answer refusal).value }
-{
-    match refusal {
-        Refusal::OddSheet => 0,
-        Refusal::LongSheet => 0,
-        Refusal::LongText => 0,
-        Refusal::UnknownKind(i) => i,
-        Refusal::BadLevel(i) => i,
-        Refusal::Misplaced(i) => i,
-        Refusal::BadField(i) => i,
-        Refusal::TextOutside(i) => i,
-        Refusal::NotUtf8(i) => i,
-        Refusal::TagsMissing(i) => i,
+    // The record that the refusal names; 0 where it names none.
+    pub fn record(self) -> usize
+        ensures { result ≡ (refusal_answer self).value }
+    {
+        match self {
+            Malformed::OddSheet | Malformed::LongSheet | Malformed::LongText => 0,
+            Malformed::UnknownKind(i)
+            | Malformed::BadLevel(i)
+            | Malformed::Misplaced(i)
+            | Malformed::BadField(i)
+            | Malformed::TextOutside(i)
+            | Malformed::NotUtf8(i)
+            | Malformed::TagsMissing(i) => i,
+        }
     }
 }
 
 // The number of the answer; 0 where the sheet is accepted.
-pub fn number_of(j: Judged) -> u32
-    ensures { result ≡ (judged_answer j).number }
+pub fn number_of(judged: Result<(), Malformed>) -> u32
+    ensures { result ≡ (judged_answer judged).number }
 {
-    match j {
-        Judged::Accepted => 0,
-        Judged::Refused(refusal) => refusal_number(refusal),
+    match judged {
+        Ok(()) => 0,
+        Err(malformed) => malformed.number(),
     }
 }
 
 // The record of the answer; 0 where the sheet is accepted.
-pub fn record_of(j: Judged) -> usize
-    ensures { result ≡ (judged_answer j).value }
+pub fn record_of(judged: Result<(), Malformed>) -> usize
+    ensures { result ≡ (judged_answer judged).value }
 {
-    match j {
-        Judged::Accepted => 0,
-        Judged::Refused(refusal) => refusal_record(refusal),
-    }
-}
-
-pub fn is_accepted(j: Judged) -> bool
-    ensures { result ≡ is_accepted j }
-{
-    match j {
-        Judged::Accepted => true,
-        Judged::Refused(_) => false,
+    match judged {
+        Ok(()) => 0,
+        Err(malformed) => malformed.record(),
     }
 }

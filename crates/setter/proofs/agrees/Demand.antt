@@ -1,4 +1,5 @@
 -- Demand 3.
+use Rattle.std.specs.Prelude.{Ok}
 use mathlib.Core.Path.{◌≡◌, refl, ap, sym, ◌∙◌}
 use mathlib.Core.Logic.{inl, inr, ⊎_elim}
 use mathlib.Core.Bool.{Bool, true, false, true≢false}
@@ -12,7 +13,6 @@ use Rattle.leaves.specs.Sheet.Forest.{forest_of}
 use Rattle.leaves.specs.Report.Entries.{Entry}
 use Rattle.leaves.specs.Refusal.Formed.{Sound}
 use Rattle.leaves.specs.Refusal.Judge.{judge_sheet}
-use Rattle.leaves.specs.declared.refusal.verdict.Judged.TheVariants.{Accepted}
 use Rattle.leaves.proofs.refusal.FormedLaws.{accepted}
 use Rattle.blocks.specs.Walk.{validate_document}
 use Rattle.blocks.specs.Before.{first}
@@ -126,5 +126,5 @@ unfolding Demand
 demand w bytes a = agrees w bytes a
 
 -- .. and so on all that the check accepts
-pub demand-accepted : (w bytes : List ℕ) → judge_sheet w bytes ≡ Accepted → Demand w bytes
+pub demand-accepted : (w bytes : List ℕ) → judge_sheet w bytes ≡ Ok tt → Demand w bytes
 demand-accepted w bytes j = demand w bytes (accepted w bytes j)

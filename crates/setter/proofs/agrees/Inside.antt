@@ -1,4 +1,5 @@
 -- The record of an opening or a closing is one of the sheet's, and so is that of a stop.
+use Rattle.std.specs.Prelude.{Ok}
 use mathlib.Core.Path.{◌≡◌, refl}
 use mathlib.Core.Bool.{Bool, true, false}
 use mathlib.Core.List.{List, [], ◌∷◌, ◌++◌}
@@ -8,7 +9,6 @@ use lib.Dec.{eqb}
 use Rattle.leaves.specs.Sheet.Records.{records_of}
 use Rattle.leaves.specs.Sheet.Forest.{Forest, none, tree, forest_of, size}
 use Rattle.leaves.specs.Refusal.Judge.{judge_sheet}
-use Rattle.leaves.specs.declared.refusal.verdict.Judged.TheVariants.{Accepted}
 use Rattle.leaves.proofs.refusal.FormedLaws.{accepted}
 use Rattle.setter.specs.Steps.{Frame, fresh, with_kid, the_sheet, Step, steps_of}
 use Rattle.setter.specs.Stops.{stop_of}
@@ -43,7 +43,7 @@ end-inside n bytes (s ∷ ss) h = go (eqb (stop_of bytes s) 0) refl (end-inside 
     go true e later = rw e later
     go false e later = rw e (omega (arith, h.0))
 
-pub run_inside : (w bytes : List ℕ) → judge_sheet w bytes ≡ Accepted → (run_answer w bytes).value ≤ 65535
+pub run_inside : (w bytes : List ℕ) → judge_sheet w bytes ≡ Ok tt → (run_answer w bytes).value ≤ 65535
 unfolding run_answer run
 run_inside w bytes a =
     let sound = accepted w bytes a in

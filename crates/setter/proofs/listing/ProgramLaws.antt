@@ -1,4 +1,5 @@
 -- What is printed for a sheet and its text, by the answers of the check and of the machine.
+use Rattle.std.specs.Prelude.{Ok, is_ok}
 use mathlib.Core.Path.{◌≡◌, refl, sym, ap, ◌∙◌}
 use mathlib.Core.Bool.{Bool, true, false}
 use mathlib.Core.List.{List, [], ◌∷◌, ◌++◌}
@@ -14,14 +15,12 @@ use lib.Seq.{take_all, take_at}
 use Rattle.leaves.specs.Sheet.Records.{record_words, records_of}
 use Rattle.leaves.specs.Report.Entries.{flat}
 use Rattle.leaves.proofs.report.EntryLaws.{few-entries}
-use Rattle.leaves.specs.Refusal.Verdict.{Answer, answer, is_accepted}
+use Rattle.leaves.specs.Refusal.Verdict.{Answer, answer}
 use Rattle.leaves.specs.Refusal.Judge.{judge_sheet}
-use Rattle.leaves.specs.declared.refusal.verdict.Judged.TheVariants.{Accepted}
 use Rattle.blocks.specs.Walk.{validate_document}
 use Rattle.setter.specs.Machine.{run_answer}
-use Rattle.setter.specs.Answer.{setting_answer, Answers}
+use Rattle.setter.specs.Answer.{Set, setting_answer, Answers}
 use Rattle.setter.specs.Setting.{after_run, setting_of}
-use Rattle.setter.specs.declared.answer.Setting.{Setting}
 use Rattle.blocks.specs.Check.{outcome}
 use Rattle.blocks.proofs.CheckLaws.{no-entries}
 use Rattle.blocks.proofs.AnswerLaws.{value-word}
@@ -43,15 +42,15 @@ use Rattle.setter.proofs.BothLaws.{Written, written}
 -- ---- the check's answer goes by how long the report is, and not by its words
 answer-same : (w bytes x z : List ℕ) → length x ≡ length z → (outcome w bytes x).0 ≡ (outcome w bytes z).0
 unfolding outcome
-answer-same w bytes x z h = go (is_accepted (judge_sheet w bytes)) refl (ltb (length z) (length (flat (validate_document w bytes)))) refl
+answer-same w bytes x z h = go (is_ok (judge_sheet w bytes)) refl (ltb (length z) (length (flat (validate_document w bytes)))) refl
   where
-    go : (a : Bool) → is_accepted (judge_sheet w bytes) ≡ a → (b : Bool) → ltb (length z) (length (flat (validate_document w bytes))) ≡ b → (outcome w bytes x).0 ≡ (outcome w bytes z).0
+    go : (a : Bool) → is_ok (judge_sheet w bytes) ≡ a → (b : Bool) → ltb (length z) (length (flat (validate_document w bytes))) ≡ b → (outcome w bytes x).0 ≡ (outcome w bytes z).0
     go false p b q = rw p
     go true p true q = rw (p, h, q)
     go true p false q = rw (p, h, q)
 
 -- ---- the machine's answer, where the sheet was accepted and has no more records than marks
-ran : (w bytes m : List ℕ) → judge_sheet w bytes ≡ Accepted → records_of w ≤ length m → (setting_of w bytes m).0 ≡ run_answer w bytes
+ran : (w bytes m : List ℕ) → judge_sheet w bytes ≡ Ok tt → records_of w ≤ length m → (setting_of w bytes m).0 ≡ run_answer w bytes
 unfolding setting_of after_run
 ran w bytes m a h = rw (a, le-ltb _ _ h)
 
@@ -77,7 +76,7 @@ module _ (w bytes x : List ℕ) {y : List ℕ} {c : Answer} {number value : ℕ}
     pub list-few : value ≤ report_words
     list-few = omega (arith, few-entries (validate_document w bytes), list-is.fits, list-is.count)
 
-    module _ (marks : List ℕ) {m : List ℕ} {s : Setting} {stop at : ℕ} (q : Answers (setting_of w bytes marks) s m) (few : records_of w ≤ most_film_records) (same : length marks ≡ most_film_records) (f : stop ≡ (setting_answer s).number) (g : at ≡ (setting_answer s).value) where
+    module _ (marks : List ℕ) {m : List ℕ} {s : Set} {stop at : ℕ} (q : Answers (setting_of w bytes marks) s m) (few : records_of w ≤ most_film_records) (same : length marks ≡ most_film_records) (f : stop ≡ (setting_answer s).number) (g : at ≡ (setting_answer s).value) where
       run_is : setting_answer s ≡ run_answer w bytes
       run_is = ap (λ (u : Answer × List ℕ). u.0) q.answer ∙ ran w bytes marks list-is.accepted (omega arith)
 

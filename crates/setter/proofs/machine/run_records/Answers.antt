@@ -1,7 +1,10 @@
 -- `setter::machine::run_records` meets its contract.
 use Rattle.setter.proofs.RunLaws.{run-start, run_end, closes-next, close-inside, close-fits, close-stop, close-turn, opens-next, open-fits, open-stop, open_turn}
 use borrow.Author.Rules.{rules}
+use mathlib.Core.Path.{refl}
+use native.Mathlib.Omega.{arith}
 use Rattle.setter.proofs.machine.run_records.Goals as goal
+use Rattle.setter.proofs.machine.run_records.Goals.{then-i-n, else-i-n+then-depth-gt0}
 
 pub loop-i-init : goal.loop-i-init
 loop-i-init c = run-start _ _ _ _ c.the_sheet-open.ensures c.requires.0 c.requires.1 c.requires.2
@@ -12,8 +15,8 @@ record_at-r-requires c = close-inside _ _ _ _ _ _ _ _ (closes-next _ _ _ _ _ _ _
 pub overflow_sub-around : goal.overflow_sub-around
 overflow_sub-around c = let z = (closes-next _ _ _ _ _ _ _ _ c.loop-i.invariant c.next_level-level.ensures c.if-level-depth.true) in let v = z.running in search rules
 
-pub returns-then-stop-ne0 : goal.returns-then-stop-ne0
-returns-then-stop-ne0 c = close-stop _ _ _ _ _ _ _ _ (closes-next _ _ _ _ _ _ _ _ c.loop-i.invariant c.next_level-level.ensures c.if-level-depth.true) c.record_at-r.ensures c.closing_stop-stop.ensures c.if-stop-ne0.true
+pub returns-in-Some : goal.returns-in-Some
+returns-in-Some c = close-stop _ _ _ _ _ _ _ _ (closes-next _ _ _ _ _ _ _ _ c.loop-i.invariant c.next_level-level.ensures c.if-level-depth.true) c.record_at-r.ensures c.in-Some.ensures refl
 
 pub overflow_sub-depth : goal.overflow_sub-depth
 overflow_sub-depth c = let z = (closes-next _ _ _ _ _ _ _ _ c.loop-i.invariant c.next_level-level.ensures c.if-level-depth.true) in let v = z.running in search rules
@@ -25,19 +28,19 @@ pub loop-i-smaller-then-level-depth : goal.loop-i-smaller-then-level-depth
 loop-i-smaller-then-level-depth c = let z = (closes-next _ _ _ _ _ _ _ _ c.loop-i.invariant c.next_level-level.ensures c.if-level-depth.true) in let v = z.running in search rules
 
 pub loop-i-preserved-then-level-depth : goal.loop-i-preserved-then-level-depth
-loop-i-preserved-then-level-depth c = close-turn _ _ _ _ _ _ _ _ (closes-next _ _ _ _ _ _ _ _ c.loop-i.invariant c.next_level-level.ensures c.if-level-depth.true) c.record_at-r.ensures c.closing_stop-stop.ensures c.if-stop-ne0.false c.joined.ensures
+loop-i-preserved-then-level-depth c = close-turn _ _ _ _ _ _ _ _ (closes-next _ _ _ _ _ _ _ _ c.loop-i.invariant c.next_level-level.ensures c.if-level-depth.true) c.record_at-r.ensures c.in_default.ensures refl c.joined.ensures
 
-pub returns-then-stop-ne0-2 : goal.returns-then-stop-ne0-2
-returns-then-stop-ne0-2 c = open-stop _ _ _ _ _ _ _ _ (opens-next _ _ _ _ _ _ _ _ c.loop-i.invariant c.next_level-level.ensures c.if-level-depth.false c.loop-i-test.true) c.record_at-r-in-loop-i.ensures c.opening_stop-stop.ensures c.if-stop-ne0-2.true
+pub returns-in-Some-opening_stop : goal.returns-in-Some-opening_stop
+returns-in-Some-opening_stop c = open-stop _ _ _ _ _ _ _ _ (opens-next _ _ _ _ _ _ _ _ c.loop-i.invariant c.next_level-level.ensures c.if-level-depth.false (elim c.if-i-n.branch [ then-i-n w ↦ omega arith | else-i-n+then-depth-gt0 w ↦ omega (arith, c.loop-i.invariant.within) ])) c.record_at-r-in-loop-i.ensures c.in-Some-opening_stop.ensures refl
 
 pub mark_of-requires : goal.mark_of-requires
-mark_of-requires c = open-fits _ _ _ _ _ _ _ _ (opens-next _ _ _ _ _ _ _ _ c.loop-i.invariant c.next_level-level.ensures c.if-level-depth.false c.loop-i-test.true)
+mark_of-requires c = open-fits _ _ _ _ _ _ _ _ (opens-next _ _ _ _ _ _ _ _ c.loop-i.invariant c.next_level-level.ensures c.if-level-depth.false (elim c.if-i-n.branch [ then-i-n w ↦ omega arith | else-i-n+then-depth-gt0 w ↦ omega (arith, c.loop-i.invariant.within) ]))
 
 pub bounds-open-depth-in-loop-i : goal.bounds-open-depth-in-loop-i
-bounds-open-depth-in-loop-i c = let z = (opens-next _ _ _ _ _ _ _ _ c.loop-i.invariant c.next_level-level.ensures c.if-level-depth.false c.loop-i-test.true) in let v = z.running in search rules
+bounds-open-depth-in-loop-i c = let z = (opens-next _ _ _ _ _ _ _ _ c.loop-i.invariant c.next_level-level.ensures c.if-level-depth.false (elim c.if-i-n.branch [ then-i-n w ↦ omega arith | else-i-n+then-depth-gt0 w ↦ omega (arith, c.loop-i.invariant.within) ])) in let v = z.running in search rules
 
 pub loop-i-preserved : goal.loop-i-preserved
-loop-i-preserved c = open_turn _ _ _ _ _ _ _ _ (opens-next _ _ _ _ _ _ _ _ c.loop-i.invariant c.next_level-level.ensures c.if-level-depth.false c.loop-i-test.true) c.record_at-r-in-loop-i.ensures c.opening_stop-stop.ensures c.if-stop-ne0-2.false c.mark_of.ensures c.opened.ensures
+loop-i-preserved c = open_turn _ _ _ _ _ _ _ _ (opens-next _ _ _ _ _ _ _ _ c.loop-i.invariant c.next_level-level.ensures c.if-level-depth.false (elim c.if-i-n.branch [ then-i-n w ↦ omega arith | else-i-n+then-depth-gt0 w ↦ omega (arith, c.loop-i.invariant.within) ])) c.record_at-r-in-loop-i.ensures c.in_default-opening_stop.ensures refl c.mark_of.ensures c.opened.ensures
 
 pub returns : goal.returns
-returns c = run_end _ _ _ _ _ _ _ _ c.loop-i.invariant c.loop-i-test.false
+returns c = run_end _ _ _ _ _ _ _ _ c.loop-i.invariant c.if-i-n.false c.if-depth-gt0.false
