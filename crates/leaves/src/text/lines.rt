@@ -8,27 +8,15 @@ use crate::text::{bytes, chunk};
 pub fn holds_line_ending(s: &[u8]) -> bool
     ensures { result ≡ holds_line_ending s.now }
 {
-    let mut i = chunk::past(s, 0, LF, CR);
-    while i < s.len() {
-        if bytes::is_line_ending_byte(s[i]) {
-            return true;
-        }
-        i = i + 1;
-    }
-    false
+    s[chunk::past(s, 0, LF, CR)..]
+        .iter()
+        .any(|b| bytes::is_line_ending_byte(*b))
 }
 
 pub fn is_blank(s: &[u8]) -> bool
     ensures { result ≡ is_blank s.now }
 {
-    let mut i: usize = 0;
-    while i < s.len() {
-        if !bytes::is_blank_byte(s[i]) {
-            return false;
-        }
-        i = i + 1;
-    }
-    true
+    s.iter().all(|b| bytes::is_blank_byte(*b))
 }
 
 // Whether the byte at `i` is a CR with its LF after it.
