@@ -15,10 +15,11 @@ use Rattle.leaves.specs.Text.Bytes.{lf}
 use Rattle.leaves.specs.Text.Part.{part_of}
 use Rattle.leaves.specs.Text.Lists.{over}
 use Rattle.leaves.proofs.text.OverLaws.{over-fits, over-nil, length_over, over-two}
-use Rattle.leaves.specs.Text.Field.{places, field, read_field, number_of, is_number}
+use Rattle.leaves.specs.Text.Field.{places, field, read_field}
 use Rattle.leaves.specs.Text.Columns.{fields, line, line_bytes, are_fields, is_line, numbers, Writes}
-use Rattle.leaves.specs.declared.text.field.Column.{Column}
 use Rattle.leaves.proofs.text.FieldLaws.{field-long}
+use Rattle.std.proofs.Common.{Option}
+use Rattle.std.specs.Option.{is_some, unwrap_or}
 
 -- ---- `ends_at`
 pub ends-past : (s : List ℕ) (at : ℕ) → length s ≤ at → false ≡ eqb (get_or s at 0) lf
@@ -50,8 +51,8 @@ pub record Reading (s old words : List ℕ) (good : Bool) (at k : ℕ) : Type 0 
 pub line-start : (s old : List ℕ) → Reading s old old true 0 0
 line-start s old = record { inside = omega arith; long = refl; place = refl; fine = rw sub-zero; is = rw sub-zero }
 
-module _ {s old words t : List ℕ} {good g : Bool} {at k v : ℕ} {c : Column} (r : Reading s old words good at k) (h : k < length words) where
-  pub line-next : t ≡ part_of s at places → c ≡ read_field t → v ≡ number_of c → g ≡ is_number c → Reading s old (set words k v) (good && g) (at + places) (k + 1)
+module _ {s old words t : List ℕ} {good g : Bool} {at k v : ℕ} {c : Option ℕ} (r : Reading s old words good at k) (h : k < length words) where
+  pub line-next : t ≡ part_of s at places → c ≡ read_field t → v ≡ unwrap_or c 0 → g ≡ is_some c → Reading s old (set words k v) (good && g) (at + places) (k + 1)
   unfolding are_fields numbers
   line-next p q a b =
       let left : length old - k ≡ suc (length old - (k + 1)) = omega (arith, r.long) in
