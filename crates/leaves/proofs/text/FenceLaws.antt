@@ -1,14 +1,14 @@
 -- Fence lines as the code reads them: how many bytes of a fence are to come in the line.
 use mathlib.Core.Path.{◌≡◌, refl, sym, ap, ◌∙◌}
-use mathlib.Core.Bool.{Bool, true, false, not, ◌&&◌, ◌||◌, and-false, or-false, false≢true}
+use mathlib.Core.Bool.{Bool, true, false, ◌||◌, or-false}
 use mathlib.Core.List.{List, [], ◌∷◌}
 use Prim.Native.Nat.{ℕ, suc, ◌-◌}
 use native.Mathlib.Omega.{arith}
-use lib.Dec.{eqb, leb, eqb-suc-zero}
+use lib.Dec.{eqb, eqb-suc-zero}
 use lib.ListN.{replicate}
-use borrow.Author.Tests.{eq-eqb, ne_eqb, eqb-true}
+use borrow.Author.Tests.{eq-eqb, eqb-true}
 use Rattle.leaves.specs.Text.Bytes.{is_blank_byte, is_line_ending_byte}
-use Rattle.leaves.specs.Text.Lists.{when◌then◌else◌, any}
+use Rattle.leaves.specs.Text.Lists.{any}
 use Rattle.leaves.specs.Text.Lines.{longer, is_cr_of_crlf, lines}
 use Rattle.leaves.specs.Text.Fence.{fence_byte, is_fence, holds_fence_line}
 use Rattle.leaves.specs.Text.Same.{same_bytes}

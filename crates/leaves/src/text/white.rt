@@ -89,14 +89,9 @@ pub fn starts_with_white(s: &[u8]) -> bool
 fn last_start(s: &[u8]) -> usize
     ensures { Begins s.now result }
 {
-    let mut at: usize = s.len();
-    while 0 < at {
-        at = at - 1;
-        if !between(0x80, 0xBF, wide(s[at])) {
-            return at;
-        }
-    }
-    0
+    s.iter()
+        .rposition(|b| !matches!(*b, 0x80..=0xBF))
+        .unwrap_or(0)
 }
 
 fn wide(b: u8) -> u32

@@ -1,7 +1,7 @@
 -- `leaves::text::fence::holds_fence_of` meets its contract.
 use mathlib.Core.Path.{◌∙◌, sym}
 use Rattle.leaves.proofs.text.ScanLaws.{turn, stop, end}
-use Rattle.leaves.proofs.text.FenceLaws.{fence-laws, fence-skip, fence-in, fence-whole, fence-ends, fence-end}
+use Rattle.leaves.proofs.text.FenceLaws.{fence-skip, fence-in, fence-whole, fence-ends, fence-end}
 use Rattle.leaves.proofs.text.fence.holds_fence_of.Goals as goal
 use Rattle.leaves.proofs.text.fence.holds_fence_of.Goals.{then-not-is_line_ending_byte, else-not-is_line_ending_byte+else-eq}
 
@@ -14,8 +14,8 @@ returns-then-eq c = stop c.loop-i-test.true c.loop-i.invariant (fence-whole _ _ 
 pub loop-i-preserved : goal.loop-i-preserved
 loop-i-preserved c =
     elim c.if-not-is_line_ending_byte.branch [
-      then-not-is_line_ending_byte w ↦ rw (w.left-is, w.fence_left-left.ensures) (turn c.loop-i-test.true c.loop-i.invariant (fence-in _ _ _ _ (sym c.is_cr_of_crlf.ensures ∙ c.if-is_cr_of_crlf.false) (sym c.is_line_ending_byte.ensures ∙ w.if-not-is_line_ending_byte.true)))
-    | else-not-is_line_ending_byte+else-eq w ↦ rw w.left-is (turn c.loop-i-test.true c.loop-i.invariant (fence-ends _ _ _ _ (sym c.is_cr_of_crlf.ensures ∙ c.if-is_cr_of_crlf.false) (sym c.is_line_ending_byte.ensures ∙ w.if-not-is_line_ending_byte.false) (sym w.eq.ensures ∙ w.if-eq.false)))
+      | then-not-is_line_ending_byte w ↦ rw (w.left-is, w.fence_left-left.ensures) (turn c.loop-i-test.true c.loop-i.invariant (fence-in _ _ _ _ (sym c.is_cr_of_crlf.ensures ∙ c.if-is_cr_of_crlf.false) (sym c.is_line_ending_byte.ensures ∙ w.if-not-is_line_ending_byte.true)))
+      | else-not-is_line_ending_byte+else-eq w ↦ rw w.left-is (turn c.loop-i-test.true c.loop-i.invariant (fence-ends _ _ _ _ (sym c.is_cr_of_crlf.ensures ∙ c.if-is_cr_of_crlf.false) (sym c.is_line_ending_byte.ensures ∙ w.if-not-is_line_ending_byte.false) (sym w.eq.ensures ∙ w.if-eq.false)))
     ]
 
 pub returns : goal.returns
