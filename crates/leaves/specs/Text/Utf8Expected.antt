@@ -7,6 +7,10 @@ abbrev pub columns : ℕ → ℕ → ℕ → List Range
 columns zero low high = []
 columns (suc more) low high = low to high ∷ replicate more trail
 
+-- so many columns of most bytes
+abbrev pub trails : ℕ → List Range
+trails more = replicate more trail
+
 abbrev pub expected_of : Expected → List Range
 expected_of o = columns o.more o.low o.high
 
