@@ -7,14 +7,14 @@ use native.Mathlib.Nat.{le_of_suc-le-suc, not-suc-le-zero}
 use native.Mathlib.Omega.{arith}
 use lib.Dec.{eqb}
 use lib.ListN.{length, get_or, drop, length-drop, drop_of_length-le}
-use borrow.Author.Tests.{eqb-true}
+use borrow.Author.Tests.{eqb-true, ne_eqb}
 use Rattle.leaves.specs.Text.Bytes.{tab, lf, cr, space, is_blank_byte, is_line_ending_byte}
 use Rattle.leaves.specs.Text.Lists.{when◌then◌else◌, all, first_or, last_or}
 use Rattle.leaves.specs.Text.Lines.{starts_with, longer, is_cr_of_crlf, lines, is_blank}
 use Rattle.std.specs.List.{position_or_len}
 use Rattle.leaves.specs.Text.Edges.{has_blank_edge_line}
 use Rattle.leaves.specs.Text.EdgeScans.{last_blank, Led, Solid}
-use Rattle.leaves.proofs.text.ScanLaws.{At, next, scan}
+use Rattle.leaves.proofs.text.ScanLaws.{next}
 use Rattle.leaves.proofs.text.TestLaws.{and_right, or_left, or_right}
 
 module _ (b : ℕ) (s : List ℕ) where
@@ -226,12 +226,14 @@ module _ (s : List ℕ) (at : ℕ) (v : Led s at) (t : List ℕ) (is : t ≡ dro
         f ∙ sym (solid-same t i d) ∙ sym (either false (sym (rw (next t 0 h) (first-solid (get_or t 0 0) (drop 1 t) e n refl solid))))
 
 -- ---- the CR of a CRLF
-pub crlf-short : (s : List ℕ) (i : ℕ) → length s ≤ i + 1 → false ≡ is_cr_of_crlf (get_or s i 0) (drop (i + 1) s)
-unfolding is_cr_of_crlf starts_with
-crlf-short s i h = rw (drop_of_length-le s {i = i + 1} h) (sym (and-false (eqb (get_or s i 0) cr)))
+pub crlf_other : (b : ℕ) (s : List ℕ) → (b ≡ cr → ⊥) → is_cr_of_crlf b s ≡ false
+unfolding is_cr_of_crlf
+crlf_other b s n = rw (ne_eqb b cr n)
 
-pub crlf-long : (s : List ℕ) (i : ℕ) → i + 1 < length s → (eqb (get_or s i 0) cr && eqb (get_or s (i + 1) 0) lf) ≡ is_cr_of_crlf (get_or s i 0) (drop (i + 1) s)
+pub crlf_short : (s : List ℕ) (i : ℕ) → length s ≤ i + 1 → is_cr_of_crlf (get_or s i 0) (drop (i + 1) s) ≡ false
 unfolding is_cr_of_crlf starts_with
-crlf-long s i h = rw (next s (i + 1) h)
+crlf_short s i h = rw (drop_of_length-le s {i = i + 1} h) (and-false (eqb (get_or s i 0) cr))
 
-pub ruleset line-laws = (crlf-short, crlf-long, scan)
+pub crlf_long : (s : List ℕ) (i : ℕ) → i + 1 < length s → is_cr_of_crlf (get_or s i 0) (drop (i + 1) s) ≡ (eqb (get_or s i 0) cr && eqb (get_or s (i + 1) 0) lf)
+unfolding is_cr_of_crlf starts_with
+crlf_long s i h = rw (next s (i + 1) h)

@@ -20,13 +20,10 @@ pub fn is_blank(s: &[u8]) -> bool
 }
 
 // Whether the byte at `i` is a CR with its LF after it.
+#[tactic(auto, using(crate::proofs::text::LineLaws::crlf_other, crate::proofs::text::LineLaws::crlf_short, crate::proofs::text::LineLaws::crlf_long))]
 pub(crate) fn is_cr_of_crlf(s: &[u8], i: usize) -> bool
     requires { i < length s.now }
     ensures { result ≡ is_cr_of_crlf (get_or s.now i 0) (drop (i + 1) s.now) }
 {
-    let next = i + 1;
-    if s.len() <= next {
-        return false;
-    }
-    (s[i] == CR) & (s[next] == LF)
+    s[i] == CR && i + 1 < s.len() && s[i + 1] == LF
 }

@@ -47,13 +47,13 @@ pub fn is_directive_name(s: &[u8]) -> bool
 fn begins_attribute(b: u8) -> bool
     ensures { result ≡ begins_attribute b }
 {
-    bytes::is_letter(b) | (b == UNDERSCORE) | (b == HYPHEN)
+    bytes::is_letter(b) || matches!(b, UNDERSCORE | HYPHEN)
 }
 
 fn continues_attribute(b: u8) -> bool
     ensures { result ≡ continues_attribute b }
 {
-    bytes::is_letter(b) | bytes::is_digit(b) | (b == UNDERSCORE) | (b == HYPHEN) | (b == COLON)
+    bytes::is_letter(b) || bytes::is_digit(b) || matches!(b, UNDERSCORE | HYPHEN | COLON)
 }
 
 pub fn is_attribute_name(s: &[u8]) -> bool
@@ -69,7 +69,7 @@ pub fn is_attribute_name(s: &[u8]) -> bool
 fn is_trimmed_byte(b: u8) -> bool
     ensures { result ≡ is_trimmed_byte b }
 {
-    bytes::is_blank_byte(b) | bytes::is_line_ending_byte(b)
+    bytes::is_blank_byte(b) || bytes::is_line_ending_byte(b)
 }
 
 // Whether nothing is left of an identifier once spaces, tabs, LFs and CRs are trimmed off.
