@@ -13,10 +13,9 @@ use Rattle.leaves.specs.Text.Utf8.{Range, ◌to◌, within, trail, table, follow
 use Rattle.leaves.specs.Text.Utf8Scans.{breaks, expected_after}
 use Rattle.leaves.specs.Text.Utf8Expected.{columns, trails, expecting, Expects}
 use Rattle.leaves.specs.declared.text.utf8.Expected.{Expected}
-use Rattle.leaves.proofs.text.ScanLaws.{At}
 use Rattle.leaves.proofs.text.TestLaws.{all_below, and_left, and_right, each}
 use Rattle.leaves.specs.Text.Chunk.{is_ascii, Past}
-use Rattle.leaves.proofs.text.ChunkLaws.{leap-to}
+use Rattle.leaves.proofs.text.ChunkLaws.{leap}
 
 -- ---- what follows a first byte
 abbrev expects : ℕ → ℕ → ℕ → Expected
@@ -129,12 +128,9 @@ unfolding well_formed
 utf8-ascii b s h = ap (λ o. well_formed o s) (sym (ascii-alone b h))
 
 -- bytes of ASCII where nothing is expected
-pub utf8-leap : {whole : Bool} (more low high : ℕ) {s : List ℕ} {i j : ℕ} → more ≡ 0 → At whole (well_formed (columns more low high)) s i → Past is_ascii s i j → At whole (well_formed (columns more low high)) s j
-utf8-leap {whole} more low high {s} {i} {j} e inv p = go more e inv
-  where
-    go : (m : ℕ) → m ≡ 0 → At whole (well_formed (columns m low high)) s i → At whole (well_formed (columns m low high)) s j
-    go zero e inv = leap-to is_ascii (λ b t q. utf8-ascii b t (ltb-true b 0x80 q)) inv p
-    go (suc m) e inv = absurd (omega (arith, e))
+pub utf8-leap : (more low high : ℕ) {s rest : List ℕ} → more ≡ 0 → Past is_ascii s rest → well_formed (columns more low high) s ≡ well_formed (columns more low high) rest
+utf8-leap zero low high e p = leap is_ascii (well_formed []) (λ b t q. utf8-ascii b t (ltb-true b 0x80 q)) p
+utf8-leap (suc m) low high e p = absurd (omega (arith, e))
 
 -- what follows a byte that begins nothing: no text is well-formed after it
 pub utf8-never : (s : List ℕ) → well_formed (follow table 0xFF) s ≡ false

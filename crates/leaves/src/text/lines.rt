@@ -3,12 +3,13 @@ ghost use Rattle.std.specs.Prelude.{◌≡◌, ◌+◌, ◌<◌, length, get_or,
 ghost use Rattle.leaves.specs.Text.Lines.{holds_line_ending, is_blank, is_cr_of_crlf};
 
 use crate::text::bytes::{CR, LF};
+use crate::text::chunk::Neither;
 use crate::text::{bytes, chunk};
 
 pub fn holds_line_ending(s: &[u8]) -> bool
     ensures { result ≡ holds_line_ending s.now }
 {
-    s[chunk::past(s, 0, LF, CR)..]
+    chunk::past(s, &Neither { a: LF, b: CR })
         .iter()
         .any(|b| bytes::is_line_ending_byte(*b))
 }

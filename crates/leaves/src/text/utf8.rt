@@ -5,6 +5,7 @@ ghost use Rattle.leaves.specs.Text.Utf8Scans.{breaks, expected_after};
 ghost use Rattle.leaves.specs.Text.Utf8Expected.{expected_of, trails, Expects};
 
 use crate::text::chunk;
+use crate::text::chunk::Ascii;
 
 // How many bytes are read one at a time before chunks of ASCII are looked for again.
 const STRETCH: usize = 64;
@@ -127,7 +128,7 @@ impl Expected {
             ≡ well_formed (expected_of self) bytes.now) }
     {
         if self.more == 0 {
-            &bytes[chunk::past_ascii(bytes, 0)..]
+            chunk::past(bytes, &Ascii)
         } else {
             bytes
         }
