@@ -11,16 +11,13 @@ use Rattle.leaves.specs.Text.Bytes.{between}
 use Rattle.leaves.specs.Text.Lists.{when◌then◌else◌, none}
 use Rattle.leaves.specs.Text.Utf8.{Range, ◌to◌, within, trail, table, follow, well_formed}
 use Rattle.leaves.specs.Text.Utf8Scans.{breaks, expected_after}
-use Rattle.leaves.specs.Text.Utf8Expected.{columns, trails, expecting, Expects}
+use Rattle.leaves.specs.Text.Utf8Expected.{columns, expects, trails, expecting, Expects}
 use Rattle.leaves.specs.declared.text.utf8.Expected.{Expected}
 use Rattle.leaves.proofs.text.TestLaws.{all_below, and_left, and_right, each}
 use Rattle.leaves.specs.Text.Chunk.{is_ascii, Past}
 use Rattle.leaves.proofs.text.ChunkLaws.{leap}
 
 -- ---- what follows a first byte
-abbrev expects : ℕ → ℕ → ℕ → Expected
-expects more low high = record { more = more; low = low; high = high }
-
 same-ranges : List Range → List Range → Bool
 same-ranges [] [] = true
 same-ranges [] (r ∷ q) = false
@@ -79,8 +76,8 @@ unfolding expecting
 expecting-trail zero = refl
 expecting-trail (suc n) = ap (λ k. expects (suc k) 0x80 0xBF) (sym (length-replicate n trail))
 
-pub trailing : (n : ℕ) → Expects (trails n) (expects n 0x80 0xBF)
-trailing n = record { is = expecting-trail n; all = columns-trail n }
+pub trailing : (n : ℕ) {o : Expected} → o ≡ expects n 0x80 0xBF → Expects (trails n) o
+trailing n e = rw e (record { is = expecting-trail n; all = columns-trail n })
 
 pub breaks_is : (more low high b : ℕ) → breaks (columns more low high) b ≡ (not (eqb more 0) && (ltb b low || ltb high b))
 unfolding breaks

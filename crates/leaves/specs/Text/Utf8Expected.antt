@@ -14,6 +14,9 @@ trails more = replicate more trail
 abbrev pub expected_of : Expected → List Range
 expected_of o = columns o.more o.low o.high
 
+abbrev pub expects : ℕ → ℕ → ℕ → Expected
+expects more low high = record { more = more; low = low; high = high }
+
 -- The code's struct for the expected columns: how many they are, and the range of the first. Where none is expected,
 -- the range is that of most columns.
 unfoldable pub expecting : List Range → Expected

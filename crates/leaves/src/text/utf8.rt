@@ -2,7 +2,7 @@
 ghost use Rattle.std.specs.Prelude.{◌≡◌, ◌≤◌, ◌++◌, List, ℕ, eqb, length};
 ghost use Rattle.leaves.specs.Text.Utf8.{is_utf8, well_formed, follow, table, trail};
 ghost use Rattle.leaves.specs.Text.Utf8Scans.{breaks, expected_after};
-ghost use Rattle.leaves.specs.Text.Utf8Expected.{expected_of, trails, Expects};
+ghost use Rattle.leaves.specs.Text.Utf8Expected.{expected_of, expects, trails, Expects};
 
 use crate::text::chunk;
 use crate::text::chunk::Ascii;
@@ -20,15 +20,18 @@ pub(crate) struct Expected {
 }
 
 impl Expected {
+    // So many more bytes, the next of them from `low` to `high`.
+    fn new(more: u8, low: u8, high: u8) -> Expected
+        ensures { result ≡ expects more low high }
+    {
+        Expected { more, low, high }
+    }
+
     // So many more bytes, each of them from 0x80 to 0xBF.
     pub(crate) fn trails(more: u8) -> Expected
         ensures { Expects (trails more) result }
     {
-        Expected {
-            more,
-            low: 0x80,
-            high: 0xBF,
-        }
+        Expected::new(more, 0x80, 0xBF)
     }
 
     // What is expected after the first byte of a sequence. After a byte that begins none: a range that no byte fits.
@@ -38,40 +41,15 @@ impl Expected {
     {
         match b {
             0x00..=0x7F => Expected::trails(0),
-            0x80..=0xC1 => Expected {
-                more: 1,
-                low: 0xBF,
-                high: 0x80,
-            },
             0xC2..=0xDF => Expected::trails(1),
-            0xE0 => Expected {
-                more: 2,
-                low: 0xA0,
-                high: 0xBF,
-            },
+            0xE0 => Expected::new(2, 0xA0, 0xBF),
             0xE1..=0xEC => Expected::trails(2),
-            0xED => Expected {
-                more: 2,
-                low: 0x80,
-                high: 0x9F,
-            },
+            0xED => Expected::new(2, 0x80, 0x9F),
             0xEE..=0xEF => Expected::trails(2),
-            0xF0 => Expected {
-                more: 3,
-                low: 0x90,
-                high: 0xBF,
-            },
+            0xF0 => Expected::new(3, 0x90, 0xBF),
             0xF1..=0xF3 => Expected::trails(3),
-            0xF4 => Expected {
-                more: 3,
-                low: 0x80,
-                high: 0x8F,
-            },
-            0xF5..=0xFF => Expected {
-                more: 1,
-                low: 0xBF,
-                high: 0x80,
-            },
+            0xF4 => Expected::new(3, 0x80, 0x8F),
+            0x80..=0xC1 | 0xF5..=0xFF => Expected::new(1, 0xBF, 0x80),
         }
     }
 
