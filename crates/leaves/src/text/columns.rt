@@ -22,14 +22,12 @@ pub fn read_line(s: &[u8], words: &mut [u32]) -> bool
         × (words.new ≡ numbers (length words.old) s.now) }
 {
     let mut good = true;
-    let mut at: usize = 0;
-    for word in words.iter_mut() {
-        let field = read_field(part(s, at, PLACES));
+    for (k, word) in words.iter_mut().enumerate() {
+        let field = read_field(part(s, k * PLACES, PLACES));
         *word = field.unwrap_or(0);
         good &= field.is_some();
-        at += PLACES;
     }
-    good & ends_at(s, at)
+    good & ends_at(s, words.len() * PLACES)
 }
 
 // Writes a line of these numbers from `at` on, and answers where it ends.

@@ -2,5 +2,5 @@
 use Rattle.leaves.proofs.text.ColumnLaws.{Reading}
 use Rattle.leaves.proofs.text.columns.read_line.Given as goal
 
-abbrev pub invariant-loop-word : goal.invariant-loop-word
-invariant-loop-word l = Reading l.s l.initial.words l.words l.good l.at l.word-index
+abbrev pub invariant-loop-k : goal.invariant-loop-k
+invariant-loop-k l = Reading l.s l.initial.words l.words l.good l.k
