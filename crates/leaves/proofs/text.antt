@@ -1,3 +1,4 @@
+pub mod ChainLaws
 pub mod ChunkLaws
 pub mod ColumnExamples
 pub mod ColumnLaws

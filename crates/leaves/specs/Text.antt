@@ -11,7 +11,6 @@ pub mod Lists
 pub mod Marker
 pub mod Math
 pub mod Name
-pub mod NameScans
 pub mod Part
 pub mod Pipe
 pub mod Punctuation

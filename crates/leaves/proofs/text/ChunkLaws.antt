@@ -1,15 +1,14 @@
 -- Sixteen bytes at once, as four times four; and a loop that passes over them.
 use mathlib.Core.Path.{◌≡◌, refl, sym, ap, ◌∙◌}
-use mathlib.Core.Bool.{Bool, true, false, ◌&&◌, and_assoc, false≢true, not}
+use mathlib.Core.Bool.{Bool, true, false, ◌&&◌, and_assoc, false≢true}
 use mathlib.Core.List.{List, [], ◌∷◌}
-use Prim.Native.Nat.{ℕ, zero, suc, ◌+◌, ◌-◌, ◌<◌, ◌≤◌}
+use Prim.Native.Nat.{ℕ, zero, suc, ◌+◌, ◌<◌, ◌≤◌}
 use native.Mathlib.Omega.{arith}
-use native.Mathlib.Nat.{zero-add, suc-add, sub_self}
+use native.Mathlib.Nat.{zero-add, suc-add}
 use lib.ListN.{length, drop, get_or, length-drop}
 use lib.Seq.{drop-drop}
-use Rattle.leaves.proofs.text.ScanLaws.{At, next}
-use Rattle.leaves.specs.Text.Chunk.{passes, chunk, Past, is_neither}
-use lib.Dec.{eqb}
+use Rattle.leaves.proofs.text.ScanLaws.{next}
+use Rattle.leaves.specs.Text.Chunk.{passes, chunk, Past}
 
 and-four : (t u v w : Bool) → (t && u && v && w) ≡ (t && (u && (v && (w && true))))
 and-four true true true true = refl
@@ -75,33 +74,23 @@ module _ (test : ℕ → Bool) where
       go true q k = let l : n ≤ length s = k q in omega arith
       go false q k = absurd (false≢true q)
 
-  pub reach : (s : List ℕ) (i : ℕ) → passes test chunk (drop i s) ≡ true → i + chunk ≤ length s
-  reach s i h = omega (arith, rw (length-drop i s) at (there chunk (drop i s) h))
+  pub nearer : (s : List ℕ) → passes test chunk s ≡ true → length (drop chunk s) < length s
+  nearer s h = rw (length-drop chunk s) (omega (arith, there chunk s h))
 
-  pub nearer : (s : List ℕ) (i : ℕ) → passes test chunk (drop i s) ≡ true → length s - (i + chunk) < length s - i
-  nearer s i h = omega (arith, reach s i h)
+  pub reach : (s : List ℕ) → passes test chunk s ≡ true → chunk ≤ length s
+  reach s h = there chunk s h
 
   -- nothing is passed over, and then a chunk more
-  pub past-none : (s : List ℕ) (i : ℕ) → i ≤ length s → Past test s i i
+  pub past_none : (s : List ℕ) → Past test s s
   unfolding passes
-  past-none s i h = record { forward = omega arith; within = h; all = rw (sub_self i) }
+  past_none s = record { count = 0; is = refl; all = refl }
 
-  pub past-chunk : (s : List ℕ) (from i : ℕ) → Past test s from i → passes test chunk (drop i s) ≡ true → Past test s from (i + chunk)
-  past-chunk s from i p h =
-      let e : i + chunk - from ≡ i - from + chunk = omega (arith, p.forward) in
-      let f : from + (i - from) ≡ i = omega (arith, p.forward) in
-      record { forward = omega (arith, p.forward); within = reach s i h; all = rw (e, more (i - from) chunk (drop from s), p.all, drop-drop (i - from) from s, f) h }
+  pub past_chunk : (s rest : List ℕ) → Past test s rest → passes test chunk rest ≡ true → Past test s (drop chunk rest)
+  past_chunk s rest p h = record { count = p.count + chunk; is = rw p.is (drop-drop chunk p.count s); all = rw (more p.count chunk s, p.all) (rw p.is at h) }
 
-  -- a loop that stands at i passes over what lies before j
-  pub leap-to : {A : Type 0} {whole : A} {rest : List ℕ → A} {s : List ℕ} {i j : ℕ} → ((b : ℕ) (t : List ℕ) → test b ≡ true → rest (b ∷ t) ≡ rest t) → At whole rest s i → Past test s i j → At whole rest s j
-  leap-to {rest = rest} {s = s} {i = i} {j = j} e inv p =
-      let f : i + (j - i) ≡ j = omega (arith, p.forward) in
-      record { within = p.within; same = inv.same ∙ passed rest e (j - i) (drop i s) p.all ∙ ap rest (drop-drop (j - i) i s) ∙ ap (λ k. rest (drop k s)) f }
+  -- what is passed over does not change an answer
+  pub leap : {A : Type 0} (f : List ℕ → A) → ((b : ℕ) (t : List ℕ) → test b ≡ true → f (b ∷ t) ≡ f t) → {s rest : List ℕ} → Past test s rest → f s ≡ f rest
+  leap f e {s} {rest} p = passed f e p.count s p.all ∙ ap f (sym p.is)
 
--- a byte that is none of two equal ones
-pub neither-same : (x b : ℕ) → is_neither x x b ≡ true → eqb b x ≡ false
-neither-same x b = go (eqb b x)
-  where
-    go : (t : Bool) → (not t && not t) ≡ true → t ≡ false
-    go false e = refl
-    go true e = absurd (false≢true e)
+  pub shorter : {s rest : List ℕ} → Past test s rest → length rest ≤ length s
+  shorter {s} {rest} p = rw (p.is, length-drop) (omega arith)

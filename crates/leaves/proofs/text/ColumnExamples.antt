@@ -7,7 +7,7 @@ use lib.ListN.{length, replicate}
 use Rattle.leaves.specs.Text.Bytes.{space, lf}
 use Rattle.leaves.specs.Text.Field.{front, field, past_spaces, read_digits, read_number, read_field}
 use Rattle.leaves.specs.Text.Columns.{fields, line, are_fields, is_line, numbers}
-use Rattle.leaves.specs.declared.text.field.Column.TheVariants.{Number, Malformed}
+use Rattle.std.proofs.Common.{None, Some}
 
 -- spaces, and what stands behind them
 abbrev behind : ℕ → List ℕ → List ℕ
@@ -19,12 +19,12 @@ unfolding field front
 written = (refl, refl, refl)
 
 -- .. and as they are read; one more than the largest is malformed, and so is a number of 11 digits
-largest : (read_field (field 0) ≡ Number 0) × (read_field (field 10) ≡ Number 10) × (read_field (field 4294967295) ≡ Number 4294967295) × (read_field (field 4294967296) ≡ Malformed) × (read_field (field 10000000000) ≡ Malformed)
+largest : (read_field (field 0) ≡ Some 0) × (read_field (field 10) ≡ Some 10) × (read_field (field 4294967295) ≡ Some 4294967295) × (read_field (field 4294967296) ≡ None) × (read_field (field 10000000000) ≡ None)
 unfolding field front read_field past_spaces read_number read_digits
 largest = (refl, refl, refl, refl, refl)
 
 -- `07`, `00`, spaces alone, `7` and a space behind it, `1 7`, `-7`, `7` behind a tab, and ten places: all malformed
-malformed : (read_field (behind 9 (48 ∷ 55 ∷ [])) ≡ Malformed) × (read_field (behind 9 (48 ∷ 48 ∷ [])) ≡ Malformed) × (read_field (behind 11 []) ≡ Malformed) × (read_field (behind 9 (55 ∷ 32 ∷ [])) ≡ Malformed) × (read_field (behind 8 (49 ∷ 32 ∷ 55 ∷ [])) ≡ Malformed) × (read_field (behind 9 (45 ∷ 55 ∷ [])) ≡ Malformed) × (read_field (behind 9 (9 ∷ 55 ∷ [])) ≡ Malformed) × (read_field (behind 9 (55 ∷ [])) ≡ Malformed)
+malformed : (read_field (behind 9 (48 ∷ 55 ∷ [])) ≡ None) × (read_field (behind 9 (48 ∷ 48 ∷ [])) ≡ None) × (read_field (behind 11 []) ≡ None) × (read_field (behind 9 (55 ∷ 32 ∷ [])) ≡ None) × (read_field (behind 8 (49 ∷ 32 ∷ 55 ∷ [])) ≡ None) × (read_field (behind 9 (45 ∷ 55 ∷ [])) ≡ None) × (read_field (behind 9 (9 ∷ 55 ∷ [])) ≡ None) × (read_field (behind 9 (55 ∷ [])) ≡ None)
 unfolding read_field past_spaces read_number read_digits
 malformed = (refl, refl, refl, refl, refl, refl, refl, refl)
 

@@ -15,10 +15,11 @@ use Rattle.leaves.specs.Text.Bytes.{lf}
 use Rattle.leaves.specs.Text.Part.{part_of}
 use Rattle.leaves.specs.Text.Lists.{over}
 use Rattle.leaves.proofs.text.OverLaws.{over-fits, over-nil, length_over, over-two}
-use Rattle.leaves.specs.Text.Field.{places, field, read_field, number_of, is_number}
+use Rattle.leaves.specs.Text.Field.{places, field, read_field}
 use Rattle.leaves.specs.Text.Columns.{fields, line, line_bytes, are_fields, is_line, numbers, Writes}
-use Rattle.leaves.specs.declared.text.field.Column.{Column}
 use Rattle.leaves.proofs.text.FieldLaws.{field-long}
+use Rattle.std.proofs.Common.{Option}
+use Rattle.std.specs.Option.{is_some, unwrap_or}
 
 -- ---- `ends_at`
 pub ends-past : (s : List ℕ) (at : ℕ) → length s ≤ at → false ≡ eqb (get_or s at 0) lf
@@ -40,40 +41,38 @@ field-part s at = go (leb (at + places) (length s)) refl
         rw (e, ne_eqb (length (take places (drop at s))) places (λ q. omega arith))
 
 -- the first k fields are read, and what is left decides the whole
-pub record Reading (s old words : List ℕ) (good : Bool) (at k : ℕ) : Type 0 where
+pub record Reading (s old words : List ℕ) (good : Bool) (k : ℕ) : Type 0 where
   pub inside : k ≤ length old
   pub long : length words ≡ length old
-  pub place : at ≡ k * places
-  pub fine : are_fields (length old) s ≡ good && are_fields (length old - k) (drop at s)
-  pub is : numbers (length old) s ≡ take k words ++ numbers (length old - k) (drop at s)
+  pub fine : are_fields (length old) s ≡ good && are_fields (length old - k) (drop (k * places) s)
+  pub is : numbers (length old) s ≡ take k words ++ numbers (length old - k) (drop (k * places) s)
 
-pub line-start : (s old : List ℕ) → Reading s old old true 0 0
-line-start s old = record { inside = omega arith; long = refl; place = refl; fine = rw sub-zero; is = rw sub-zero }
+pub line-start : (s old : List ℕ) → Reading s old old true 0
+line-start s old = record { inside = omega arith; long = refl; fine = rw sub-zero; is = rw sub-zero }
 
-module _ {s old words t : List ℕ} {good g : Bool} {at k v : ℕ} {c : Column} (r : Reading s old words good at k) (h : k < length words) where
-  pub line-next : t ≡ part_of s at places → c ≡ read_field t → v ≡ number_of c → g ≡ is_number c → Reading s old (set words k v) (good && g) (at + places) (k + 1)
+module _ {s old words t : List ℕ} {good g : Bool} {k v : ℕ} {c : Option ℕ} (r : Reading s old words good k) (h : k < length words) where
+  pub line-next : t ≡ part_of s (k * places) places → c ≡ read_field t → v ≡ unwrap_or c 0 → g ≡ is_some c → Reading s old (set words k v) (good && g) (k + 1)
   unfolding are_fields numbers
   line-next p q a b =
       let left : length old - k ≡ suc (length old - (k + 1)) = omega (arith, r.long) in
-      let read : c ≡ read_field (take places (drop at s)) = q ∙ ap read_field p ∙ field-part s at in
+      let read : c ≡ read_field (take places (drop (k * places) s)) = q ∙ ap read_field p ∙ field-part s (k * places) in
+      let place : (k + 1) * places ≡ k * places + places = omega arith in
       record {
         inside = omega (arith, r.long);
         long = length-set words k v ∙ r.long;
-        place = omega (arith, r.place);
-        fine = r.fine ∙ rw (left, ← read, ← b, drop-drop, and_assoc);
-        is = r.is ∙ rw (left, ← read, ← a, drop-drop, add-one, take-suc-set words k v h) (sym (append_assoc (take k words) (v ∷ []) _));
+        fine = r.fine ∙ rw (left, ← read, ← b, drop-drop, place, and_assoc);
+        is = r.is ∙ rw (left, ← read, ← a, drop-drop, place, add-one, take-suc-set words k v h) (sym (append_assoc (take k words) (v ∷ []) _));
       }
 
-module _ {s old words : List ℕ} {good : Bool} {at k : ℕ} (r : Reading s old words good at k) (h : length words ≤ k) where
+module _ {s old words : List ℕ} {good : Bool} {k : ℕ} (r : Reading s old words good k) (h : length words ≤ k) where
   all_read : k ≡ length old
   all_read = omega (arith, r.inside, r.long)
 
-  pub line-good : {b : Bool} → b ≡ eqb (get_or s at 0) lf → good && b ≡ is_line (length old) s
+  pub line-good : {b : Bool} → b ≡ eqb (get_or s (length words * places) 0) lf → good && b ≡ is_line (length old) s
   unfolding is_line are_fields
   line-good e =
       let none : length old - k ≡ 0 = omega (arith, all_read) in
-      let place : length old * places ≡ at = omega (arith, all_read, r.place) in
-      rw (r.fine, none, and-true, place, e)
+      rw (r.fine, none, and-true, ← r.long, e)
 
   pub line-words : words ≡ numbers (length old) s
   unfolding numbers
@@ -85,8 +84,6 @@ pub numbers-long : (k : ℕ) (s : List ℕ) → length (numbers k s) ≡ k
 unfolding numbers
 numbers-long zero s = refl
 numbers-long (suc k) s = ap suc (numbers-long k (drop places s))
-
-pub ruleset lining = (line-start, line-next, line-good, line-words, rules)
 
 -- ---- `write_line`
 fields-append : (ns ms : List ℕ) → fields (ns ++ ms) ≡ fields ns ++ fields ms

@@ -12,13 +12,13 @@ use borrow.Author.Tests.{leb-true, leb-false, eqb-true}
 use Rattle.leaves.specs.Text.Bytes.{lf}
 use Rattle.leaves.specs.Text.Lists.{all}
 use Rattle.leaves.proofs.text.TestLaws.{and_left, and_right}
-use Rattle.leaves.specs.Text.Field.{places, most_number, field, read_field, number_of, is_number}
+use Rattle.leaves.specs.Text.Field.{places, most_number, field, read_field}
 use Rattle.leaves.specs.Text.Columns.{fields, line, line_bytes, are_fields, is_line, numbers}
-use Rattle.leaves.specs.declared.text.field.Column.{Column}
-use Rattle.leaves.specs.declared.text.field.Column.TheVariants.{Number, Malformed}
 use Rattle.leaves.proofs.text.FieldLaws.{field-long}
 use Rattle.leaves.proofs.text.FieldReadLaws.{written_read, read-written}
 use Rattle.leaves.proofs.text.ColumnLaws.{fields-long}
+use Rattle.std.proofs.Common.{None, Option, Some}
+use Rattle.std.specs.Option.{is_some, unwrap_or}
 
 -- no number is over the largest
 abbrev pub Small : List ℕ → Type 0
@@ -46,18 +46,18 @@ line-back ns rest h =
 
 -- ---- what is read is written
 
-number_is : (c : Column) → is_number c ≡ true → c ≡ Number (number_of c)
-number_is (Number n) h = refl
-number_is Malformed h = absurd (let z : ◌≡◌ {A = ℕ} 0 1 = cc in omega arith)
+number_is : (c : Option ℕ) → is_some c ≡ true → c ≡ Some (unwrap_or c 0)
+number_is (Some n) h = refl
+number_is None h = absurd (let z : ◌≡◌ {A = ℕ} 0 1 = cc in omega arith)
 
 fields-are : (k : ℕ) (s : List ℕ) → are_fields k s ≡ true → take (k * places) s ≡ fields (numbers k s)
 unfolding are_fields numbers fields
 fields-are zero s h = refl
 fields-are (suc k) s h =
     let c = read_field (take places s) in
-    let n : c ≡ Number (number_of c) = number_is c (and_left (is_number c) (are_fields k (drop places s)) h) in
-    let f : take places s ≡ field (number_of c) = (read-written (take places s) (number_of c) n).0 in
-    let later = fields-are k (drop places s) (and_right (is_number c) (are_fields k (drop places s)) h) in
+    let n : c ≡ Some (unwrap_or c 0) = number_is c (and_left (is_some c) (are_fields k (drop places s)) h) in
+    let f : take places s ≡ field (unwrap_or c 0) = (read-written (take places s) (unwrap_or c 0) n).0 in
+    let later = fields-are k (drop places s) (and_right (is_some c) (are_fields k (drop places s)) h) in
     let e : suc k * places ≡ places + k * places = omega arith in
     rw (e, take-add places (k * places) s, later) (ap (λ (x : List ℕ). x ++ fields (numbers k (drop places s))) f)
 

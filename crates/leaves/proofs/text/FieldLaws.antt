@@ -1,51 +1,33 @@
 -- The functions of `field`, one law for each way through, and that a field is read as the number that it is written from.
 use mathlib.Core.Path.{◌≡◌, refl, sym, ◌∙◌}
-use mathlib.Core.Bool.{Bool, true, false, not, ◌&&◌}
+use mathlib.Core.Bool.{Bool, true, false, not}
 use mathlib.Core.List.{List, [], ◌∷◌, ◌++◌, append_assoc, append-nil}
 use Prim.Native.Nat.{ℕ, zero, suc, ◌+◌, ◌-◌, ◌*◌, ◌/◌, ◌%◌, ◌<◌, ◌≤◌}
 use native.Mathlib.Nat.{le_refl}
-use native.Mathlib.Numerals.{add-one}
 use native.Mathlib.Omega.{arith}
-use lib.Dec.{eqb, ltb, leb}
-use lib.ListN.{length, get_or, set, take, drop, length-set, length-append, length-take, length-drop, drop_of_length-le}
-use lib.Seq.{take_all, drop-cons, drop-drop, drop-length, set_at, drop-set-lt, get_or-set_same}
+use lib.Dec.{eqb}
+use lib.ListN.{length, get_or, set, take, drop, length-set, length-append, length-take, length-drop}
+use lib.Seq.{drop-cons, drop-drop, drop-length, set_at, drop-set-lt, get_or-set_same}
 use borrow.Author.Rules.{rules}
 use borrow.Rule.Slice.PartMut.{put_mid}
-use borrow.Author.Tests.{eq-eqb, ne_eqb, leb-true, le-leb, lt-leb, not-true, not-false}
+use borrow.Author.Tests.{eq-eqb, ne_eqb, le-leb, lt-leb}
+use Rattle.std.specs.List.{position_or_len}
 use Rattle.leaves.specs.Text.Bytes.{space, is_digit}
 use Rattle.leaves.proofs.text.ScanLaws.{At, turn, stop, end}
-use Rattle.leaves.proofs.text.TestLaws.{and_left, and_right}
 use Rattle.leaves.specs.Text.Lists.{over}
 use Rattle.leaves.proofs.text.OverLaws.{over-fits}
 use Rattle.leaves.specs.Text.Field.{places, most_number, digit_zero, digit, last_place, front, field, past_spaces, read_digits, read_number, read_field}
-use Rattle.leaves.specs.declared.text.field.Column.{Column}
-use Rattle.leaves.specs.declared.text.field.Column.TheVariants.{Number, Malformed}
+use Rattle.std.proofs.Common.{None, Option, Some}
 
--- ---- `past_spaces`
-module _ (s : List ℕ) where
-  pub spaces-start : At (past_spaces s) past_spaces s 0
-  spaces-start = record { within = omega arith; same = refl }
-
-module _ {s : List ℕ} {i : ℕ} (at : At (past_spaces s) past_spaces s i) where
-  pub spaces-next : i < length s → get_or s i 0 ≡ space → At (past_spaces s) past_spaces s (i + 1)
-  unfolding past_spaces
-  spaces-next h e = turn h at (rw (eq-eqb _ _ e))
-
-  -- what is left is handed back
-  left : take (length s - i) (drop i s) ≡ drop i s
-  left = take_all (length s - i) (drop i s) (simp length-drop (le_refl _))
-
-  pub spaces-stop : i < length s → (get_or s i 0 ≡ space → ⊥) → take (length s - i) (drop i s) ≡ past_spaces s
-  unfolding past_spaces
-  spaces-stop h e =
-      let d : drop i s ≡ get_or s i 0 ∷ drop (i + 1) s = rw (add-one, drop-cons s i 0) in
-      stop h at (left ∙ d ∙ rw (ne_eqb _ _ e))
-
-  pub spaces-end : length s ≤ i → take (length s - i) (drop i s) ≡ past_spaces s
-  unfolding past_spaces
-  spaces-end h = end h at (left ∙ drop_of_length-le s {i = i} h)
-
-pub ruleset spaces = (spaces-start, spaces-next, spaces-stop, spaces-end, rules)
+-- ---- `past_spaces`: what stands from the first byte on that is no space
+pub spaces_cut : (s : List ℕ) → drop (position_or_len (λ b. not (eqb b space)) s) s ≡ past_spaces s
+unfolding past_spaces
+spaces_cut [] = refl
+spaces_cut (b ∷ s) = go (eqb b space) refl (spaces_cut s)
+  where
+    go : (t : Bool) → eqb b space ≡ t → drop (position_or_len (λ x. not (eqb x space)) s) s ≡ past_spaces s → drop (position_or_len (λ x. not (eqb x space)) (b ∷ s)) (b ∷ s) ≡ past_spaces (b ∷ s)
+    go true e h = let z : 1 + position_or_len (λ x. not (eqb x space)) s ≡ suc (position_or_len (λ x. not (eqb x space)) s) = omega arith in rw (e, z) h
+    go false e h = rw e
 
 -- ---- `read_digits`: n is the number of the digits passed
 pub record Digits (s : List ℕ) (n i : ℕ) : Type 0 where
@@ -55,60 +37,40 @@ pub record Digits (s : List ℕ) (n i : ℕ) : Type 0 where
 pub digits-start : (s : List ℕ) → Digits s 0 0
 digits-start s = record { at = record { within = omega arith; same = refl }; small = omega arith }
 
-module _ (b : ℕ) {r : Bool} (is : r ≡ is_digit b) (h : not r ≡ false) where
-  digit-is : is_digit b ≡ true
-  digit-is = sym is ∙ not-false r h
-
-  pub digit_low : 48 ≤ b
-  digit_low = leb-true _ _ (and_left (leb 48 b) (leb b 57) digit-is)
-
-  pub digit-high : b ≤ 57
-  digit-high = leb-true _ _ (and_right (leb 48 b) (leb b 57) digit-is)
-
-module _ {s : List ℕ} {n i : ℕ} (d : Digits s n i) (h : i < length s) where
-  pub digits-bad : {r : Bool} → r ≡ is_digit (get_or s i 0) → not r ≡ true → Malformed ≡ read_digits 0 s
+module _ {s : List ℕ} {n i : ℕ} (d : Digits s n i) (h : i < length s) {r : Bool} (is : r ≡ is_digit (get_or s i 0)) where
+  pub digits-bad : r ≡ false → None ≡ read_digits 0 s
   unfolding read_digits
-  digits-bad {r} is f = let g : is_digit (get_or s i 0) ≡ false = sym is ∙ not-true r f in stop h d.at (rw g)
+  digits-bad f = let g : is_digit (get_or s i 0) ≡ false = sym is ∙ f in stop h d.at (rw g)
 
-  module _ {r : Bool} {k : ℕ} (is : r ≡ is_digit (get_or s i 0)) (f : not r ≡ false) (e : k ≡ get_or s i 0 - digit_zero) where
-    pub digits-large : most_number < n * 10 + k → Malformed ≡ read_digits 0 s
+  module _ (f : r ≡ true) where
+    digit-is : is_digit (get_or s i 0) ≡ true
+    digit-is = sym is ∙ f
+
+    pub digits-large : most_number < n * 10 + (get_or s i 0 - digit_zero) → None ≡ read_digits 0 s
     unfolding read_digits
-    digits-large l = stop h d.at (rw (digit-is _ is f, ← e, lt-leb _ _ l))
+    digits-large l = stop h d.at (rw (digit-is, lt-leb _ _ l))
 
-    pub digits-next : n * 10 + k ≤ most_number → Digits s (n * 10 + k) (i + 1)
+    pub digits-next : {m : ℕ} → m ≡ n * 10 + (get_or s i 0 - digit_zero) → m ≤ most_number → Digits s m (i + 1)
     unfolding read_digits
-    digits-next l = record { at = turn h d.at (rw (digit-is _ is f, ← e, le-leb _ _ l)); small = l }
+    digits-next e l = rw e (record { at = turn h d.at (rw (digit-is, le-leb _ _ (rw e at l))); small = rw e at l })
 
-pub digits-end : {s : List ℕ} {n i : ℕ} → Digits s n i → length s ≤ i → Number n ≡ read_digits 0 s
+pub digits-end : {s : List ℕ} {n i : ℕ} → Digits s n i → length s ≤ i → Some n ≡ read_digits 0 s
 unfolding read_digits
 digits-end d h = end h d.at refl
 
-pub ruleset digits = (digits-start, digit_low, digit-high, digits-bad, digits-large, digits-next, digits-end, rules)
+pub ruleset digits = (digits-start, digits-bad, digits-end, rules)
 
--- ---- `read_number`, `read_field`
+-- ---- `read_field`
 module _ (s : List ℕ) where
-  pub number-none : length s ≡ 0 → Malformed ≡ read_number s
-  unfolding read_number
-  number-none e = rw (eq-eqb _ _ e)
-
-  module _ (some : length s ≡ 0 → ⊥) where
-    pub number-zeros : eqb (get_or s 0 0) digit_zero && ltb 1 (length s) ≡ true → Malformed ≡ read_number s
-    unfolding read_number
-    number-zeros z = rw (ne_eqb _ _ some, z)
-
-    pub number_is : {r : Column} → eqb (get_or s 0 0) digit_zero && ltb 1 (length s) ≡ false → r ≡ read_digits 0 s → r ≡ read_number s
-    unfolding read_number
-    number_is z e = rw (ne_eqb _ _ some, z) e
-
-  pub field-short : (length s ≡ places → ⊥) → Malformed ≡ read_field s
+  pub field-short : (length s ≡ places → ⊥) → None ≡ read_field s
   unfolding read_field
   field-short h = rw (ne_eqb _ _ h)
 
-  pub field_is : {t : List ℕ} {r : Column} → length s ≡ places → t ≡ past_spaces s → r ≡ read_number t → r ≡ read_field s
+  pub field_is : {t : List ℕ} {r : Option ℕ} → length s ≡ places → t ≡ past_spaces s → r ≡ read_number t → r ≡ read_field s
   unfolding read_field
   field_is h p e = rw (eq-eqb _ _ h, ← p) e
 
-pub ruleset reading = (number-none, number-zeros, number_is, field-short, field_is, rules)
+pub ruleset reading = (field-short, field_is, rules)
 
 -- ---- `last_place`, `put_front`
 pub last_none : {n : ℕ} → n ≡ 0 → space ≡ last_place n

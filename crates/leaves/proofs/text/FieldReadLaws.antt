@@ -11,8 +11,8 @@ use borrow.Author.Tests.{eq-eqb, ne_eqb, eqb-true, eqb-false, le-leb, leb-true, 
 use Rattle.leaves.specs.Text.Bytes.{space, is_digit}
 use Rattle.leaves.proofs.text.TestLaws.{and_left, and_right}
 use Rattle.leaves.specs.Text.Field.{places, most_number, digit_zero, digit, last_place, front, field, past_spaces, read_digits, read_number, read_field}
-use Rattle.leaves.specs.declared.text.field.Column.TheVariants.{Number, Malformed}
 use Rattle.leaves.proofs.text.FieldLaws.{field-long}
+use Rattle.std.proofs.Common.{None, Some}
 
 -- ---- a number by its last digit
 module _ (n : ℕ) where
@@ -104,11 +104,11 @@ front_read (suc k) n s h l m = rw (append_assoc (front k (n / 10)) (last_place n
         let most : n / 10 ≤ most_number = omega (arith, by_ten n) in
         f z small most ∙ read_step (n / 10) (n % 10) s (last-small n) (omega (arith, by_ten n)) ∙ rw (by_ten n)
 
-pub written_read : (n : ℕ) → n ≤ most_number → read_field (field n) ≡ Number n
+pub written_read : (n : ℕ) → n ≤ most_number → read_field (field n) ≡ Some n
 unfolding read_field field read_number read_digits
 written_read n h = rw (eq-eqb _ _ (field-long n)) (go (eqb (n / 10) 0) refl)
   where
-    go : (t : Bool) → eqb (n / 10) 0 ≡ t → read_number (past_spaces (field n)) ≡ Number n
+    go : (t : Bool) → eqb (n / 10) 0 ≡ t → read_number (past_spaces (field n)) ≡ Some n
     go true e =
         let z : n / 10 ≡ 0 = eqb-true (n / 10) 0 e in
         let d : n % 10 ≡ n = omega (arith, by_ten n) in
@@ -132,21 +132,21 @@ module _ (b m : ℕ) (q : is_digit b && leb m most_number ≡ true) where
   taken-small : m ≤ most_number
   taken-small = leb-true _ _ (and_right (is_digit b) (leb m most_number) q)
 
-bad-number : (A : Type 0) {n : ℕ} → Malformed ≡ Number n → A
+bad-number : (A : Type 0) {n : ℕ} → None ≡ Some n → A
 bad-number A e = absurd (let z : ◌≡◌ {A = ℕ} 0 1 = cc in omega arith)
 
 -- the number of digits behind those of m is not less than m, and not over the largest
-digits-most : (m n : ℕ) (s : List ℕ) → m ≤ most_number → read_digits m s ≡ Number n → (m ≤ n) × (n ≤ most_number)
+digits-most : (m n : ℕ) (s : List ℕ) → m ≤ most_number → read_digits m s ≡ Some n → (m ≤ n) × (n ≤ most_number)
 unfolding read_digits
 digits-most m n [] h e = let q : m ≡ n = cc in (omega arith, omega arith)
 digits-most m n (b ∷ s) h e = go (digits-most (m * 10 + (b - digit_zero)) n s) (is_digit b && leb (m * 10 + (b - digit_zero)) most_number) refl
   where
-    go : (m * 10 + (b - digit_zero) ≤ most_number → read_digits (m * 10 + (b - digit_zero)) s ≡ Number n → (m * 10 + (b - digit_zero) ≤ n) × (n ≤ most_number)) → (t : Bool) → is_digit b && leb (m * 10 + (b - digit_zero)) most_number ≡ t → (m ≤ n) × (n ≤ most_number)
+    go : (m * 10 + (b - digit_zero) ≤ most_number → read_digits (m * 10 + (b - digit_zero)) s ≡ Some n → (m * 10 + (b - digit_zero) ≤ n) × (n ≤ most_number)) → (t : Bool) → is_digit b && leb (m * 10 + (b - digit_zero)) most_number ≡ t → (m ≤ n) × (n ≤ most_number)
     go f true q = let l = f (taken-small b (m * 10 + (b - digit_zero)) q) (rw q at e) in (omega arith, l.1)
     go f false q = bad-number _ (rw q at e)
 
 -- digits that are read stand as they would be written, behind those of m
-digits-written : (k m n : ℕ) (s : List ℕ) → 0 < m → read_digits m s ≡ Number n → front (k + length s) n ≡ front k m ++ s
+digits-written : (k m n : ℕ) (s : List ℕ) → 0 < m → read_digits m s ≡ Some n → front (k + length s) n ≡ front k m ++ s
 unfolding read_digits front
 digits-written k m n [] h e =
     let q : m ≡ n = cc in
@@ -154,7 +154,7 @@ digits-written k m n [] h e =
     rw (z, ← q) (sym (append-nil (front k m)))
 digits-written k m n (b ∷ s) h e = go (digits-written (suc k) (m * 10 + (b - digit_zero)) n s) (is_digit b && leb (m * 10 + (b - digit_zero)) most_number) refl
   where
-    go : (0 < m * 10 + (b - digit_zero) → read_digits (m * 10 + (b - digit_zero)) s ≡ Number n → front (suc k + length s) n ≡ front (suc k) (m * 10 + (b - digit_zero)) ++ s) → (t : Bool) → is_digit b && leb (m * 10 + (b - digit_zero)) most_number ≡ t → front (k + length (b ∷ s)) n ≡ front k m ++ b ∷ s
+    go : (0 < m * 10 + (b - digit_zero) → read_digits (m * 10 + (b - digit_zero)) s ≡ Some n → front (suc k + length s) n ≡ front (suc k) (m * 10 + (b - digit_zero)) ++ s) → (t : Bool) → is_digit b && leb (m * 10 + (b - digit_zero)) most_number ≡ t → front (k + length (b ∷ s)) n ≡ front k m ++ b ∷ s
     go f true q =
         let low = taken-low b (m * 10 + (b - digit_zero)) q in
         let high = taken-high b (m * 10 + (b - digit_zero)) q in
@@ -169,14 +169,14 @@ unfolding front field
 field-front n h = rw (last-is n h)
 
 -- the digits b and s behind spaces, 11 places in all: `0` alone, or a first digit that is not 0
-module _ (k n b : ℕ) (s : List ℕ) (long : k + suc (length s) ≡ places) (low : 48 ≤ b) (high : b ≤ 57) (e : read_digits (0 * 10 + (b - digit_zero)) s ≡ Number n) where
+module _ (k n b : ℕ) (s : List ℕ) (long : k + suc (length s) ≡ places) (low : 48 ≤ b) (high : b ≤ 57) (e : read_digits (0 * 10 + (b - digit_zero)) s ≡ Some n) where
   zero-written : b ≡ digit_zero → length s ≡ 0 → front k 0 ++ b ∷ s ≡ field n
   unfolding field read_digits
   zero-written z h =
       let none : s ≡ [] = empty s h in
       let ten : k ≡ 10 = omega arith in
       let nothing : 0 * 10 + (b - digit_zero) ≡ 0 = omega arith in
-      let q : Number 0 ≡ Number n = rw (none, nothing) at e in
+      let q : Some 0 ≡ Some n = rw (none, nothing) at e in
       let m : 0 ≡ n = cc in
       rw (none, ten, z, ← m)
 
@@ -184,7 +184,7 @@ module _ (k n b : ℕ) (s : List ℕ) (long : k + suc (length s) ≡ places) (lo
   unfolding front
   some_written z =
       let first : 0 * 10 + (b - digit_zero) ≡ b - digit_zero = omega arith in
-      let d : read_digits (b - digit_zero) s ≡ Number n = rw first at e in
+      let d : read_digits (b - digit_zero) s ≡ Some n = rw first at e in
       let some : 0 < b - digit_zero = nonzero (b - digit_zero) (λ q. z (omega arith)) in
       let grows = digits-most (b - digit_zero) n s (omega arith) d in
       let eleven : suc k + length s ≡ 11 = omega arith in
@@ -194,7 +194,7 @@ module _ (k n b : ℕ) (s : List ℕ) (long : k + suc (length s) ≡ places) (lo
       let w : front 11 n ≡ front (suc k) (b - digit_zero) ++ s = rw eleven at (digits-written (suc k) (b - digit_zero) n s some d) in
       sym (append_assoc (front k 0) (b ∷ []) s) ∙ sym (w ∙ rw (last-is (b - digit_zero) some, div, own, back)) ∙ field-front n (omega arith)
 
-number-written : (k n : ℕ) (s : List ℕ) → k + length s ≡ places → read_number s ≡ Number n → (front k 0 ++ s ≡ field n) × (n ≤ most_number)
+number-written : (k n : ℕ) (s : List ℕ) → k + length s ≡ places → read_number s ≡ Some n → (front k 0 ++ s ≡ field n) × (n ≤ most_number)
 unfolding read_number read_digits
 number-written k n [] h e = bad-number _ e
 number-written k n (b ∷ s) h e = go (eqb b digit_zero) refl (ltb 1 (suc (length s))) refl (is_digit b && leb (0 * 10 + (b - digit_zero)) most_number) refl
@@ -207,13 +207,13 @@ number-written k n (b ∷ s) h e = go (eqb b digit_zero) refl (ltb 1 (suc (lengt
     go true p false q false r = bad-number _ (rw (some, p, q, r) at e)
     go false p m q false r = bad-number _ (rw (some, p, r) at e)
     go true p false q true r =
-        let d : read_digits (0 * 10 + (b - digit_zero)) s ≡ Number n = rw (some, p, q, r) at e in
+        let d : read_digits (0 * 10 + (b - digit_zero)) s ≡ Some n = rw (some, p, q, r) at e in
         (zero-written k n b s h (taken-low b (0 * 10 + (b - digit_zero)) r) (taken-high b (0 * 10 + (b - digit_zero)) r) d (eqb-true b digit_zero p) (omega (arith, ltb-false 1 (suc (length s)) q)), (digits-most (0 * 10 + (b - digit_zero)) n s (taken-small b (0 * 10 + (b - digit_zero)) r) d).1)
     go false p m q true r =
-        let d : read_digits (0 * 10 + (b - digit_zero)) s ≡ Number n = rw (some, p, r) at e in
+        let d : read_digits (0 * 10 + (b - digit_zero)) s ≡ Some n = rw (some, p, r) at e in
         (some_written k n b s h (taken-low b (0 * 10 + (b - digit_zero)) r) (taken-high b (0 * 10 + (b - digit_zero)) r) d (eqb-false b digit_zero p), (digits-most (0 * 10 + (b - digit_zero)) n s (taken-small b (0 * 10 + (b - digit_zero)) r) d).1)
 
-pub read-written : (s : List ℕ) (n : ℕ) → read_field s ≡ Number n → (s ≡ field n) × (n ≤ most_number)
+pub read-written : (s : List ℕ) (n : ℕ) → read_field s ≡ Some n → (s ≡ field n) × (n ≤ most_number)
 unfolding read_field
 read-written s n e = go (eqb (length s) places) refl
   where
@@ -225,5 +225,5 @@ read-written s n e = go (eqb (length s) places) refl
     go false q = bad-number _ (rw q at e)
 
 -- a malformed field is one that no number is written as
-pub malformed-unwritten : (s : List ℕ) → read_field s ≡ Malformed → (n : ℕ) → n ≤ most_number → s ≡ field n → ⊥
+pub malformed-unwritten : (s : List ℕ) → read_field s ≡ None → (n : ℕ) → n ≤ most_number → s ≡ field n → ⊥
 malformed-unwritten s e n h q = bad-number _ (sym e ∙ ap read_field q ∙ written_read n h)

@@ -1,19 +1,20 @@
 -- Lines, a byte at a time: the first, the last as the code reads it, and the CR of a CRLF.
 use mathlib.Core.Path.{◌≡◌, refl, sym, ap, ◌∙◌}
-use mathlib.Core.Bool.{Bool, true, false, ◌&&◌, ◌||◌, and_assoc, and-true, and-false, false≢true}
+use mathlib.Core.Bool.{Bool, true, false, not, ◌&&◌, ◌||◌, and_assoc, and-true, and-false, false≢true}
 use mathlib.Core.List.{List, [], ◌∷◌}
-use Prim.Native.Nat.{ℕ, zero, suc, ◌+◌, ◌-◌, ◌<◌, ◌≤◌, zero-le}
+use Prim.Native.Nat.{ℕ, zero, suc, ◌+◌, ◌<◌, ◌≤◌, zero-le}
 use native.Mathlib.Nat.{le_of_suc-le-suc, not-suc-le-zero}
 use native.Mathlib.Omega.{arith}
 use lib.Dec.{eqb}
-use lib.ListN.{length, get_or, drop, drop_of_length-le}
-use borrow.Author.Tests.{eqb-true}
+use lib.ListN.{length, get_or, drop, length-drop, drop_of_length-le}
+use borrow.Author.Tests.{eqb-true, ne_eqb}
 use Rattle.leaves.specs.Text.Bytes.{tab, lf, cr, space, is_blank_byte, is_line_ending_byte}
 use Rattle.leaves.specs.Text.Lists.{when◌then◌else◌, all, first_or, last_or}
 use Rattle.leaves.specs.Text.Lines.{starts_with, longer, is_cr_of_crlf, lines, is_blank}
+use Rattle.std.specs.List.{position_or_len}
 use Rattle.leaves.specs.Text.Edges.{has_blank_edge_line}
-use Rattle.leaves.specs.Text.EdgeScans.{last_blank, Led, Ended}
-use Rattle.leaves.proofs.text.ScanLaws.{At, next, scan}
+use Rattle.leaves.specs.Text.EdgeScans.{last_blank, Led, Solid}
+use Rattle.leaves.proofs.text.ScanLaws.{next}
 use Rattle.leaves.proofs.text.TestLaws.{and_right, or_left, or_right}
 
 module _ (b : ℕ) (s : List ℕ) where
@@ -125,10 +126,20 @@ last-lines last blank (b ∷ s) = go (is_cr_of_crlf b s) (is_line_ending_byte b)
 pub last_line : (s : List ℕ) → is_blank (last_or [] (lines s)) ≡ last_blank true true s
 last_line s = sym (last-lines true true s ∙ from_start (lines s))
 
--- what the calls for one byte answer
-pub last_turn : (last blank : Bool) (b : ℕ) (s : List ℕ) {last' blank' skips ends held told : Bool} → last' ≡ (when skips then last else told) → blank' ≡ (when skips then blank else (ends || (blank && held))) → told ≡ (when ends then blank else (blank && held)) → skips ≡ is_cr_of_crlf b s → ends ≡ is_line_ending_byte b → held ≡ is_blank_byte b → last_blank last blank (b ∷ s) ≡ last_blank last' blank' s
-unfolding last_blank
-last_turn last blank b s p q t u v w = rw (p, q, t, u, v, w)
+-- a turn of the loop: the CR of a CRLF, the end of a line, a byte of one
+module _ (last blank : Bool) (b : ℕ) (s : List ℕ) where
+  pub last-skip : is_cr_of_crlf b s ≡ true → last_blank last blank (b ∷ s) ≡ last_blank last blank s
+  unfolding last_blank
+  last-skip y = rw y
+
+  module _ (n : is_cr_of_crlf b s ≡ false) where
+    pub last-end : is_line_ending_byte b ≡ true → last_blank last blank (b ∷ s) ≡ last_blank blank true s
+    unfolding last_blank
+    last-end e = rw (n, e)
+
+    pub last-in : is_line_ending_byte b ≡ false → last_blank last blank (b ∷ s) ≡ last_blank (blank && is_blank_byte b) (blank && is_blank_byte b) s
+    unfolding last_blank
+    last-in e = rw (n, e)
 
 pub last_none : (last blank : Bool) → last ≡ last_blank last blank []
 unfolding last_blank
@@ -142,32 +153,29 @@ last-blank b s e y =
     let n : is_line_ending_byte b ≡ false = blank-holds b (sym e ∙ y) in
     rw (no-cr b s n, n, ← e, y)
 
-pub record Leading (s : List ℕ) (i : ℕ) : Type 0 where
-  pub within : i ≤ length s
-  pub first : is_blank (first_or [] (lines s)) ≡ first_blank (drop i s)
-  pub last : is_blank (last_or [] (lines s)) ≡ last_blank true true (drop i s)
+record Cut (s : List ℕ) (at : ℕ) : Type 0 where
+  within : at ≤ length s
+  first : first_blank s ≡ first_blank (drop at s)
+  last : last_blank true true s ≡ last_blank true true (drop at s)
+  solid : at < length s → is_blank_byte (get_or s at 0) ≡ false
 
-pub leading-start : (s : List ℕ) → Leading s 0
-unfolding first_blank
-leading-start s = record { within = omega arith; first = refl; last = last_line s }
+blanks : List ℕ → ℕ
+blanks s = position_or_len (λ b. not (is_blank_byte b)) s
 
-module _ (s : List ℕ) (i : ℕ) (h : i < length s) (v : Leading s i) {r : Bool} (e : r ≡ is_blank_byte (get_or s i 0)) where
-  pub leading-turn : r ≡ true → Leading s (i + 1)
-  leading-turn y =
-      let n : is_line_ending_byte (get_or s i 0) ≡ false = blank-holds (get_or s i 0) (sym e ∙ y) in
-      record {
-        within = omega arith;
-        first = v.first ∙ ap first_blank (next s i h) ∙ first-blank (get_or s i 0) (drop (i + 1) s) refl n e y;
-        last = v.last ∙ ap (last_blank true true) (next s i h) ∙ last-blank (get_or s i 0) (drop (i + 1) s) e y;
-      }
+cut : (s : List ℕ) → Cut s (blanks s)
+unfolding blanks
+cut [] = record { within = omega arith; first = refl; last = refl; solid = λ h. absurd (omega arith) }
+cut (b ∷ s) = go (is_blank_byte b) refl (cut s)
+  where
+    go : (t : Bool) → is_blank_byte b ≡ t → Cut s (blanks s) → Cut (b ∷ s) (blanks (b ∷ s))
+    go true e c =
+        let z : 1 + blanks s ≡ suc (blanks s) = omega arith in
+        rw (e, z) (record { within = omega (arith, c.within); first = first-blank b s refl (blank-holds b e) refl e ∙ c.first; last = last-blank b s refl e ∙ c.last; solid = λ h. c.solid (omega arith) })
+    go false e c = rw e (record { within = omega arith; first = refl; last = refl; solid = λ h. e })
 
-  pub leading-stop : r ≡ false → Led s i
-  unfolding first_blank
-  leading-stop n = record { within = v.within; first = v.first; last = v.last; solid = λ g. sym e ∙ n }
-
-pub leading_end : (s : List ℕ) (i : ℕ) → length s ≤ i → Leading s i → Led s i
-unfolding first_blank
-leading_end s i h v = record { within = v.within; first = v.first; last = v.last; solid = λ g. absurd (omega arith) }
+pub led : (s : List ℕ) {at : ℕ} → at ≡ position_or_len (λ b. not (is_blank_byte b)) s → Led s at
+unfolding blanks first_blank
+led s {at} e = let c = cut s in rw e (record { within = c.within; first = c.first; last = last_line s ∙ c.last; solid = c.solid })
 
 -- ---- from the back: what stands before a byte that is neither blank nor a line ending tells nothing
 last-at-solid : (last blank : Bool) (b : ℕ) (s : List ℕ) → is_blank_byte b ≡ false → is_line_ending_byte b ≡ false → last_blank last blank (b ∷ s) ≡ last_blank false false s
@@ -185,51 +193,47 @@ last-after-solid (b ∷ s) (suc at) zero last blank g h o n = absurd (not-suc-le
 last-after-solid (b ∷ s) (suc at) (suc i) last blank g h o n = last-after-solid s at i last blank (le_of_suc-le-suc g) (le_of_suc-le-suc h) o n
 last-after-solid (b ∷ s) zero (suc i) last blank g h o n = last_step last blank b s ∙ last-after-solid s zero i _ _ zero-le (le_of_suc-le-suc h) o n
 
-pub record Back (s : List ℕ) (at i : ℕ) : Type 0 where
-  pub after : at ≤ i
-  pub inside : i < length s
+solid-same : (s : List ℕ) (i : ℕ) → Solid s i → last_blank true true s ≡ last_blank true true (drop i s)
+solid-same s zero d = refl
+solid-same s (suc i) d =
+    let f = d.firm (omega arith) in
+    let o : is_blank_byte (get_or s (suc i) 0) ≡ false = or_left (is_blank_byte (get_or s (suc i) 0)) (is_line_ending_byte (get_or s (suc i) 0)) f.1 in
+    let m : is_line_ending_byte (get_or s (suc i) 0) ≡ false = or_right (is_blank_byte (get_or s (suc i) 0)) (is_line_ending_byte (get_or s (suc i) 0)) f.1 in
+    last-after-solid s zero (suc i) true true zero-le f.0 o m ∙ sym (last-after-solid s (suc i) (suc i) true true (omega arith) f.0 o m)
 
-pub back_start : (s : List ℕ) (at : ℕ) → at < length s → Back s at (length s - 1)
-back_start s at h = record { after = omega arith; inside = omega arith }
-
-pub back-turn : (s : List ℕ) (at i : ℕ) → at < i → Back s at i → Back s at (i - 1)
-back-turn s at i h v = record { after = omega arith; inside = omega (arith, v.inside) }
-
-pub back-stop : (s : List ℕ) (at i : ℕ) {t u : Bool} → Back s at i → t ≡ is_blank_byte (get_or s i 0) → u ≡ is_line_ending_byte (get_or s i 0) → (t || u) ≡ false → Ended s at i
-back-stop s at i {t} {u} v e f n =
-    let o : is_blank_byte (get_or s i 0) ≡ false = sym e ∙ or_left t u n in
-    let m : is_line_ending_byte (get_or s i 0) ≡ false = sym f ∙ or_right t u n in
-    record { within = omega (arith, v.inside); same = last-after-solid s at i true true v.after v.inside o m ∙ sym (last-after-solid s i i true true (omega arith) v.inside o m) }
-
-pub back_end : (s : List ℕ) (at i : ℕ) → i ≤ at → Back s at i → Ended s at i
-back_end s at i h v = let e : i ≡ at = omega (arith, v.after) in record { within = omega (arith, v.inside); same = rw e refl }
-
--- ---- either line
-module _ (s : List ℕ) (at : ℕ) (v : Led s at) where
-  either : (t : Bool) → first_blank (drop at s) ≡ t → has_blank_edge_line s ≡ (t || last_blank true true (drop at s))
+-- ---- either line: t is what stands behind the blanks in front
+module _ (s : List ℕ) (at : ℕ) (v : Led s at) (t : List ℕ) (is : t ≡ drop at s) where
+  either : (b : Bool) → first_blank t ≡ b → has_blank_edge_line s ≡ (b || last_blank true true t)
   unfolding has_blank_edge_line first_blank
-  either t e = rw (v.first, v.last, e)
+  either b e = rw (v.first, v.last, ← is, e)
 
-  pub edge_none : length s ≤ at → true ≡ has_blank_edge_line s
-  edge_none h = sym (either true (rw (drop_of_length-le s {i = at} h) (sym first-none)))
+  pub edge_none : length t < 1 → true ≡ has_blank_edge_line s
+  edge_none h = sym (either true (go t h))
+    where
+      go : (u : List ℕ) → length u < 1 → first_blank u ≡ true
+      go [] k = sym first-none
+      go (b ∷ u) k = absurd (omega arith)
 
-  pub edge-first : {r : Bool} → at < length s → r ≡ is_line_ending_byte (get_or s at 0) → r ≡ true → true ≡ has_blank_edge_line s
-  edge-first h e y = sym (either true (rw (next s at h) (sym (first_ends (get_or s at 0) (drop (at + 1) s) e y))))
+  module _ (h : 1 ≤ length t) {r : Bool} (e : r ≡ is_line_ending_byte (get_or t 0 0)) where
+    pub edge-first : r ≡ true → r ≡ has_blank_edge_line s
+    edge-first y = y ∙ sym (either true (sym (rw (next t 0 h) (first_ends (get_or t 0 0) (drop 1 t) e y))))
 
-  pub edge-last : {r q : Bool} {i : ℕ} → at < length s → r ≡ is_line_ending_byte (get_or s at 0) → r ≡ false → Ended s at i → q ≡ last_blank true true (drop i s) → q ≡ has_blank_edge_line s
-  edge-last h e n d f = f ∙ sym d.same ∙ sym (either false (rw (next s at h) (sym (first-solid (get_or s at 0) (drop (at + 1) s) e n refl (v.solid h)))))
-
--- a loop that begins at `from`
-pub from_at : (s : List ℕ) (i : ℕ) → i ≤ length s → At (last_blank true true (drop i s)) (last_blank true true) s i
-from_at s i h = record { within = h; same = refl }
+    pub edge-last : {q : Bool} {i : ℕ} → r ≡ false → Solid t i → q ≡ last_blank true true (drop i t) → q ≡ has_blank_edge_line s
+    edge-last {i = i} n d f =
+        let inside : at < length s = omega (arith, length-drop at s, ap length is) in
+        let here : get_or t 0 0 ≡ get_or s at 0 = rw (is, next s at inside) refl in
+        let solid : is_blank_byte (get_or t 0 0) ≡ false = rw here (v.solid inside) in
+        f ∙ sym (solid-same t i d) ∙ sym (either false (sym (rw (next t 0 h) (first-solid (get_or t 0 0) (drop 1 t) e n refl solid))))
 
 -- ---- the CR of a CRLF
-pub crlf-short : (s : List ℕ) (i : ℕ) → length s ≤ i + 1 → false ≡ is_cr_of_crlf (get_or s i 0) (drop (i + 1) s)
-unfolding is_cr_of_crlf starts_with
-crlf-short s i h = rw (drop_of_length-le s {i = i + 1} h) (sym (and-false (eqb (get_or s i 0) cr)))
+pub crlf_other : (b : ℕ) (s : List ℕ) → (b ≡ cr → ⊥) → is_cr_of_crlf b s ≡ false
+unfolding is_cr_of_crlf
+crlf_other b s n = rw (ne_eqb b cr n)
 
-pub crlf-long : (s : List ℕ) (i : ℕ) → i + 1 < length s → (eqb (get_or s i 0) cr && eqb (get_or s (i + 1) 0) lf) ≡ is_cr_of_crlf (get_or s i 0) (drop (i + 1) s)
+pub crlf_short : (s : List ℕ) (i : ℕ) → length s ≤ i + 1 → is_cr_of_crlf (get_or s i 0) (drop (i + 1) s) ≡ false
 unfolding is_cr_of_crlf starts_with
-crlf-long s i h = rw (next s (i + 1) h)
+crlf_short s i h = rw (drop_of_length-le s {i = i + 1} h) (and-false (eqb (get_or s i 0) cr))
 
-pub ruleset line-laws = (last_turn, last_none, leading-start, leading-turn, leading-stop, leading_end, back_start, back-turn, back-stop, back_end, edge_none, edge-first, edge-last, from_at, crlf-short, crlf-long, scan)
+pub crlf_long : (s : List ℕ) (i : ℕ) → i + 1 < length s → is_cr_of_crlf (get_or s i 0) (drop (i + 1) s) ≡ (eqb (get_or s i 0) cr && eqb (get_or s (i + 1) 0) lf)
+unfolding is_cr_of_crlf starts_with
+crlf_long s i h = rw (next s (i + 1) h)

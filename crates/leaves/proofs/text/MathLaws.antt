@@ -2,16 +2,17 @@
 use mathlib.Core.Path.{◌≡◌, refl, sym, ap, ◌∙◌}
 use mathlib.Core.Bool.{true, false, ◌&&◌, and-false}
 use mathlib.Core.List.{List, [], ◌∷◌}
-use Prim.Native.Nat.{ℕ, ◌+◌, ◌<◌, ◌≤◌}
+use Prim.Native.Nat.{ℕ, ◌<◌, ◌≤◌}
 use native.Mathlib.Omega.{arith}
+use borrow.Author.Tests.{not-true, eq-eqb, ne_eqb}
 use lib.Dec.{eqb}
-use lib.ListN.{length, get_or, drop, length-drop}
+use lib.ListN.{length, get_or, drop}
 use Rattle.leaves.specs.Text.Bytes.{dollar, backtick}
 use Rattle.leaves.specs.Text.Lines.{starts_with}
 use Rattle.leaves.specs.Text.Math.{holds_backtick_dollar}
-use Rattle.leaves.proofs.text.ScanLaws.{At, next, scan}
-use Rattle.leaves.specs.Text.Chunk.{is_neither, Past}
-use Rattle.leaves.proofs.text.ChunkLaws.{leap-to, neither-same}
+use Rattle.leaves.proofs.text.ScanLaws.{next}
+use Rattle.leaves.specs.Text.Chunk.{is_other, Past}
+use Rattle.leaves.proofs.text.ChunkLaws.{leap}
 
 -- two bytes
 module _ (a b : ℕ) (s : List ℕ) where
@@ -33,23 +34,27 @@ tick-short [] h = refl
 tick-short (b ∷ []) h = rw and-false
 tick-short (a ∷ b ∷ s) h = absurd (omega arith)
 
--- the loop at i: no pair begins before it
-module _ (s : List ℕ) (i : ℕ) (v : At (holds_backtick_dollar s) holds_backtick_dollar s i) where
-  module _ (h : i + 1 < length s) where
-    pair-at : drop i s ≡ get_or s i 0 ∷ get_or s (i + 1) 0 ∷ drop (i + 1 + 1) s
-    pair-at = next s i (omega arith) ∙ ap (λ t. get_or s i 0 ∷ t) (next s (i + 1) h)
+-- the loop: two bytes that decide, two that do not, less than two
+module _ (s : List ℕ) where
+  module _ (h : 2 ≤ length s) where
+    pair-at : s ≡ get_or s 0 0 ∷ get_or s 1 0 ∷ drop 2 s
+    pair-at = next s 0 (omega arith) ∙ ap (λ t. get_or s 0 0 ∷ t) (next s 1 (omega arith))
 
-    pub ticks-one : (eqb (get_or s i 0) backtick && eqb (get_or s (i + 1) 0) dollar) ≡ false → At (holds_backtick_dollar s) holds_backtick_dollar s (i + 1)
-    ticks-one e = record { within = omega arith; same = v.same ∙ ap holds_backtick_dollar pair-at ∙ tick-one (get_or s i 0) (get_or s (i + 1) 0) (drop (i + 1 + 1) s) e ∙ sym (ap holds_backtick_dollar (next s (i + 1) h)) }
+    pub ticks-stop : get_or s 0 0 ≡ backtick → get_or s 1 0 ≡ dollar → true ≡ holds_backtick_dollar s
+    ticks-stop e f = sym (ap holds_backtick_dollar pair-at ∙ tick-pair (get_or s 0 0) (get_or s 1 0) (drop 2 s) (rw (eq-eqb _ _ e, eq-eqb _ _ f) refl))
 
-    pub ticks-stop : (eqb (get_or s i 0) backtick && eqb (get_or s (i + 1) 0) dollar) ≡ true → true ≡ holds_backtick_dollar s
-    ticks-stop e = sym (v.same ∙ ap holds_backtick_dollar pair-at ∙ tick-pair (get_or s i 0) (get_or s (i + 1) 0) (drop (i + 1 + 1) s) e)
+    ticks-one : (eqb (get_or s 0 0) backtick && eqb (get_or s 1 0) dollar) ≡ false → holds_backtick_dollar s ≡ holds_backtick_dollar (drop 1 s)
+    ticks-one e = ap holds_backtick_dollar pair-at ∙ tick-one (get_or s 0 0) (get_or s 1 0) (drop 2 s) e ∙ sym (ap holds_backtick_dollar (next s 1 (omega arith)))
 
-  pub ticks-end : length s ≤ i + 1 → false ≡ holds_backtick_dollar s
-  ticks-end h = sym (v.same ∙ tick-short (drop i s) (rw (length-drop i s) (omega arith)))
+    pub ticks-first : (get_or s 0 0 ≡ backtick → ⊥) → holds_backtick_dollar s ≡ holds_backtick_dollar (drop 1 s)
+    ticks-first n = ticks-one (rw (ne_eqb _ _ n) refl)
 
-  -- no backtick
-  pub ticks-leap : {j : ℕ} → Past (is_neither backtick backtick) s i j → At (holds_backtick_dollar s) holds_backtick_dollar s j
-  ticks-leap p = leap-to (is_neither backtick backtick) (λ b t q. tick-none b t (neither-same backtick b q)) v p
+    pub ticks-second : (get_or s 1 0 ≡ dollar → ⊥) → holds_backtick_dollar s ≡ holds_backtick_dollar (drop 1 s)
+    ticks-second n = ticks-one (rw (ne_eqb _ _ n) (and-false (eqb (get_or s 0 0) backtick)))
 
-pub ruleset ticks = (ticks-one, ticks-stop, ticks-end, scan)
+  pub ticks-end : length s < 2 → false ≡ holds_backtick_dollar s
+  ticks-end h = sym (tick-short s (omega arith))
+
+-- no backtick
+pub ticks-leap : {s rest : List ℕ} → Past (is_other backtick) s rest → holds_backtick_dollar s ≡ holds_backtick_dollar rest
+ticks-leap p = leap (is_other backtick) holds_backtick_dollar (λ b t q. tick-none b t (not-true (eqb b backtick) q)) p

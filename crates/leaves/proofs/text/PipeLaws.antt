@@ -1,32 +1,38 @@
 -- The definition of `Pipe`, a byte at a time: where the byte decides, and where what is left does.
 use mathlib.Core.Path.{◌≡◌, refl, sym}
 use mathlib.Core.Bool.{Bool, true, false, not, ◌&&◌, and-false, false≢true}
-use mathlib.Core.List.{List, ◌∷◌}
-use Prim.Native.Nat.{ℕ}
+use mathlib.Core.List.{List}
+use Prim.Native.Nat.{ℕ, ◌<◌, ◌≤◌}
+use native.Mathlib.Omega.{arith}
+use borrow.Author.Tests.{not-true}
+use lib.ListN.{length, get_or, drop, drop_of_length-le}
 use lib.Dec.{eqb}
 use Rattle.leaves.specs.Text.Bytes.{pipe, backslash}
 use Rattle.leaves.specs.Text.Pipe.{odd_pipe_after}
-use Rattle.leaves.proofs.text.ScanLaws.{At, scan}
-use Rattle.leaves.specs.Text.Chunk.{is_neither, Past}
-use Rattle.leaves.proofs.text.ChunkLaws.{leap-to}
-use Rattle.leaves.proofs.text.ChunkLaws.{neither-same}
+use Rattle.leaves.proofs.text.ScanLaws.{next}
+use Rattle.leaves.specs.Text.Chunk.{is_other, Past}
+use Rattle.leaves.proofs.text.ChunkLaws.{leap}
 
-pub pipe-yes : (odd : Bool) (b : ℕ) (s : List ℕ) → (eqb b pipe && odd) ≡ true → true ≡ odd_pipe_after odd (b ∷ s)
-unfolding odd_pipe_after
-pipe-yes odd b s e = rw e
+-- the loop: a byte that decides, a byte that does not, no byte
+module _ (odd : Bool) (s : List ℕ) where
+  pub pipe-yes : 1 ≤ length s → (eqb (get_or s 0 0) pipe && odd) ≡ true → true ≡ odd_pipe_after odd s
+  unfolding odd_pipe_after
+  pipe-yes h e = rw (next s 0 h, e)
 
-pub pipe-no : (odd : Bool) (b : ℕ) (s : List ℕ) → (eqb b pipe && odd) ≡ false → odd_pipe_after odd (b ∷ s) ≡ odd_pipe_after (eqb b backslash && not odd) s
+  pub pipe-no : 1 ≤ length s → (eqb (get_or s 0 0) pipe && odd) ≡ false → odd_pipe_after odd s ≡ odd_pipe_after (eqb (get_or s 0 0) backslash && not odd) (drop 1 s)
+  unfolding odd_pipe_after
+  pipe-no h e = rw (next s 0 h, e)
+
+  pub pipe-end : length s < 1 → false ≡ odd_pipe_after odd s
+  unfolding odd_pipe_after
+  pipe-end h = rw (drop_of_length-le s {i = 0} (omega arith))
+
+-- no backslash, where no odd run of them stands before
+pub pipe-leap : (odd : Bool) {s rest : List ℕ} → odd ≡ false → Past (is_other backslash) s rest → odd_pipe_after odd s ≡ odd_pipe_after odd rest
 unfolding odd_pipe_after
-pipe-no odd b s e = rw e
+pipe-leap false e p = leap (is_other backslash) (odd_pipe_after false) (λ b t q. rw (and-false, not-true (eqb b backslash) q)) p
+pipe-leap true e p = absurd (false≢true (sym e))
 
 pub not-and : (odd t : Bool) → (not odd && t) ≡ true → odd ≡ false
 not-and false t e = refl
 not-and true t e = absurd (false≢true e)
-
--- no backslash, where no odd run of them stands before
-pub pipe-leap : {whole : Bool} {s : List ℕ} {i j : ℕ} (odd : Bool) → odd ≡ false → At whole (odd_pipe_after odd) s i → Past (is_neither backslash backslash) s i j → At whole (odd_pipe_after odd) s j
-unfolding odd_pipe_after
-pipe-leap false e inv p = leap-to (is_neither backslash backslash) (λ b t q. rw (and-false, neither-same backslash b q)) inv p
-pipe-leap true e inv p = absurd (false≢true (sym e))
-
-pub ruleset pipes = (pipe-yes, pipe-no, scan)

@@ -1,5 +1,5 @@
 -- A title is itself when trimmed exactly where neither of its ends is blank.
-use mathlib.Core.Path.{◌≡◌, refl, sym}
+use mathlib.Core.Path.{◌≡◌, refl}
 use mathlib.Core.Bool.{Bool, true, false, not, ◌&&◌, and-false}
 use mathlib.Core.List.{List, [], ◌∷◌}
 use Prim.Native.Nat.{ℕ, suc, ◌-◌, ◌<◌, ◌≤◌}
@@ -12,7 +12,6 @@ use Rattle.leaves.specs.Text.Lists.{last_or, none}
 use Rattle.leaves.specs.Text.Same.{same_bytes}
 use Rattle.leaves.specs.Text.Title.{is_alert_title}
 use Rattle.leaves.specs.Text.Trim.{trim_cons, trim_end, trim_start, trim}
-use Rattle.leaves.proofs.text.ScanLaws.{scan}
 
 same_self : (s : List ℕ) → same_bytes s s ≡ true
 unfolding same_bytes
@@ -70,20 +69,17 @@ title b s = go (is_blank_byte b) (is_blank_byte (last_or b s)) refl refl
     go false true e f = shorter _ _ (omega (arith, start-length (trim_end (b ∷ s)), end-cut b s f))
     go true true e f = shorter _ _ (omega (arith, start-length (trim_end (b ∷ s)), end-cut b s f))
 
-pub title-none : (s : List ℕ) → length s ≡ 0 → false ≡ is_alert_title s
+pub title_none : (s : List ℕ) → length s ≡ 0 → is_alert_title s ≡ false
 unfolding is_alert_title none
-title-none [] e = refl
-title-none (b ∷ s) e = absurd (omega arith)
+title_none [] e = refl
+title_none (b ∷ s) e = absurd (omega arith)
 
--- p and q are what was answered of the first and the last byte
-pub title-some : (s : List ℕ) {p q : Bool} → (length s ≡ 0 → ⊥) → p ≡ is_blank_byte (get_or s 0 0) → q ≡ is_blank_byte (get_or s (length s - 1) 0) → (not p && not q) ≡ is_alert_title s
+pub title_some : (s : List ℕ) → 0 < length s → is_alert_title s ≡ (not (is_blank_byte (get_or s 0 0)) && not (is_blank_byte (get_or s (length s - 1) 0)))
 unfolding is_alert_title none
-title-some [] h e f = absurd (h refl)
-title-some (b ∷ s) h e f = rw (e, f, at-end) (sym (title b s))
+title_some [] h = absurd (omega arith)
+title_some (b ∷ s) h = rw at-end (title b s)
   where
     at-end : get_or (b ∷ s) (suc (length s) - 1) 0 ≡ last_or b s
     at-end =
         let e : suc (length s) - 1 ≡ length s = omega arith in
         rw e (last-at b s)
-
-pub ruleset titles = (title-none, title-some, scan)

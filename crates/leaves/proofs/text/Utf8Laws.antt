@@ -5,23 +5,19 @@ use mathlib.Core.List.{List, [], ◌∷◌}
 use Prim.Native.Nat.{ℕ, zero, suc, ◌-◌, ◌<◌, ◌≤◌}
 use native.Mathlib.Omega.{arith}
 use lib.Dec.{eqb, leb, ltb, eqb-suc-zero}
-use lib.ListN.{replicate, length-replicate}
-use borrow.Author.Tests.{lt-leb, lt-ltb, le-ltb, le-leb, ltb-true, leb-true, leb-false, ne_eqb, eqb-true, not-true, not-false}
+use lib.ListN.{length, replicate, length-replicate}
+use borrow.Author.Tests.{lt-leb, lt-ltb, le-ltb, le-leb, ltb-true, leb-true, leb-false, eqb-true, not-true, not-false}
 use Rattle.leaves.specs.Text.Bytes.{between}
-use Rattle.leaves.specs.Text.Lists.{none}
-use Rattle.leaves.specs.Text.Utf8.{Range, within, trail, nothing, table, follow, well_formed}
+use Rattle.leaves.specs.Text.Lists.{when◌then◌else◌, none}
+use Rattle.leaves.specs.Text.Utf8.{Range, ◌to◌, within, trail, table, follow, well_formed}
 use Rattle.leaves.specs.Text.Utf8Scans.{breaks, expected_after}
-use Rattle.leaves.specs.Text.Utf8Expected.{columns, expected_of, expecting, Expects}
+use Rattle.leaves.specs.Text.Utf8Expected.{columns, expects, trails, expecting, Expects}
 use Rattle.leaves.specs.declared.text.utf8.Expected.{Expected}
-use Rattle.leaves.proofs.text.ScanLaws.{At, scan}
 use Rattle.leaves.proofs.text.TestLaws.{all_below, and_left, and_right, each}
 use Rattle.leaves.specs.Text.Chunk.{is_ascii, Past}
-use Rattle.leaves.proofs.text.ChunkLaws.{leap-to}
+use Rattle.leaves.proofs.text.ChunkLaws.{leap}
 
 -- ---- what follows a first byte
-abbrev expects : ℕ → ℕ → ℕ → Expected
-expects more low high = record { more = more; low = low; high = high }
-
 same-ranges : List Range → List Range → Bool
 same-ranges [] [] = true
 same-ranges [] (r ∷ q) = false
@@ -48,10 +44,6 @@ followed : (these : ℕ → Bool) (cs : List Range) → all_below (row-test thes
 unfolding row-test
 followed these cs e b h p = ranges cs (follow table b) (rw p at (each (row-test these cs) 256 e b h))
 
--- and so the code's struct of these columns is that of the row
-follows : (these : ℕ → Bool) (cs : List Range) → all_below (row-test these cs) 256 ≡ true → (b : ℕ) → b < 256 → these b ≡ true → {o : Expected} → o ≡ expecting cs → expected_of o ≡ cs → Expects (follow table b) o
-follows these cs e b h p i a = let f = followed these cs e b h p in record { is = i ∙ ap expecting f; all = a ∙ f }
-
 module _ (b : ℕ) where
   pub from-to : (low high : ℕ) → low ≤ b → b ≤ high → between low high b ≡ true
   from-to low high p q = rw (le-leb low b p, le-leb b high q)
@@ -59,46 +51,6 @@ module _ (b : ℕ) where
   ascii-alone : b < 0x80 → [] ≡ follow table b
   unfolding all_below row-test same-ranges follow table
   ascii-alone h = followed (between 0 0x7F) [] refl b (omega arith) (from-to 0 0x7F (omega arith) (omega arith))
-
-  pub follow-ascii : b < 0x80 → Expects (follow table b) (expects 0 0x80 0xBF)
-  unfolding expecting
-  follow-ascii h = record { is = ap expecting (ascii-alone h); all = ascii-alone h }
-
-  pub follow-stray : 0x80 ≤ b → b < 0xC2 → Expects (follow table b) (expects 1 0xBF 0x80)
-  unfolding all_below row-test same-ranges expecting follow table
-  follow-stray g h = follows (between 0x80 0xC1) (nothing ∷ []) refl b (omega arith) (from-to 0x80 0xC1 g (omega arith)) refl refl
-
-  pub follow-two : 0xC2 ≤ b → b < 0xE0 → Expects (follow table b) (expects 1 0x80 0xBF)
-  unfolding all_below row-test same-ranges expecting follow table
-  follow-two g h = follows (between 0xC2 0xDF) (trail ∷ []) refl b (omega arith) (from-to 0xC2 0xDF g (omega arith)) refl refl
-
-  pub follow-e0 : b ≡ 0xE0 → Expects (follow table b) (expects 2 0xA0 0xBF)
-  unfolding expecting follow table
-  follow-e0 e = rw e (record { is = refl; all = refl })
-
-  pub follow-ed : b ≡ 0xED → Expects (follow table b) (expects 2 0x80 0x9F)
-  unfolding expecting follow table
-  follow-ed e = rw e (record { is = refl; all = refl })
-
-  pub follow-three : 0xE0 ≤ b → b < 0xF0 → (b ≡ 0xE0 → ⊥) → (b ≡ 0xED → ⊥) → Expects (follow table b) (expects 2 0x80 0xBF)
-  unfolding all_below row-test same-ranges expecting follow table
-  follow-three g h p q = follows (λ x. between 0xE0 0xEF x && not (eqb x 0xE0) && not (eqb x 0xED)) (trail ∷ trail ∷ []) refl b (omega arith) (rw (from-to 0xE0 0xEF g (omega arith), ne_eqb b 0xE0 p, ne_eqb b 0xED q)) refl refl
-
-  pub follow-f0 : b ≡ 0xF0 → Expects (follow table b) (expects 3 0x90 0xBF)
-  unfolding expecting follow table
-  follow-f0 e = rw e (record { is = refl; all = refl })
-
-  pub follow-four : 0xF0 ≤ b → (b ≡ 0xF0 → ⊥) → b < 0xF4 → Expects (follow table b) (expects 3 0x80 0xBF)
-  unfolding all_below row-test same-ranges expecting follow table
-  follow-four g p h = follows (λ x. between 0xF0 0xF3 x && not (eqb x 0xF0)) (trail ∷ trail ∷ trail ∷ []) refl b (omega arith) (rw (from-to 0xF0 0xF3 g (omega arith), ne_eqb b 0xF0 p)) refl refl
-
-  pub follow-f4 : b ≡ 0xF4 → Expects (follow table b) (expects 3 0x80 0x8F)
-  unfolding expecting follow table
-  follow-f4 e = rw e (record { is = refl; all = refl })
-
-  pub follow-high : b < 256 → 0xF4 ≤ b → (b ≡ 0xF4 → ⊥) → Expects (follow table b) (expects 1 0xBF 0x80)
-  unfolding all_below row-test same-ranges expecting follow table
-  follow-high h g p = follows (λ x. between 0xF4 0xFF x && not (eqb x 0xF4)) (nothing ∷ []) refl b h (rw (from-to 0xF4 0xFF g (omega arith), ne_eqb b 0xF4 p)) refl refl
 
 -- ---- what is expected
 test-not : (a b : ℕ) → ltb a b ≡ not (leb b a)
@@ -124,41 +76,24 @@ unfolding expecting
 expecting-trail zero = refl
 expecting-trail (suc n) = ap (λ k. expects (suc k) 0x80 0xBF) (sym (length-replicate n trail))
 
-module _ (more low high b : ℕ) where
-  pub breaks-none : more ≡ 0 → false ≡ breaks (columns more low high) b
-  unfolding breaks
-  breaks-none e = rw e
+pub trailing : (n : ℕ) {o : Expected} → o ≡ expects n 0x80 0xBF → Expects (trails n) o
+trailing n e = rw e (record { is = expecting-trail n; all = columns-trail n })
 
-  pub breaks-some : (more ≡ 0 → ⊥) → (ltb b low || ltb high b) ≡ breaks (columns more low high) b
-  unfolding breaks
-  breaks-some = go more
-    where
-      go : (m : ℕ) → (m ≡ 0 → ⊥) → (ltb b low || ltb high b) ≡ breaks (columns m low high) b
-      go zero h = absurd (h refl)
-      go (suc m) h = outside low high b
+pub breaks_is : (more low high b : ℕ) → breaks (columns more low high) b ≡ (not (eqb more 0) && (ltb b low || ltb high b))
+unfolding breaks
+breaks_is zero low high b = refl
+breaks_is (suc m) low high b = rw (eqb-suc-zero m) (sym (outside low high b))
 
-  pub expected-whole : {o : Expected} → more ≡ 0 → Expects (follow table b) o → Expects (expected_after (columns more low high) b) o
-  unfolding expected_after
-  expected-whole e f = rw e f
+pub expected_is : (more low high b : ℕ) → expected_after (columns more low high) b ≡ (when eqb more 0 || breaks (columns more low high) b then follow table b else trails (more - 1))
+unfolding expected_after breaks
+expected_is zero low high b = refl
+expected_is (suc m) low high b = let d : suc m - 1 ≡ m = omega arith in rw (eqb-suc-zero m, d) (go (within (low to high) b))
+  where
+    go : (t : Bool) → (when t then trails m else follow table b) ≡ (when not t then follow table b else trails m)
+    go true = refl
+    go false = refl
 
-  pub expected-broken : {o : Expected} → (more ≡ 0 → ⊥) → (ltb b low || ltb high b) ≡ true → Expects (follow table b) o → Expects (expected_after (columns more low high) b) o
-  unfolding expected_after
-  expected-broken {o} h y f = go more h
-    where
-      go : (m : ℕ) → (m ≡ 0 → ⊥) → Expects (expected_after (columns m low high) b) o
-      go zero h = absurd (h refl)
-      go (suc m) h = rw (not-true (between low high b) (sym (outside low high b) ∙ y)) f
-
-  pub expected-next : (more ≡ 0 → ⊥) → (ltb b low || ltb high b) ≡ false → Expects (expected_after (columns more low high) b) (expects (more - 1) 0x80 0xBF)
-  unfolding expected_after
-  expected-next h n = go more h
-    where
-      go : (m : ℕ) → (m ≡ 0 → ⊥) → Expects (expected_after (columns m low high) b) (expects (m - 1) 0x80 0xBF)
-      go zero h = absurd (h refl)
-      go (suc m) h =
-          let d : suc m - 1 ≡ m = omega arith in
-          rw (not-false (between low high b) (sym (outside low high b) ∙ n), d) (record { is = expecting-trail m; all = columns-trail m })
-
+module _ (more low high : ℕ) where
   pub whole : none (columns more low high) ≡ eqb more 0
   unfolding none
   whole = go more
@@ -190,12 +125,9 @@ unfolding well_formed
 utf8-ascii b s h = ap (λ o. well_formed o s) (sym (ascii-alone b h))
 
 -- bytes of ASCII where nothing is expected
-pub utf8-leap : {whole : Bool} (more low high : ℕ) {s : List ℕ} {i j : ℕ} → more ≡ 0 → At whole (well_formed (columns more low high)) s i → Past is_ascii s i j → At whole (well_formed (columns more low high)) s j
-utf8-leap {whole} more low high {s} {i} {j} e inv p = go more e inv
-  where
-    go : (m : ℕ) → m ≡ 0 → At whole (well_formed (columns m low high)) s i → At whole (well_formed (columns m low high)) s j
-    go zero e inv = leap-to is_ascii (λ b t q. utf8-ascii b t (ltb-true b 0x80 q)) inv p
-    go (suc m) e inv = absurd (omega (arith, e))
+pub utf8-leap : (more low high : ℕ) {s rest : List ℕ} → more ≡ 0 → Past is_ascii s rest → well_formed (columns more low high) s ≡ well_formed (columns more low high) rest
+utf8-leap zero low high e p = leap is_ascii (well_formed []) (λ b t q. utf8-ascii b t (ltb-true b 0x80 q)) p
+utf8-leap (suc m) low high e p = absurd (omega (arith, e))
 
 -- what follows a byte that begins nothing: no text is well-formed after it
 pub utf8-never : (s : List ℕ) → well_formed (follow table 0xFF) s ≡ false
@@ -207,9 +139,8 @@ utf8-never (b ∷ s) = rw (never (leb 0xBF b) refl)
     never true e = rw (e, lt-leb b 0x80 (omega (arith, leb-true 0xBF b e)))
     never false e = rw e
 
-pub utf8-end : (more low high : ℕ) → eqb more 0 ≡ well_formed (columns more low high) []
+pub utf8-end : (more low high : ℕ) (s : List ℕ) → length s ≡ 0 → eqb more 0 ≡ well_formed (columns more low high) s
 unfolding well_formed
-utf8-end zero low high = refl
-utf8-end (suc n) low high = eqb-suc-zero n
-
-pub ruleset decoding = (follow-ascii, follow-stray, follow-two, follow-e0, follow-ed, follow-three, follow-f0, follow-four, follow-f4, follow-high, breaks-none, breaks-some, expected-whole, expected-broken, expected-next, utf8-no, utf8-yes, utf8-end, scan)
+utf8-end zero low high [] e = refl
+utf8-end (suc n) low high [] e = eqb-suc-zero n
+utf8-end more low high (b ∷ s) e = absurd (omega arith)

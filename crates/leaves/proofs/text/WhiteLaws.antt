@@ -1,43 +1,26 @@
 -- The scalar values of a text, a byte at a time; and the last of them from where the last character begins.
 use mathlib.Core.Path.{◌≡◌, refl, sym, ap, ◌∙◌}
-use mathlib.Core.Bool.{Bool, true, false, ◌&&◌, ◌||◌, true≢false}
+use mathlib.Core.Bool.{Bool, true, false, not, ◌&&◌, ◌||◌, true≢false}
 use mathlib.Core.List.{List, [], ◌∷◌, ◌++◌}
 use Prim.Native.Nat.{ℕ, zero, suc, ◌+◌, ◌-◌, ◌*◌, ◌%◌, ◌<◌, ◌≤◌}
 use native.Mathlib.Omega.{arith}
 use lib.Dec.{eqb, leb, ltb, eqb-suc-zero}
 use lib.ListN.{length, take, drop, get_or, take-append-drop, length-drop}
 use lib.Seq.{take_all}
-use borrow.Author.Tests.{lt-ltb, le-ltb, ltb-true, leb-true, not-true, not-false, eq-eqb, ne_eqb}
-use Rattle.leaves.specs.Text.Bytes.{between}
+use borrow.Author.Tests.{ltb-true, leb-true}
 use Rattle.leaves.specs.Text.Lists.{when◌then◌else◌, none, first_or, last_or}
-use Rattle.leaves.specs.Text.Utf8.{Range, within, trail, table, follow}
+use Rattle.leaves.specs.Text.Utf8.{Range, ◌to◌, within, trail, table, follow}
 use Rattle.leaves.specs.Text.Scalars.{replacement, lead_bits, trail_bits, emit, decode, scalars}
 use Rattle.leaves.specs.Text.Utf8Scans.{breaks, expected_after}
-use Rattle.leaves.specs.Text.WhiteScans.{value_after, room, Valued, Begins}
+use Rattle.leaves.specs.Text.WhiteScans.{value_after, room, Begins}
 use Rattle.leaves.specs.Text.Utf8Expected.{columns}
-use Rattle.leaves.specs.Text.White.{is_white, ends_with_white}
-use Rattle.leaves.proofs.text.ScanLaws.{next}
+use Rattle.leaves.specs.Text.White.{is_white, starts_with_white, ends_with_white}
+use Rattle.leaves.proofs.text.ScanLaws.{At, next}
 use Rattle.leaves.proofs.text.TestLaws.{all_below, each, and_left, and_right}
-use Rattle.leaves.proofs.text.Utf8Laws.{whole, outside, from-to}
+use Rattle.leaves.proofs.text.Utf8Laws.{whole, from-to}
 use Rattle.leaves.proofs.text.ScanLaws.{scan}
 
 -- ---- the value of the bits
-module _ (b : ℕ) where
-  pub lead-one : b < 0x80 → b ≡ lead_bits b
-  unfolding lead_bits
-  lead-one h = rw (lt-ltb b 0x80 h)
-
-  pub lead-two : 0x80 ≤ b → b < 0xE0 → b % 0x20 ≡ lead_bits b
-  unfolding lead_bits
-  lead-two g h = rw (le-ltb b 0x80 g, lt-ltb b 0xE0 h)
-
-  pub lead-three : 0x80 ≤ b → 0xE0 ≤ b → b < 0xF0 → b % 0x10 ≡ lead_bits b
-  unfolding lead_bits
-  lead-three f g h = rw (le-ltb b 0x80 f, le-ltb b 0xE0 g, lt-ltb b 0xF0 h)
-
-  pub lead-four : 0x80 ≤ b → 0xE0 ≤ b → 0xF0 ≤ b → b % 0x08 ≡ lead_bits b
-  unfolding lead_bits
-  lead-four f g h = rw (le-ltb b 0x80 f, le-ltb b 0xE0 g, le-ltb b 0xF0 h)
 
 -- a value stays within its room
 room_falls : (m value b : ℕ) → value < room (suc m) → trail_bits value b < room m
@@ -70,46 +53,21 @@ long (suc n) low high = ap suc (length-trails n)
     length-trails : (n : ℕ) → length (lib.ListN.replicate n trail) ≡ n
     length-trails n = lib.ListN.length-replicate n trail
 
-module _ (more low high value b : ℕ) where
-  value-whole : {v : ℕ} → more ≡ 0 → v ≡ lead_bits b → v ≡ value_after (columns more low high) value b
-  unfolding value_after
-  value-whole e f = f ∙ rw e
+pub value_is : (more low high value b : ℕ) → value_after (columns more low high) value b ≡ (when eqb more 0 || breaks (columns more low high) b then lead_bits b else value * 0x40 + b % 0x40)
+unfolding value_after breaks trail_bits
+value_is zero low high value b = refl
+value_is (suc m) low high value b = rw (eqb-suc-zero m) (go (within (low to high) b))
+  where
+    go : (t : Bool) → (when t then trail_bits value b else lead_bits b) ≡ (when not t then lead_bits b else value * 0x40 + b % 0x40)
+    go true = refl
+    go false = refl
 
-  value-broken : {v : ℕ} → (more ≡ 0 → ⊥) → (ltb b low || ltb high b) ≡ true → v ≡ lead_bits b → v ≡ value_after (columns more low high) value b
-  unfolding value_after
-  value-broken {v} h y f = go more h
-    where
-      go : (m : ℕ) → (m ≡ 0 → ⊥) → v ≡ value_after (columns m low high) value b
-      go zero h = absurd (h refl)
-      go (suc m) h = f ∙ rw (not-true (between low high b) (sym (outside low high b) ∙ y))
-
-  value-next : (more ≡ 0 → ⊥) → (ltb b low || ltb high b) ≡ false → value * 0x40 + b % 0x40 ≡ value_after (columns more low high) value b
-  unfolding value_after trail_bits
-  value-next h n = go more h
-    where
-      go : (m : ℕ) → (m ≡ 0 → ⊥) → value * 0x40 + b % 0x40 ≡ value_after (columns m low high) value b
-      go zero h = absurd (h refl)
-      go (suc m) h = rw (not-false (between low high b) (sym (outside low high b) ∙ n))
-
--- what was answered of the value, where b is a byte
-module _ (more low high value b : ℕ) (h : value < room more) (k : b < 256) where
-  kept : {v : ℕ} → v ≡ value_after (columns more low high) value b → Valued (columns more low high) value b v
-  kept e =
-      let g : value < room (length (columns more low high)) = rw (long more low high) h in
-      record { is = e; small = rw e (fits_after (columns more low high) value b k g) }
-
-  pub valued-whole : {v : ℕ} → more ≡ 0 → v ≡ lead_bits b → Valued (columns more low high) value b v
-  valued-whole e f = kept (value-whole more low high value b e f)
-
-  pub valued-broken : {v : ℕ} → (more ≡ 0 → ⊥) → (ltb b low || ltb high b) ≡ true → v ≡ lead_bits b → Valued (columns more low high) value b v
-  valued-broken e y f = kept (value-broken more low high value b e y f)
-
-  pub valued-next : (more ≡ 0 → ⊥) → (ltb b low || ltb high b) ≡ false → Valued (columns more low high) value b (value * 0x40 + b % 0x40)
-  valued-next e n = kept (value-next more low high value b e n)
-
--- the columns of `more` bytes are what is expected after b
-pub room-kept : (more low high : ℕ) (o : List Range) (value b v : ℕ) → Valued o value b v → columns more low high ≡ expected_after o b → v < room more
-room-kept more low high o value b v d e = rw (← long more low high, e) d.small
+-- a value has room for the bits that are expected after b
+pub room_kept : (more low high : ℕ) (before : ℕ) (l h : ℕ) (value b : ℕ) → b < 256 → value < room before → columns more low high ≡ expected_after (columns before l h) b → value_after (columns before l h) value b < room more
+room_kept more low high before l h value b k f e =
+    let g : value < room (length (columns before l h)) = rw (long before l h) f in
+    let r : value_after (columns before l h) value b < room (length (columns more low high)) = rw e (fits_after (columns before l h) value b k g) in
+    rw (long more low high) at r
 
 -- ---- one byte more
 last-emit : (o : List Range) (v d : ℕ) (s : List ℕ) → last_or d (emit o v s) ≡ last_or (when none o then v else d) s
@@ -258,14 +216,18 @@ module _ (o : List Range) (v b : ℕ) (s : List ℕ) {r : Bool} (e : r ≡ break
   unfolding start_from
   start-broken y = rw (first_step o v b s, ← e, y) (sym no-white)
 
-  module _ (more low high : ℕ) {v' : ℕ} (n : r ≡ false) (f : columns more low high ≡ expected_after o b) (g : Valued o v b v') where
-    pub start-whole : {w : Bool} → more ≡ 0 → w ≡ is_white v' → w ≡ start_from o v (b ∷ s)
+  module _ (more low high : ℕ) {v' : ℕ} (n : r ≡ false) (f : columns more low high ≡ expected_after o b) (g : v' ≡ value_after o v b) where
+    pub start-whole : {w : Bool} → eqb more 0 ≡ true → w ≡ is_white v' → w ≡ start_from o v (b ∷ s)
     unfolding start_from
-    start-whole z h = h ∙ rw (first_step o v b s, ← e, n, ← f, whole more low high 0, eq-eqb more 0 z, ← g.is)
+    start-whole z h = h ∙ rw (first_step o v b s, ← e, n, ← f, whole more low high, z, ← g)
 
-    pub start-more : (more ≡ 0 → ⊥) → start_from o v (b ∷ s) ≡ start_from (columns more low high) v' s
+    pub start-more : eqb more 0 ≡ false → start_from o v (b ∷ s) ≡ start_from (columns more low high) v' s
     unfolding start_from
-    start-more z = rw (first_step o v b s, ← e, n, ← f, whole more low high 0, ne_eqb more 0 z, ← g.is)
+    start-more z = rw (first_step o v b s, ← e, n, ← f, whole more low high, z, ← g)
+
+pub start_init : (s : List ℕ) {o : List Range} {v : ℕ} → o ≡ [] → v ≡ 0 → At (starts_with_white s) (start_from o v) s 0
+unfolding starts_with_white scalars start_from
+start_init s e f = rw (e, f) (record { within = omega arith; same = refl })
 
 start-expected : (o : List Range) (v : ℕ) → first_or replacement (decode o v []) ≡ replacement
 unfolding first_or decode
@@ -276,29 +238,31 @@ pub start_none : (o : List Range) (v : ℕ) → false ≡ start_from o v []
 unfolding start_from
 start_none o v = rw start-expected (sym no-white)
 
-pub end-turn : (d : ℕ) (o : List Range) (v b : ℕ) (s : List ℕ) (more low high : ℕ) {r : Bool} {v' d' : ℕ} → d' ≡ (when eqb more 0 then v' else when r then replacement else d) → r ≡ breaks o b → Valued o v b v' → columns more low high ≡ expected_after o b → end_from d o v (b ∷ s) ≡ end_from d' (columns more low high) v' s
-unfolding end_from
-end-turn d o v b s more low high e f g h = rw (last_step o v d b s, e, f, ← h, whole more low high 0, ← g.is)
+pub end_init : (s : List ℕ) {o : List Range} {v : ℕ} → o ≡ [] → v ≡ 0 → At (ends_with_white s) (end_from replacement o v) s 0
+unfolding ends_with_white scalars end_from
+end_init s e f = rw (e, f) (record { within = omega arith; same = refl })
 
-pub end-done : (d more low high v : ℕ) {w : Bool} → w ≡ is_white d → (eqb more 0 && w) ≡ end_from d (columns more low high) v []
+module _ (d : ℕ) (o : List Range) (v b : ℕ) (s : List ℕ) (more low high : ℕ) {r : Bool} {v' d' : ℕ} (e : r ≡ breaks o b) (f : columns more low high ≡ expected_after o b) (g : v' ≡ value_after o v b) where
+  pub end-whole : d' ≡ v' → eqb more 0 ≡ true → end_from d o v (b ∷ s) ≡ end_from d' (columns more low high) v' s
+  unfolding end_from
+  end-whole k z = rw (last_step o v d b s, ← f, whole more low high, z, k, ← g)
+
+  pub end-broken : d' ≡ replacement → eqb more 0 ≡ false → r ≡ true → end_from d o v (b ∷ s) ≡ end_from d' (columns more low high) v' s
+  unfolding end_from
+  end-broken k z y = rw (last_step o v d b s, ← f, whole more low high, z, ← e, y, k, ← g)
+
+  pub end-kept : d' ≡ d → eqb more 0 ≡ false → r ≡ false → end_from d o v (b ∷ s) ≡ end_from d' (columns more low high) v' s
+  unfolding end_from
+  end-kept k z n = rw (last_step o v d b s, ← f, whole more low high, z, ← e, n, k, ← g)
+
+pub end-done : (d more low high v : ℕ) {w : Bool} → eqb more 0 ≡ true → w ≡ is_white d → w ≡ end_from d (columns more low high) v []
 unfolding end_from decode last_or
-end-done d zero low high v e = e
-end-done d (suc n) low high v e = rw (eqb-suc-zero n) (sym no-white)
+end-done d zero low high v z e = e
+end-done d (suc n) low high v z e = absurd (true≢false (sym z ∙ eqb-suc-zero n))
 
--- ---- back to where the last character begins
-pub begins-start : (s : List ℕ) → Begins s 0
-begins-start s = record { inside = omega arith; fresh = λ h. absurd (omega arith) }
+pub end-open : (d more low high v : ℕ) {w : Bool} → eqb more 0 ≡ false → w ≡ false → w ≡ end_from d (columns more low high) v []
+unfolding end_from decode last_or
+end-open d zero low high v z e = absurd (true≢false z)
+end-open d (suc n) low high v z e = e ∙ sym no-white
 
--- w is the byte before `at`, and r what was answered of it
-pub begins-back : (s : List ℕ) (at : ℕ) {r : Bool} {w : ℕ} → 0 < at → at ≤ length s → r ≡ false → r ≡ between 0x80 0xBF w → w ≡ get_or s (at - 1) 0 → Begins s (at - 1)
-begins-back s at h k n e f = record { inside = omega arith; fresh = λ z. (omega arith, rw (← f) (sym e ∙ n)) }
-
--- a value that still expects a byte has room for its bits
-pub room_small : (more value : ℕ) → (more ≡ 0 → ⊥) → value < room more → value < 0x8000
-room_small zero value h k = absurd (h refl)
-room_small (suc zero) value h k = k
-room_small (suc (suc zero)) value h k = omega arith
-room_small (suc (suc (suc zero))) value h k = omega arith
-room_small (suc (suc (suc (suc n)))) value h k = omega arith
-
-pub ruleset white-laws = (lead-one, lead-two, lead-three, lead-four, valued-whole, valued-broken, valued-next, room-kept, start-broken, start-whole, start-more, start_none, end-turn, end-done, begins-start, begins-back, scan)
+pub ruleset white-laws = (room_kept, start-broken, start_none, scan)

@@ -1,6 +1,6 @@
 -- Bytes that a loop passes over sixteen at a time. A reader need not believe these: the proofs of the loops equate what
 -- they say with the definitions of other files, and no promise to a caller of the library cites them.
-use Rattle.std.specs.Prelude.{◌≡◌, ℕ, zero, suc, ◌-◌, ◌≤◌, Bool, true, false, not, ◌&&◌, List, [], ◌∷◌, eqb, ltb, length, drop}
+use Rattle.std.specs.Prelude.{◌≡◌, ℕ, zero, suc, Bool, true, false, not, ◌&&◌, List, [], ◌∷◌, eqb, ltb, drop}
 
 abbrev pub chunk : ℕ
 chunk = 16
@@ -19,8 +19,12 @@ is_ascii b = ltb b 0x80
 abbrev pub is_neither : ℕ → ℕ → ℕ → Bool
 is_neither x y b = not (eqb b x) && not (eqb b y)
 
--- from `from` to `to` every byte is there and passes the test
-pub record Past (test : ℕ → Bool) (s : List ℕ) (from to : ℕ) : Type 0 where
-  pub forward : from ≤ to
-  pub within : to ≤ length s
-  pub all : passes test (to - from) (drop from s) ≡ true
+-- a byte that is not x
+abbrev pub is_other : ℕ → ℕ → Bool
+is_other x b = not (eqb b x)
+
+-- the rest is what stands behind bytes that are all there and pass the test
+pub record Past (test : ℕ → Bool) (s rest : List ℕ) : Type 0 where
+  pub count : ℕ
+  pub is : rest ≡ drop count s
+  pub all : passes test count s ≡ true

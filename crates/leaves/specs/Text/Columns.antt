@@ -1,9 +1,9 @@
 -- A line of fields, as it is written and as it is read.
 -- Document 01: "lines ended by LF".
-use Rattle.std.specs.Prelude.{ℕ, zero, suc, ◌+◌, ◌*◌, ◌≡◌, Bool, true, ◌&&◌, List, [], ◌∷◌, ◌++◌, eqb, length, get_or, take, drop}
+use Rattle.std.specs.Prelude.{ℕ, zero, suc, ◌+◌, ◌*◌, ◌≡◌, Bool, true, ◌&&◌, List, [], ◌∷◌, ◌++◌, eqb, length, get_or, take, drop, is_some, unwrap_or}
 use Rattle.leaves.specs.Text.Bytes.{lf}
 use Rattle.leaves.specs.Text.Lists.{over}
-use Rattle.leaves.specs.Text.Field.{places, field, read_field, number_of, is_number}
+use Rattle.leaves.specs.Text.Field.{places, field, read_field}
 
 -- ---- a line as it is written
 
@@ -29,13 +29,13 @@ line_bytes k = k * places + 1
 -- the first k fields are well-formed
 unfoldable pub are_fields : ℕ → List ℕ → Bool
 are_fields zero s = true
-are_fields (suc k) s = is_number (read_field (take places s)) && are_fields k (drop places s)
+are_fields (suc k) s = is_some (read_field (take places s)) && are_fields k (drop places s)
 
 -- a line of k fields and no more stands at the front: LF follows the last field
 unfoldable pub is_line : ℕ → List ℕ → Bool
 is_line k s = are_fields k s && eqb (get_or s (k * places) 0) lf
 
--- the numbers of the first k fields
+-- the numbers of the first k fields; 0 where one is malformed
 unfoldable pub numbers : ℕ → List ℕ → List ℕ
 numbers zero s = []
-numbers (suc k) s = number_of (read_field (take places s)) ∷ numbers k (drop places s)
+numbers (suc k) s = unwrap_or (read_field (take places s)) 0 ∷ numbers k (drop places s)

@@ -24,7 +24,7 @@ pub record Led (s : List ℕ) (at : ℕ) : Type 0 where
   pub last : is_blank (last_or [] (lines s)) ≡ last_blank true true (drop at s)
   pub solid : at < length s → is_blank_byte (get_or s at 0) ≡ false
 
--- the last line is blank when read from `at` on exactly where it is blank when read from i on
-pub record Ended (s : List ℕ) (at i : ℕ) : Type 0 where
-  pub within : i ≤ length s
-  pub same : last_blank true true (drop at s) ≡ last_blank true true (drop i s)
+-- `at` is the start, or the byte at it is neither blank nor a line ending
+pub record Solid (s : List ℕ) (at : ℕ) : Type 0 where
+  pub inside : at ≤ length s
+  pub firm : 0 < at → (at < length s) × ((is_blank_byte (get_or s at 0) || is_line_ending_byte (get_or s at 0)) ≡ false)

@@ -3,11 +3,9 @@
 -- Writing and reading agree (proofs/text/FieldReadLaws.antt): a written number is read back (`written_read`), bytes
 -- that are read as a number are that number written (`read-written`), and no number is written as malformed bytes
 -- (`malformed-unwritten`).
-use Rattle.std.specs.Prelude.{ℕ, zero, suc, ◌+◌, ◌-◌, ◌*◌, ◌/◌, ◌%◌, Bool, true, false, ◌&&◌, ◌||◌, List, [], ◌∷◌, ◌++◌, eqb, ltb, leb, length, get_or}
+use Rattle.std.specs.Prelude.{ℕ, zero, suc, ◌+◌, ◌-◌, ◌*◌, ◌/◌, ◌%◌, ◌&&◌, ◌||◌, List, [], ◌∷◌, ◌++◌, eqb, ltb, leb, length, get_or, Option, Some, None}
 use Rattle.leaves.specs.Text.Bytes.{space, is_digit}
 use Rattle.leaves.specs.Text.Lists.{when◌then◌else◌}
-use Rattle.leaves.specs.declared.text.field.Column.{Column}
-use Rattle.leaves.specs.declared.text.field.Column.TheVariants.{Number, Malformed}
 
 -- "in 11 places"
 abbrev pub places : ℕ
@@ -46,30 +44,21 @@ unfoldable pub past_spaces : List ℕ → List ℕ
 past_spaces [] = []
 past_spaces (b ∷ s) = when eqb b space then past_spaces s else b ∷ s
 
--- the number that has the digits of n and then these: "decimal, at most 4,294,967,295"
-unfoldable pub read_digits : ℕ → List ℕ → Column
-read_digits n [] = Number n
+-- the number that has the digits of n and then these; none where they are malformed: "decimal, at most
+-- 4,294,967,295"
+unfoldable pub read_digits : ℕ → List ℕ → Option ℕ
+read_digits n [] = Some n
 read_digits n (b ∷ s) =
     let more = n * 10 + (b - digit_zero) in
-    when is_digit b && leb more most_number then read_digits more s else Malformed
+    when is_digit b && leb more most_number then read_digits more s else None
 
 -- at least one digit, and no 0 in front of other digits: "no leading zeros"
-unfoldable pub read_number : List ℕ → Column
+unfoldable pub read_number : List ℕ → Option ℕ
 read_number s =
     when eqb (length s) 0 || (eqb (get_or s 0 0) digit_zero && ltb 1 (length s))
-    then Malformed
+    then None
     else read_digits 0 s
 
 -- "right-justified in 11 places": spaces, and then the number up to the last place
-unfoldable pub read_field : List ℕ → Column
-read_field s = when eqb (length s) places then read_number (past_spaces s) else Malformed
-
--- the number of a field; 0 where it is malformed
-abbrev pub number_of : Column → ℕ
-number_of (Number n) = n
-number_of Malformed = 0
-
--- whether a field is well-formed
-abbrev pub is_number : Column → Bool
-is_number (Number n) = true
-is_number Malformed = false
+unfoldable pub read_field : List ℕ → Option ℕ
+read_field s = when eqb (length s) places then read_number (past_spaces s) else None

@@ -7,8 +7,15 @@ abbrev pub columns : ℕ → ℕ → ℕ → List Range
 columns zero low high = []
 columns (suc more) low high = low to high ∷ replicate more trail
 
+-- so many columns of most bytes
+abbrev pub trails : ℕ → List Range
+trails more = replicate more trail
+
 abbrev pub expected_of : Expected → List Range
 expected_of o = columns o.more o.low o.high
+
+abbrev pub expects : ℕ → ℕ → ℕ → Expected
+expects more low high = record { more = more; low = low; high = high }
 
 -- The code's struct for the expected columns: how many they are, and the range of the first. Where none is expected,
 -- the range is that of most columns.

@@ -13,7 +13,3 @@ breaks (r ∷ expected) b = not (within r b)
 unfoldable pub expected_after : List Range → ℕ → List Range
 expected_after [] b = follow table b
 expected_after (r ∷ expected) b = when within r b then expected else follow table b
-
--- how many bytes the code reads one at a time before it looks for chunks of ASCII again
-abbrev pub stretch : ℕ
-stretch = 64

@@ -3,7 +3,6 @@
 use Rattle.std.specs.Prelude.{◌≡◌, ℕ, zero, suc, ◌<◌, ◌≤◌, false, List, [], ◌∷◌, length, get_or}
 use Rattle.leaves.specs.Text.Lists.{when◌then◌else◌}
 use Rattle.leaves.specs.Text.Utf8.{Range, within, trail}
-use Rattle.leaves.specs.Text.Utf8Scans.{expected_after}
 use Rattle.leaves.specs.Text.Scalars.{lead_bits, trail_bits}
 
 -- the value of a character's bits so far, with those of b
@@ -18,11 +17,6 @@ room (suc zero) = 0x8000
 room (suc (suc zero)) = 0x200
 room (suc (suc (suc zero))) = 0x8
 room (suc (suc (suc (suc n)))) = 0
-
--- v is the value after b, and stays within its room
-pub record Valued (expected : List Range) (value b v : ℕ) : Type 0 where
-  pub is : v ≡ value_after expected value b
-  pub small : v < room (length (expected_after expected b))
 
 -- `at` is the start, or the byte at it is none of 0x80 to 0xBF: it begins a sequence, or no sequence can have it
 pub record Begins (s : List ℕ) (at : ℕ) : Type 0 where

@@ -5,7 +5,6 @@ ghost use Rattle.leaves.specs.Refusal.Groups.{parent_group, child_group};
 ghost use Rattle.leaves.specs.Refusal.KindGroups.{kind_groups};
 
 use crate::sheet::kinds;
-use crate::text::bytes::pick;
 
 pub(crate) const HOLDS_BLOCKS: u32 = 0;
 
@@ -84,15 +83,16 @@ pub(crate) fn parent_group(groups: &[[u32; 2]; 54], kind: u32, a: u32) -> u32
     requires { (groups.now ≡ kind_groups) × (is_kind kind ≡ true) }
     ensures { result ≡ parent_group kind a }
 {
-    let k = kind as usize;
-    let inlines = (kind == kinds::HTML_CONTAINER) & (a != 0);
-    pick(inlines, HOLDS_TAGS_AND_INLINES, groups[k][0])
+    if kind == kinds::HTML_CONTAINER && a != 0 {
+        HOLDS_TAGS_AND_INLINES
+    } else {
+        groups[kind as usize][0]
+    }
 }
 
 pub(crate) fn child_group(groups: &[[u32; 2]; 54], kind: u32) -> u32
     requires { (groups.now ≡ kind_groups) × (is_kind kind ≡ true) }
     ensures { result ≡ child_group kind }
 {
-    let k = kind as usize;
-    groups[k][1]
+    groups[kind as usize][1]
 }

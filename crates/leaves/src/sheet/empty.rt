@@ -14,15 +14,12 @@ pub fn is_empty(t: Text) -> bool
 pub fn is_empty_text(r: Rec) -> bool
     ensures { result ≡ is_empty_text r }
 {
-    (r.kind == kinds::TEXT) & is_empty(r.first)
+    r.kind == kinds::TEXT && is_empty(r.first)
 }
 
 // The text where `counts` holds, else a text of no bytes, which is quickly read.
 pub fn only_if(counts: bool, t: Text) -> Text
     ensures { result ≡ only_if counts t }
 {
-    if counts {
-        return t;
-    }
-    Text { start: 0, len: 0 }
+    if counts { t } else { Text { start: 0, len: 0 } }
 }

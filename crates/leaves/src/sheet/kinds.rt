@@ -1,8 +1,7 @@
-// Kinds of records, as document 01 numbers them.
+// Kinds of records, as document 01 numbers them. They are numbers and no enum: the C interface gives a record's kind as
+// a number, and a sheet may hold any.
 ghost use Rattle.std.specs.Prelude.{◌≡◌};
 ghost use Rattle.leaves.specs.Sheet.Kinds.{is_block, is_inline, is_kind};
-
-use crate::text::bytes::between;
 
 pub const PARAGRAPH: u32 = 1;
 
@@ -97,18 +96,18 @@ pub const TAG: u32 = 53;
 pub fn is_block(kind: u32) -> bool
     ensures { result ≡ is_block kind }
 {
-    between(1, 17, kind)
+    matches!(kind, PARAGRAPH..=BLANK_LINE)
 }
 
 pub fn is_inline(kind: u32) -> bool
     ensures { result ≡ is_inline kind }
 {
-    between(31, 53, kind)
+    matches!(kind, TEXT..=TAG)
 }
 
 // Whether document 01 lists the kind.
 pub(crate) fn is_kind(kind: u32) -> bool
     ensures { result ≡ is_kind kind }
 {
-    is_block(kind) | between(20, 24, kind) | is_inline(kind)
+    is_block(kind) || matches!(kind, ITEM..=ATTRIBUTE) || is_inline(kind)
 }

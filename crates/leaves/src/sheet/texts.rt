@@ -22,11 +22,9 @@ pub(crate) fn text_outside(bytes: &[u8], t: Text) -> bool
 }
 
 // Most texts have no bytes, and such a text is well-formed.
+#[tactic(auto, using(crate::proofs::sheet::TextLaws::no_bytes), unfolding(crate::specs::Sheet::Texts::text_ill_formed))]
 pub(crate) fn text_ill_formed(bytes: &[u8], t: Text) -> bool
     ensures { result ≡ text_ill_formed bytes.now t }
 {
-    if t.len == 0 {
-        return false;
-    }
-    !is_utf8(text_of(bytes, t))
+    t.len != 0 && !is_utf8(text_of(bytes, t))
 }

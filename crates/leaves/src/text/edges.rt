@@ -1,7 +1,7 @@
 // Whether the first or the last line is blank.
-ghost use Rattle.std.specs.Prelude.{◌≡◌, true, ◌<◌, ◌≤◌, length, drop};
+ghost use Rattle.std.specs.Prelude.{◌≡◌, true};
 ghost use Rattle.leaves.specs.Text.Edges.{has_blank_edge_line};
-ghost use Rattle.leaves.specs.Text.EdgeScans.{last_blank, Led, Ended};
+ghost use Rattle.leaves.specs.Text.EdgeScans.{last_blank, Led, Solid};
 
 use crate::text::bytes;
 use crate::text::lines::is_cr_of_crlf;
@@ -10,53 +10,41 @@ use crate::text::lines::is_cr_of_crlf;
 fn leading_blanks(s: &[u8]) -> usize
     ensures { Led s.now result }
 {
-    let mut i: usize = 0;
-    while i < s.len() {
-        if !bytes::is_blank_byte(s[i]) {
-            return i;
-        }
-        i = i + 1;
-    }
-    i
+    s.iter()
+        .position(|b| !bytes::is_blank_byte(*b))
+        .unwrap_or(s.len())
 }
 
-// Whether the last line of what stands from `from` on is blank.
+// Whether the last line is blank.
 // `blank`: the line being read is blank so far. `last`: the last line that has a byte or an ending is blank.
-fn last_line_is_blank(s: &[u8], from: usize) -> bool
-    requires { from ≤ length s.now }
-    ensures { result ≡ last_blank true true (drop from s.now) }
+fn last_line_is_blank(s: &[u8]) -> bool
+    ensures { result ≡ last_blank true true s.now }
 {
     let mut last = true;
     let mut blank = true;
-    let mut i = from;
-    while i < s.len() {
-        let b = s[i];
-        let skips = is_cr_of_crlf(s, i);
-        let ends = bytes::is_line_ending_byte(b);
-        let held = blank & bytes::is_blank_byte(b);
-        let told = bytes::choose(ends, blank, held);
-        last = bytes::choose(skips, last, told);
-        blank = bytes::choose(skips, blank, ends | held);
-        i = i + 1;
+    for (i, &b) in s.iter().enumerate() {
+        if is_cr_of_crlf(s, i) {
+            continue;
+        }
+        if bytes::is_line_ending_byte(b) {
+            last = blank;
+            blank = true;
+        } else {
+            blank &= bytes::is_blank_byte(b);
+            last = blank;
+        }
     }
     last
 }
 
-// The place of the last byte after `at` that is neither blank nor a line ending; `at` where there is none. The last
-// line is blank exactly where it is blank when read from there on.
-fn last_solid(s: &[u8], at: usize) -> usize
-    requires { at < length s.now }
-    ensures { Ended s.now at result }
+// The place of the last byte that is neither blank nor a line ending; 0 where there is none. The last line is blank
+// exactly where it is blank when read from there on.
+fn last_solid(s: &[u8]) -> usize
+    ensures { Solid s.now result }
 {
-    let mut i = s.len() - 1;
-    while at < i {
-        let b = s[i];
-        if !(bytes::is_blank_byte(b) | bytes::is_line_ending_byte(b)) {
-            return i;
-        }
-        i = i - 1;
-    }
-    i
+    s.iter()
+        .rposition(|b| !(bytes::is_blank_byte(*b) || bytes::is_line_ending_byte(*b)))
+        .unwrap_or(0)
 }
 
 // Whether the first or the last line is blank; a text with no line counts as one blank line. The lines between are
@@ -64,12 +52,10 @@ fn last_solid(s: &[u8], at: usize) -> usize
 pub fn has_blank_edge_line(s: &[u8]) -> bool
     ensures { result ≡ has_blank_edge_line s.now }
 {
-    let at = leading_blanks(s);
-    if s.len() <= at {
-        return true;
+    let rest = &s[leading_blanks(s)..];
+    match rest {
+        [] => true,
+        [first, ..] => bytes::is_line_ending_byte(*first)
+            || last_line_is_blank(&rest[last_solid(rest)..]),
     }
-    if bytes::is_line_ending_byte(s[at]) {
-        return true;
-    }
-    last_line_is_blank(s, last_solid(s, at))
 }

@@ -9,79 +9,47 @@ use crate::text::bytes::{SPACE, is_digit};
 // How many places a field has.
 pub const PLACES: usize = 11;
 
-// The largest number of a field.
-const MOST: u64 = 4294967295;
-
-// The byte `0`.
-const ZERO: u8 = 48;
-
-// What stands in a field.
-#[derive(Clone, Copy)]
-pub(crate) enum Column {
-    Number(u32),
-    Malformed,
-}
+const ZERO: u8 = b'0';
 
 // The slice without its leading spaces.
 fn past_spaces(s: &[u8]) -> &[u8]
     ensures { result.now ≡ past_spaces s.now }
 {
-    let mut i: usize = 0;
-    while i < s.len() {
-        if s[i] != SPACE {
-            return &s[i..];
-        }
-        i = i + 1;
-    }
-    &s[i..]
+    let at = s.iter().position(|b| *b != SPACE).unwrap_or(s.len());
+    &s[at..]
 }
 
-fn wide(b: u8) -> u64
-    ensures { (result ≡ b) × (result ≤ 255) }
-{
-    b as u64
-}
-
-// The number that the bytes make as digits; malformed where one is no digit or the number is over `MOST`.
-fn read_digits(s: &[u8]) -> Column
+// The number that the bytes make as digits; none where one is no digit or the number does not fit.
+fn read_digits(s: &[u8]) -> Option<u32>
     ensures { result ≡ read_digits 0 s.now }
 {
-    let mut n: u64 = 0;
-    let mut i: usize = 0;
-    while i < s.len() {
-        let b = s[i];
+    let mut n: u32 = 0;
+    for &b in s {
         if !is_digit(b) {
-            return Column::Malformed;
+            return None;
         }
-        let more = n * 10 + wide(b - ZERO);
-        if MOST < more {
-            return Column::Malformed;
-        }
-        n = more;
-        i = i + 1;
+        n = n.checked_mul(10)?.checked_add(u32::from(b - ZERO))?;
     }
-    Column::Number(n as u32)
+    Some(n)
 }
 
-// The number of one or more digits; malformed where a 0 stands in front of other digits.
-fn read_number(s: &[u8]) -> Column
+// The number of one or more digits; none where a 0 stands in front of other digits.
+#[tactic(auto, unfolding(crate::specs::Text::Field::read_number))]
+fn read_number(s: &[u8]) -> Option<u32>
     ensures { result ≡ read_number s.now }
 {
-    if s.len() == 0 {
-        return Column::Malformed;
-    }
-    if (s[0] == ZERO) & (1 < s.len()) {
-        return Column::Malformed;
+    if s.is_empty() || (s[0] == ZERO && 1 < s.len()) {
+        return None;
     }
     read_digits(s)
 }
 
 // The number of a field that fills the slice.
-pub(crate) fn read_field(s: &[u8]) -> Column
+pub(crate) fn read_field(s: &[u8]) -> Option<u32>
     ensures { result ≡ read_field s.now }
 {
     if s.len() != PLACES {
-        return Column::Malformed;
+        return None;
     }
     read_number(past_spaces(s))
 }
@@ -90,10 +58,7 @@ pub(crate) fn read_field(s: &[u8]) -> Column
 fn last_place(n: u32) -> u8
     ensures { result ≡ last_place n }
 {
-    if n == 0 {
-        return SPACE;
-    }
-    ZERO + (n % 10) as u8
+    if n == 0 { SPACE } else { ZERO + (n % 10) as u8 }
 }
 
 // Fills the slice with what is left of a number, from the last place to the first.
@@ -101,11 +66,10 @@ fn put_front(cells: &mut [u8], n: u32)
     ensures { cells.new ≡ front (length cells.old) n }
 {
     let mut rest = n;
-    let mut i = cells.len();
-    while 0 < i {
-        i = i - 1;
+    // By index: no contract says which cell an `iter_mut().rev()` is at.
+    for i in (0..cells.len()).rev() {
         cells[i] = last_place(rest);
-        rest = rest / 10;
+        rest /= 10;
     }
 }
 

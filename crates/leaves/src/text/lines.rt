@@ -3,42 +3,28 @@ ghost use Rattle.std.specs.Prelude.{◌≡◌, ◌+◌, ◌<◌, length, get_or,
 ghost use Rattle.leaves.specs.Text.Lines.{holds_line_ending, is_blank, is_cr_of_crlf};
 
 use crate::text::bytes::{CR, LF};
+use crate::text::chunk::Neither;
 use crate::text::{bytes, chunk};
 
 pub fn holds_line_ending(s: &[u8]) -> bool
     ensures { result ≡ holds_line_ending s.now }
 {
-    let mut i = chunk::past(s, 0, LF, CR);
-    while i < s.len() {
-        if bytes::is_line_ending_byte(s[i]) {
-            return true;
-        }
-        i = i + 1;
-    }
-    false
+    chunk::past(s, &Neither { a: LF, b: CR })
+        .iter()
+        .any(|b| bytes::is_line_ending_byte(*b))
 }
 
 pub fn is_blank(s: &[u8]) -> bool
     ensures { result ≡ is_blank s.now }
 {
-    let mut i: usize = 0;
-    while i < s.len() {
-        if !bytes::is_blank_byte(s[i]) {
-            return false;
-        }
-        i = i + 1;
-    }
-    true
+    s.iter().all(|b| bytes::is_blank_byte(*b))
 }
 
 // Whether the byte at `i` is a CR with its LF after it.
+#[tactic(auto, using(crate::proofs::text::LineLaws::crlf_other, crate::proofs::text::LineLaws::crlf_short, crate::proofs::text::LineLaws::crlf_long))]
 pub(crate) fn is_cr_of_crlf(s: &[u8], i: usize) -> bool
     requires { i < length s.now }
     ensures { result ≡ is_cr_of_crlf (get_or s.now i 0) (drop (i + 1) s.now) }
 {
-    let next = i + 1;
-    if s.len() <= next {
-        return false;
-    }
-    (s[i] == CR) & (s[next] == LF)
+    s[i] == CR && i + 1 < s.len() && s[i + 1] == LF
 }

@@ -4,20 +4,21 @@ ghost use Rattle.leaves.specs.Text.Math.{holds_backtick_dollar};
 
 use crate::text::bytes::{BACKTICK, DOLLAR};
 use crate::text::chunk;
+use crate::text::chunk::Other;
 
 // Whether a `$` stands right after a backtick.
 pub fn holds_backtick_dollar(s: &[u8]) -> bool
     ensures { result ≡ holds_backtick_dollar s.now }
 {
-    let mut i = chunk::past(s, 0, BACKTICK, BACKTICK);
-    while i + 1 < s.len() {
-        let tick = s[i] == BACKTICK;
-        if tick & (s[i + 1] == DOLLAR) {
+    let plain = Other { than: BACKTICK };
+    let mut rest = chunk::past(s, &plain);
+    while let [first, second, ..] = rest {
+        if *first == BACKTICK && *second == DOLLAR {
             return true;
         }
-        i = i + 1;
-        if tick {
-            i = chunk::past(s, i, BACKTICK, BACKTICK);
+        rest = &rest[1..];
+        if *first == BACKTICK {
+            rest = chunk::past(rest, &plain);
         }
     }
     false

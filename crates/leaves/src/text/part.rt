@@ -6,11 +6,8 @@ ghost use Rattle.leaves.specs.Text.Part.{part_of};
 pub fn part(text: &[u8], start: usize, len: usize) -> &[u8]
     ensures { result.now ≡ part_of text.now start len }
 {
-    if text.len() < start {
-        return &text[0..0];
-    }
-    if text.len() - start < len {
-        return &text[0..0];
+    if text.len() < start || text.len() - start < len {
+        return &[];
     }
     &text[start..start + len]
 }

@@ -1,10 +1,11 @@
 // Well-formed UTF-8.
-ghost use Rattle.std.specs.Prelude.{◌≡◌, ◌+◌, ◌<◌, ◌≤◌, min, length, drop};
-ghost use Rattle.leaves.specs.Text.Utf8.{is_utf8, well_formed, follow, table};
-ghost use Rattle.leaves.specs.Text.Utf8Scans.{breaks, expected_after, stretch};
-ghost use Rattle.leaves.specs.Text.Utf8Expected.{expected_of, Expects};
+ghost use Rattle.std.specs.Prelude.{◌≡◌, ◌≤◌, ◌++◌, List, ℕ, eqb, length};
+ghost use Rattle.leaves.specs.Text.Utf8.{is_utf8, well_formed, follow, table, trail};
+ghost use Rattle.leaves.specs.Text.Utf8Scans.{breaks, expected_after};
+ghost use Rattle.leaves.specs.Text.Utf8Expected.{expected_of, expects, trails, Expects};
 
 use crate::text::chunk;
+use crate::text::chunk::Ascii;
 
 // How many bytes are read one at a time before chunks of ASCII are looked for again.
 const STRETCH: usize = 64;
@@ -18,167 +19,105 @@ pub(crate) struct Expected {
     pub high: u8,
 }
 
-// What is expected after the first byte of a sequence. After a byte that begins none: a range that no byte fits.
-fn follow(b: u8) -> Expected
-    ensures { Expects (follow table b) result }
-{
-    if b < 0x80 {
-        return Expected {
-            more: 0,
-            low: 0x80,
-            high: 0xBF,
-        };
+impl Expected {
+    // So many more bytes, the next of them from `low` to `high`.
+    fn new(more: u8, low: u8, high: u8) -> Expected
+        ensures { result ≡ expects more low high }
+    {
+        Expected { more, low, high }
     }
-    if b < 0xC2 {
-        return Expected {
-            more: 1,
-            low: 0xBF,
-            high: 0x80,
-        };
-    }
-    if b < 0xE0 {
-        return Expected {
-            more: 1,
-            low: 0x80,
-            high: 0xBF,
-        };
-    }
-    if b < 0xF0 {
-        return follow_of_three(b);
-    }
-    follow_of_four(b)
-}
 
-fn follow_of_three(b: u8) -> Expected
-    requires { (0xE0 ≤ b) × (b < 0xF0) }
-    ensures { Expects (follow table b) result }
-{
-    if b == 0xE0 {
-        return Expected {
-            more: 2,
-            low: 0xA0,
-            high: 0xBF,
-        };
+    // So many more bytes, each of them from 0x80 to 0xBF.
+    pub(crate) fn trails(more: u8) -> Expected
+        ensures { Expects (trails more) result }
+    {
+        Expected::new(more, 0x80, 0xBF)
     }
-    if b == 0xED {
-        return Expected {
-            more: 2,
-            low: 0x80,
-            high: 0x9F,
-        };
-    }
-    Expected {
-        more: 2,
-        low: 0x80,
-        high: 0xBF,
-    }
-}
 
-fn follow_of_four(b: u8) -> Expected
-    requires { 0xF0 ≤ b }
-    ensures { Expects (follow table b) result }
-{
-    if b == 0xF0 {
-        return Expected {
-            more: 3,
-            low: 0x90,
-            high: 0xBF,
-        };
-    }
-    if b < 0xF4 {
-        return Expected {
-            more: 3,
-            low: 0x80,
-            high: 0xBF,
-        };
-    }
-    if b == 0xF4 {
-        return Expected {
-            more: 3,
-            low: 0x80,
-            high: 0x8F,
-        };
-    }
-    Expected {
-        more: 1,
-        low: 0xBF,
-        high: 0x80,
-    }
-}
-
-// Whether a byte is expected and `b` does not fit.
-pub(crate) fn breaks(expected: Expected, b: u8) -> bool
-    ensures { result ≡ breaks (expected_of expected) b }
-{
-    if expected.more == 0 {
-        return false;
-    }
-    (b < expected.low) | (expected.high < b)
-}
-
-// What is expected after `b`.
-pub(crate) fn expected_after(expected: Expected, b: u8) -> Expected
-    ensures { Expects (expected_after (expected_of expected) b) result }
-{
-    if expected.more == 0 {
-        return follow(b);
-    }
-    if (b < expected.low) | (expected.high < b) {
-        return follow(b);
-    }
-    Expected {
-        more: expected.more - 1,
-        low: 0x80,
-        high: 0xBF,
-    }
-}
-
-// What is expected at `end`, where `expected` is expected at `from`. Where a byte between them does not fit, the answer
-// is a range that no byte fits; which one is left open. What holds of the answer is that the bytes from `end` on are
-// well-formed after it exactly where the bytes from `from` on are well-formed after `expected`.
-fn expected_at(s: &[u8], from: usize, end: usize, expected: Expected) -> Expected
-    requires { (from ≤ end) × (end ≤ length s.now) }
-    ensures { well_formed (expected_of result) (drop end s.now)
-        ≡ well_formed (expected_of expected) (drop from s.now) }
-{
-    let mut o = expected;
-    let mut i = from;
-    while i < end {
-        let b = s[i];
-        if breaks(o, b) {
-            return follow(0xFF);
+    // What is expected after the first byte of a sequence. After a byte that begins none: a range that no byte fits.
+    #[tactic(auto, unfolding(crate::specs::Text::Utf8Expected::expecting, crate::specs::Text::Utf8::follow, crate::specs::Text::Utf8::table))]
+    fn follow(b: u8) -> Expected
+        ensures { Expects (follow table b) result }
+    {
+        // Most bytes are below 0xE0: one `match` of all rows asks for them last, and is slower by a third.
+        if b < 0x80 {
+            return Expected::trails(0);
         }
-        o = expected_after(o, b);
-        i = i + 1;
+        if b < 0xC2 {
+            return Expected::new(1, 0xBF, 0x80);
+        }
+        if b < 0xE0 {
+            return Expected::trails(1);
+        }
+        match b {
+            0xE0 => Expected::new(2, 0xA0, 0xBF),
+            0xED => Expected::new(2, 0x80, 0x9F),
+            0xE1..=0xEF => Expected::trails(2),
+            0xF0 => Expected::new(3, 0x90, 0xBF),
+            0xF1..=0xF3 => Expected::trails(3),
+            0xF4 => Expected::new(3, 0x80, 0x8F),
+            _ => Expected::new(1, 0xBF, 0x80),
+        }
     }
-    o
-}
 
-// The end of a stretch of at most `STRETCH` bytes from `i` on.
-fn stretch_end(len: usize, i: usize) -> usize
-    requires { i ≤ len }
-    ensures { result ≡ min len (i + stretch) }
-{
-    if len - i < STRETCH {
-        return len;
+    // Whether no more bytes are expected.
+    pub(crate) fn is_whole(self) -> bool
+        ensures { result ≡ eqb self.more 0 }
+    {
+        self.more == 0
     }
-    i + STRETCH
-}
 
-// Passes over chunks of ASCII where no more bytes are expected. How far it goes is left open: only speed depends on it.
-// What holds of the answer is that it lies between `i` and the end, and that the bytes from it on are well-formed after
-// `expected` exactly where the bytes from `i` on are.
-fn past_ascii(s: &[u8], i: usize, expected: Expected) -> usize
-    requires { i ≤ length s.now }
-    ensures { (i ≤ result)
-        × (result ≤ length s.now)
-        × (well_formed (expected_of expected) (drop i s.now)
-        ≡ well_formed (expected_of expected) (drop result s.now)) }
-{
-    if expected.more == 0 {
-        return chunk::past_ascii(s, i);
+    // Whether a byte is expected and `b` does not fit.
+    #[tactic(auto, using(crate::proofs::text::Utf8Laws::breaks_is))]
+    pub(crate) fn breaks(self, b: u8) -> bool
+        ensures { result ≡ breaks (expected_of self) b }
+    {
+        self.more != 0 && ((b < self.low) | (self.high < b))
     }
-    i
+
+    // What is expected after `b`.
+    #[tactic(auto, using(crate::proofs::text::Utf8Laws::expected_is))]
+    pub(crate) fn after(self, b: u8) -> Expected
+        ensures { Expects (expected_after (expected_of self) b) result }
+    {
+        if self.more == 0 || self.breaks(b) {
+            Expected::follow(b)
+        } else {
+            Expected::trails(self.more - 1)
+        }
+    }
+
+    // What is expected after all these bytes. Where one of them does not fit, the answer is a range that no byte fits;
+    // which one is left open. What holds of the answer is that any bytes behind these are well-formed after it exactly
+    // where these and they are well-formed after `self`.
+    fn after_all(self, bytes: &[u8]) -> Expected
+        ensures { (behind : List ℕ)
+            → well_formed (expected_of result) behind
+            ≡ well_formed (expected_of self) (bytes.now ++ behind) }
+    {
+        let mut expected = self;
+        for &b in bytes {
+            if expected.breaks(b) {
+                return Expected::follow(0xFF);
+            }
+            expected = expected.after(b);
+        }
+        expected
+    }
+
+    // What is left of the bytes behind chunks of ASCII, where no more bytes are expected. How much is passed over is
+    // left open: only speed depends on it. What is left is well-formed after `self` exactly where the bytes are.
+    fn past_ascii(self, bytes: &[u8]) -> &[u8]
+        ensures { (length result.now ≤ length bytes.now)
+            × (well_formed (expected_of self) result.now
+            ≡ well_formed (expected_of self) bytes.now) }
+    {
+        if self.more == 0 {
+            chunk::past(bytes, &Ascii)
+        } else {
+            bytes
+        }
+    }
 }
 
 // Passes over chunks of ASCII, then reads a stretch a byte at a time: among other characters a chunk is seldom all
@@ -186,17 +125,13 @@ fn past_ascii(s: &[u8], i: usize, expected: Expected) -> usize
 pub fn is_utf8(s: &[u8]) -> bool
     ensures { result ≡ is_utf8 s.now }
 {
-    let mut expected = Expected {
-        more: 0,
-        low: 0x80,
-        high: 0xBF,
-    };
-    let mut i: usize = 0;
-    while i < s.len() {
-        let from = past_ascii(s, i, expected);
-        let end = stretch_end(s.len(), from);
-        expected = expected_at(s, from, end, expected);
-        i = end;
+    let mut expected = Expected::trails(0);
+    let mut rest = s;
+    while !rest.is_empty() {
+        rest = expected.past_ascii(rest);
+        let (stretch, behind) = rest.split_at(rest.len().min(STRETCH));
+        expected = expected.after_all(stretch);
+        rest = behind;
     }
-    expected.more == 0
+    expected.is_whole()
 }

@@ -1,86 +1,111 @@
 // White space at the ends of a text.
-ghost use Rattle.std.specs.Prelude.{◌≡◌, ◌<◌};
-ghost use Rattle.leaves.specs.Text.Lists.{when◌then◌else◌};
-ghost use Rattle.leaves.specs.Text.Utf8Expected.{expected_of};
-ghost use Rattle.leaves.specs.Text.Scalars.{lead_bits, replacement};
-ghost use Rattle.leaves.specs.Text.WhiteScans.{Valued, room, Begins};
+ghost use Rattle.std.specs.Prelude.{◌≡◌, ◌<◌, [], eqb};
+ghost use Rattle.leaves.specs.Text.Utf8Expected.{expected_of, Expects};
+ghost use Rattle.leaves.specs.Text.Utf8Scans.{expected_after};
+ghost use Rattle.leaves.specs.Text.Scalars.{lead_bits};
+ghost use Rattle.leaves.specs.Text.WhiteScans.{value_after, room, Begins};
 ghost use Rattle.leaves.specs.Text.White.{is_white, starts_with_white, ends_with_white};
 
-use crate::text::bytes::between;
-use crate::text::utf8;
 use crate::text::utf8::Expected;
 
 const REPLACEMENT: u32 = 0xFFFD;
 
+#[tactic(auto, unfolding(crate::specs::Text::White::is_white))]
 fn is_white(c: u32) -> bool
     ensures { result ≡ is_white c }
 {
-    between(0x0009, 0x000D, c)
-        | (c == 0x0020)
-        | (c == 0x0085)
-        | (c == 0x00A0)
-        | (c == 0x1680)
-        | between(0x2000, 0x200A, c)
-        | (c == 0x2028)
-        | (c == 0x2029)
-        | (c == 0x202F)
-        | (c == 0x205F)
-        | (c == 0x3000)
+    matches!(
+        c,
+        0x0009..=0x000D
+            | 0x0020
+            | 0x0085
+            | 0x00A0
+            | 0x1680
+            | 0x2000..=0x200A
+            | 0x2028
+            | 0x2029
+            | 0x202F
+            | 0x205F
+            | 0x3000
+    )
 }
 
 // The bits of a first byte that belong to the scalar value.
+#[tactic(auto, unfolding(crate::specs::Text::Scalars::lead_bits))]
 fn lead_bits(b: u8) -> u32
     ensures { result ≡ lead_bits b }
 {
-    let wide = b as u32;
-    if wide < 0x80 {
-        return wide;
-    }
-    if wide < 0xE0 {
-        return wide % 0x20;
-    }
-    if wide < 0xF0 {
-        return wide % 0x10;
-    }
-    wide % 0x08
+    let bits = match b {
+        0x00..=0x7F => b,
+        0x80..=0xDF => b % 0x20,
+        0xE0..=0xEF => b % 0x10,
+        0xF0..=0xFF => b % 0x08,
+    };
+    u32::from(bits)
 }
 
-// The value of a character's bits so far, with those of `b`.
-fn value_after(expected: Expected, value: u32, b: u8) -> u32
-    requires { value < room expected.more }
-    ensures { Valued (expected_of expected) value b result }
-{
-    if expected.more == 0 {
-        return lead_bits(b);
+// A character that is being read: what its sequence still expects, and the value of its bits so far.
+#[derive(Clone, Copy)]
+struct Character {
+    expected: Expected,
+    value: u32,
+    ghost small: { value < room expected.more },
+}
+
+impl Character {
+    // No byte is read yet.
+    fn new() -> Character
+        ensures expected { Expects [] result.expected }
+        ensures value { result.value ≡ 0 }
+    {
+        Character {
+            expected: Expected::trails(0),
+            value: 0,
+        }
     }
-    if (b < expected.low) | (expected.high < b) {
-        return lead_bits(b);
+
+    // Whether all bytes of the character are read.
+    fn is_whole(self) -> bool
+        ensures { result ≡ eqb self.expected.more 0 }
+    {
+        self.expected.is_whole()
     }
-    let bits = b as u32;
-    value * 0x40 + bits % 0x40
+
+    // The value with the bits of `b`.
+    #[tactic(auto, using(crate::proofs::text::WhiteLaws::value_is))]
+    fn value_after(self, b: u8) -> u32
+        ensures { result ≡ value_after (expected_of self.expected) self.value b }
+    {
+        if self.expected.more == 0 || self.expected.breaks(b) {
+            lead_bits(b)
+        } else {
+            self.value * 0x40 + u32::from(b) % 0x40
+        }
+    }
+
+    fn after(self, b: u8) -> Character
+        ensures expected { Expects (expected_after (expected_of self.expected) b) result.expected }
+        ensures value { result.value ≡ value_after (expected_of self.expected) self.value b }
+    {
+        Character {
+            expected: self.expected.after(b),
+            value: self.value_after(b),
+        }
+    }
 }
 
 pub fn starts_with_white(s: &[u8]) -> bool
     ensures { result ≡ starts_with_white s.now }
 {
-    let mut expected = Expected {
-        more: 0,
-        low: 0x80,
-        high: 0xBF,
-    };
-    let mut value: u32 = 0;
-    let mut i: usize = 0;
-    while i < s.len() {
-        let b = s[i];
-        if utf8::breaks(expected, b) {
+    let mut character = Character::new();
+    for &b in s {
+        if character.expected.breaks(b) {
             return false;
         }
-        value = value_after(expected, value, b);
-        expected = utf8::expected_after(expected, b);
-        if expected.more == 0 {
-            return is_white(value);
+        character = character.after(b);
+        if character.is_whole() {
+            return is_white(character.value);
         }
-        i = i + 1;
     }
     false
 }
@@ -89,62 +114,32 @@ pub fn starts_with_white(s: &[u8]) -> bool
 fn last_start(s: &[u8]) -> usize
     ensures { Begins s.now result }
 {
-    let mut at: usize = s.len();
-    while 0 < at {
-        at = at - 1;
-        if !between(0x80, 0xBF, wide(s[at])) {
-            return at;
-        }
-    }
-    0
+    s.iter()
+        .rposition(|b| !matches!(*b, 0x80..=0xBF))
+        .unwrap_or(0)
 }
 
-fn wide(b: u8) -> u32
-    ensures { result ≡ b }
-{
-    b as u32
-}
-
-// The last scalar value so far: `value` where a sequence is now whole, U+FFFD where one was broken, else `last`.
-fn last_after(whole: bool, broken: bool, value: u32, last: u32) -> u32
-    ensures { result ≡ (when whole then value else when broken then replacement else last) }
-{
-    if whole {
-        return value;
-    }
-    if broken {
-        return REPLACEMENT;
-    }
-    last
-}
-
-// The same as `ends_with_white`, but reads every byte.
+// The same as `ends_with_white`, but reads every byte. `last`: the last scalar value so far.
 fn last_is_white(s: &[u8]) -> bool
     ensures { result ≡ ends_with_white s.now }
 {
-    let mut expected = Expected {
-        more: 0,
-        low: 0x80,
-        high: 0xBF,
-    };
-    let mut value: u32 = 0;
-    let mut last: u32 = REPLACEMENT;
-    let mut i: usize = 0;
-    while i < s.len() {
-        let b = s[i];
-        let broken = utf8::breaks(expected, b);
-        value = value_after(expected, value, b);
-        expected = utf8::expected_after(expected, b);
-        last = last_after(expected.more == 0, broken, value, last);
-        i = i + 1;
+    let mut character = Character::new();
+    let mut last = REPLACEMENT;
+    for &b in s {
+        let broken = character.expected.breaks(b);
+        character = character.after(b);
+        if character.is_whole() {
+            last = character.value;
+        } else if broken {
+            last = REPLACEMENT;
+        }
     }
-    (expected.more == 0) & is_white(last)
+    character.is_whole() && is_white(last)
 }
 
 // Reads the bytes of the last character only.
 pub fn ends_with_white(s: &[u8]) -> bool
     ensures { result ≡ ends_with_white s.now }
 {
-    let at = last_start(s);
-    last_is_white(&s[at..])
+    last_is_white(&s[last_start(s)..])
 }

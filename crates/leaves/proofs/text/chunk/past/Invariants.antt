@@ -1,11 +1,10 @@
 -- `leaves::text::chunk::past` meets its contract.
-use Prim.Native.Nat.{◌-◌}
 use lib.ListN.{length}
-use Rattle.leaves.specs.Text.Chunk.{Past, is_neither}
+use Rattle.leaves.specs.Text.Chunk.{Past}
 use Rattle.leaves.proofs.text.chunk.past.Given as goal
 
-abbrev pub invariant-loop-i : goal.invariant-loop-i
-invariant-loop-i l = Past (is_neither l.a l.b) l.s l.«from» l.i
+abbrev pub invariant-loop-rest : goal.invariant-loop-rest
+invariant-loop-rest g l = Past (g.T.ByteTest.passing l.test) l.s l.rest
 
-abbrev pub decreases-loop-i : goal.decreases-loop-i
-decreases-loop-i l = length l.s - l.i
+abbrev pub decreases-loop-rest : goal.decreases-loop-rest
+decreases-loop-rest g l = length l.rest

@@ -1,9 +1,14 @@
 -- `leaves::text::columns::read_line` meets its contract.
-use Rattle.leaves.proofs.text.ColumnLaws.{line-next, lining}
+use Prim.Native.Nat.{◌≤◌}
+use lib.ListN.{length}
+use native.Mathlib.Omega.{arith}
+use Rattle.leaves.proofs.text.ColumnLaws.{line-next, line-good, line-words}
 use Rattle.leaves.proofs.text.columns.read_line.Goals as goal
 
 pub loop-k-preserved : goal.loop-k-preserved
-loop-k-preserved c = line-next c.loop-k.invariant c.loop-k-test.true c.part.ensures c.read_field-column.ensures c.number_of.ensures c.is_number-good.ensures
+loop-k-preserved c = line-next c.loop-k.invariant (omega (arith, c.loop-k.invariant.long)) c.part.ensures c.read_field-field.ensures c.unwrap_or.ensures c.is_some-good.ensures
 
 pub returns : goal.returns
-returns c = search lining
+returns c =
+    let done : length c.loop-k.words ≤ c.loop-k.k = omega (arith, c.loop-k.invariant.long) in
+    (line-good c.loop-k.invariant done c.ends_at.ensures, line-words c.loop-k.invariant done)

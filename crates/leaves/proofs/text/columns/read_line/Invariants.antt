@@ -1,11 +1,6 @@
 -- `leaves::text::columns::read_line` meets its contract.
-use Prim.Native.Nat.{◌-◌}
-use lib.ListN.{length}
 use Rattle.leaves.proofs.text.ColumnLaws.{Reading}
 use Rattle.leaves.proofs.text.columns.read_line.Given as goal
 
 abbrev pub invariant-loop-k : goal.invariant-loop-k
-invariant-loop-k l = Reading l.s l.initial.words l.words l.good l.at l.k
-
-abbrev pub decreases-loop-k : goal.decreases-loop-k
-decreases-loop-k l = length l.initial.words - l.k
+invariant-loop-k l = Reading l.s l.initial.words l.words l.good l.k

@@ -1,13 +1,8 @@
 -- `leaves::text::edges::last_line_is_blank` meets its contract.
-use Prim.Native.Nat.{◌-◌}
 use Rattle.leaves.proofs.text.ScanLaws.{At}
 use Rattle.leaves.specs.Text.EdgeScans.{last_blank}
-use lib.ListN.{drop, length}
 use mathlib.Core.Bool.{true}
 use Rattle.leaves.proofs.text.edges.last_line_is_blank.Given as goal
 
 abbrev pub invariant-loop-i : goal.invariant-loop-i
-invariant-loop-i l = At (last_blank true true (drop l.«from» l.s)) (last_blank l.last l.blank) l.s l.i
-
-abbrev pub decreases-loop-i : goal.decreases-loop-i
-decreases-loop-i l = length l.s - l.i
+invariant-loop-i l = At (last_blank true true l.s) (last_blank l.last l.blank) l.s l.i

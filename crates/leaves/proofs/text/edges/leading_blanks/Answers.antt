@@ -1,15 +1,11 @@
 -- `leaves::text::edges::leading_blanks` meets its contract.
-use Rattle.leaves.proofs.text.LineLaws.{line-laws}
+use mathlib.Core.Bool.{not}
+use borrow.Author.Rules.{rules}
+use borrow.Author.Tests.{tests}
+use Rattle.leaves.specs.Text.Bytes.{is_blank_byte}
+use Rattle.leaves.proofs.text.ChainLaws.{first-of}
+use Rattle.leaves.proofs.text.LineLaws.{led}
 use Rattle.leaves.proofs.text.edges.leading_blanks.Goals as goal
 
-pub loop-i-init : goal.loop-i-init
-loop-i-init c = search line-laws
-
-pub returns-then-not-is_blank_byte : goal.returns-then-not-is_blank_byte
-returns-then-not-is_blank_byte c = search line-laws
-
-pub loop-i-preserved : goal.loop-i-preserved
-loop-i-preserved c = search line-laws
-
 pub returns : goal.returns
-returns c = search line-laws
+returns c = led c.args.s.now (first-of (λ b. not (is_blank_byte b)) c.args.s.now c.position.ensures.ran (cc) (λ x b q k. search (rules, tests)) c.unwrap_or.ensures)

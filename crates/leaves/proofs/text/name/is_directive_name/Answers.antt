@@ -1,20 +1,14 @@
 -- `leaves::text::name::is_directive_name` meets its contract.
-use Rattle.leaves.proofs.text.NameLaws.{directive, naming}
-use Rattle.leaves.specs.Text.NameScans.{name_from}
-use native.Mathlib.Omega.{arith}
+use mathlib.Core.Path.{◌∙◌}
+use borrow.Author.Rules.{rules}
+use borrow.Author.Tests.{tests}
+use lib.Dec.{eqb}
+use Rattle.std.proofs.lemmas.Iterator.Search.{all_from_yields_List}
+use Rattle.std.proofs.lemmas.Iterator.Splits.{YieldsList-from_slice_split}
+use Rattle.leaves.proofs.text.NameLaws.{directive}
+use Rattle.leaves.specs.Text.Bytes.{hyphen}
+use Rattle.leaves.specs.Text.Name.{is_run}
 use Rattle.leaves.proofs.text.name.is_directive_name.Goals as goal
 
-pub loop-i-init : goal.loop-i-init
-loop-i-init c = record { within = omega arith; same = directive _ }
-
-pub returns-then-not-choose : goal.returns-then-not-choose
-unfolding name_from
-returns-then-not-choose c = search naming
-
-pub loop-i-preserved : goal.loop-i-preserved
-unfolding name_from
-loop-i-preserved c = search naming
-
 pub returns : goal.returns
-unfolding name_from
-returns c = search naming
+returns c = all_from_yields_List is_run _ _ _ c.all.ensures.ran (YieldsList-from_slice_split _ (λ b. eqb b hyphen) c.args.s.now c.split.ensures.rest c.split.ensures.done c.split.ensures.closure (λ x b q k. search (rules, tests))) (λ x b q k. search (rules, tests)) ∙ directive c.args.s.now

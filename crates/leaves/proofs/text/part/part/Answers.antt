@@ -2,12 +2,14 @@
 use Rattle.leaves.proofs.text.PartLaws.{part-inside, part-outside}
 use native.Mathlib.Omega.{arith}
 use Rattle.leaves.proofs.text.part.part.Goals as goal
+use Rattle.leaves.proofs.text.part.part.Goals.{then-text-start-via-then-text-start, then-text-start-via-else-text-start+then-text-start-2}
 
 pub returns-then-text-start : goal.returns-then-text-start
-returns-then-text-start c = part-outside _ _ _ (omega arith)
-
-pub returns-then-text-start-2 : goal.returns-then-text-start-2
-returns-then-text-start-2 c = part-outside _ _ _ (omega arith)
+returns-then-text-start c =
+    elim c.then-text-start.branch [
+      | then-text-start-via-then-text-start w ↦ part-outside _ _ _ (omega arith)
+      | then-text-start-via-else-text-start+then-text-start-2 w ↦ part-outside _ _ _ (omega arith)
+    ]
 
 pub returns : goal.returns
 returns c = part-inside _ _ _ (omega arith)

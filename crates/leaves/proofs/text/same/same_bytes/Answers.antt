@@ -1,15 +1,7 @@
 -- `leaves::text::same::same_bytes` meets its contract.
-use Rattle.leaves.proofs.text.PairLaws.{pairs}
+use mathlib.Core.Path.{◌∙◌}
+use Rattle.leaves.proofs.text.PairLaws.{pointwise-same}
 use Rattle.leaves.proofs.text.same.same_bytes.Goals as goal
 
-pub returns-then-a-b : goal.returns-then-a-b
-returns-then-a-b c = search pairs
-
-pub returns-then-a-i : goal.returns-then-a-i
-returns-then-a-i c = search pairs
-
-pub loop-i-preserved : goal.loop-i-preserved
-loop-i-preserved c = search pairs
-
 pub returns : goal.returns
-returns c = search pairs
+returns c = c.eq.ensures ∙ pointwise-same c.args.a.now c.args.b.now

@@ -1,21 +1,20 @@
 -- `leaves::text::white::starts_with_white` meets its contract.
-use Rattle.leaves.proofs.text.WhiteLaws.{start_from, white-laws}
-use Rattle.leaves.specs.Text.Scalars.{scalars}
-use Rattle.leaves.specs.Text.White.{starts_with_white}
+use mathlib.Core.Path.{◌∙◌, sym}
+use Rattle.leaves.proofs.text.ScanLaws.{stop, turn}
+use Rattle.leaves.proofs.text.WhiteLaws.{start_init, start-whole, start-more, white-laws}
 use Rattle.leaves.proofs.text.white.starts_with_white.Goals as goal
 
-pub loop-i-init : goal.loop-i-init
-unfolding starts_with_white start_from scalars
-loop-i-init c = search white-laws
+pub loop-b-init : goal.loop-b-init
+loop-b-init c = start_init c.args.s.now c.new-character.ensures.expected.all c.new-character.ensures.value
 
 pub returns-then-breaks : goal.returns-then-breaks
 returns-then-breaks c = search white-laws
 
-pub returns-then-expected-eq0 : goal.returns-then-expected-eq0
-returns-then-expected-eq0 c = search white-laws
+pub returns-then-is_whole : goal.returns-then-is_whole
+returns-then-is_whole c = stop c.loop-b-test.true c.loop-b.invariant (start-whole _ _ _ _ c.breaks.ensures c.after-character.result.expected.more c.after-character.result.expected.low c.after-character.result.expected.high c.if-breaks.false c.after-character.ensures.expected.all c.after-character.ensures.value (sym c.is_whole.ensures ∙ c.if-is_whole.true) c.is_white.ensures)
 
-pub loop-i-preserved : goal.loop-i-preserved
-loop-i-preserved c = search white-laws
+pub loop-b-preserved : goal.loop-b-preserved
+loop-b-preserved c = turn c.loop-b-test.true c.loop-b.invariant (start-more _ _ _ _ c.breaks.ensures c.after-character.result.expected.more c.after-character.result.expected.low c.after-character.result.expected.high c.if-breaks.false c.after-character.ensures.expected.all c.after-character.ensures.value (sym c.is_whole.ensures ∙ c.if-is_whole.false))
 
 pub returns : goal.returns
 returns c = search white-laws

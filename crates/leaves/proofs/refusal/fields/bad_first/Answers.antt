@@ -1,9 +1,0 @@
--- `leaves::refusal::fields::bad_first` meets its contract.
-use Rattle.leaves.proofs.refusal.ZeroFieldLaws.{text-absent, text-there}
-use Rattle.leaves.proofs.refusal.fields.bad_first.Goals as goal
-
-pub returns-then-is_absent : goal.returns-then-is_absent
-returns-then-is_absent c = text-absent _ _ c.is_absent.ensures c.if-is_absent.true
-
-pub returns : goal.returns
-returns c = text-there _ _ c.is_absent.ensures c.if-is_absent.false c.has_first.ensures
