@@ -2,10 +2,11 @@
 // of the report, marks that are written, marks) and two answers (the check's, the setting machine's). Behind the head
 // stand the sheet, the text, the list and the marks that are written.
 ghost use Rattle.std.specs.Prelude.{◌≡◌, ◌≤◌};
-ghost use Rattle.replay.specs.Checks.{fits_of, check_replayed, set_replayed, checks_replayed};
+ghost use Rattle.replay.specs.Checks.{fits_of, checks_replayed};
 
+use crate::front::{BEFORE, Call, Function};
 use crate::tally::Tally;
-use crate::{bytes, front, words};
+use crate::{bytes, words};
 use leaves::text::part::part;
 
 // How many bytes the head has.
@@ -19,9 +20,6 @@ const REPORT: usize = 512;
 
 // The most marks.
 const MARKS: usize = 72;
-
-// Every word of the report and every mark before the calls.
-const BEFORE: u32 = 0xA5A5_A5A5;
 
 // How many bytes stand behind the head.
 pub fn behind(r: &[u8]) -> usize
@@ -44,32 +42,6 @@ fn fits(r: &[u8]) -> bool
         & (marks <= MARKS)
 }
 
-// Compares the check's answer, and each word of the report. Every word behind the list must be as it was, and so must
-// every word past the report's end.
-fn replay_check(r: &[u8], sheet: &[u32], text: &[u8], list: &[u8], tally: Tally) -> Tally
-    ensures { result ≡ check_replayed r.now sheet.now text.now
-        list.now tally }
-{
-    let mut report = [BEFORE; REPORT];
-    let found = front::answer(front::CHECK, sheet, text, &mut report, bytes::pair(r, 6));
-    tally
-        .compare(fits(r) & (found == bytes::long_number(r, 12) as u64))
-        .compare(words::same(&report, list, BEFORE))
-}
-
-// Compares the machine's answer, and each mark. The marks of records that it does not open must be as they were, and so
-// must every word past the marks.
-fn replay_set(r: &[u8], sheet: &[u32], text: &[u8], written: &[u8], tally: Tally) -> Tally
-    ensures { result ≡ set_replayed r.now sheet.now text.now
-        written.now tally }
-{
-    let mut marks = [BEFORE; MARKS];
-    let found = front::answer(front::SET, sheet, text, &mut marks, bytes::pair(r, 10));
-    tally
-        .compare(fits(r) & (found == bytes::long_number(r, 20) as u64))
-        .compare(words::same(&marks, written, BEFORE))
-}
-
 // Replays both calls with the same sheet and text.
 pub fn replay_record(r: &[u8], tally: Tally) -> Tally
     ensures { result ≡ checks_replayed r.now tally }
@@ -82,7 +54,22 @@ pub fn replay_record(r: &[u8], tally: Tally) -> Tally
     let text = part(r, HEAD + n * 4, bytes);
     let list = part(r, HEAD + n * 4 + bytes, listed);
     let written = part(r, HEAD + n * 4 + bytes + listed, bytes::pair(r, 8) * 4);
-    let sheet = words::first(&sheet, n);
-    let checked = replay_check(r, sheet, text, list, tally.record());
-    replay_set(r, sheet, text, written, checked)
+    let check = Call {
+        function: Some(Function::Check),
+        sheet: words::first(&sheet, n),
+        text,
+        lent: bytes::pair(r, 6),
+    };
+    let set = Call {
+        function: Some(Function::Set),
+        lent: bytes::pair(r, 10),
+        ..check
+    };
+    let mut report = [BEFORE; REPORT];
+    let mut marks = [BEFORE; MARKS];
+    let fits = fits(r);
+    let checked = bytes::long_number(r, 12) as u64;
+    let tally = check.compare(&mut report, fits, checked, list, tally.record());
+    let machine = bytes::long_number(r, 20) as u64;
+    set.compare(&mut marks, fits, machine, written, tally)
 }

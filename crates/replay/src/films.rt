@@ -1,5 +1,6 @@
 // A stored film: how many bytes it has and how many are printed for it (4 bytes each), the film, and what is printed.
-ghost use Rattle.std.specs.Prelude.{◌≡◌, ◌<◌, ◌^◌, get_or};
+ghost use Rattle.std.specs.Prelude.{◌≡◌, ◌==◌, ◌<◌, ◌^◌};
+ghost use Rattle.std.specs.List.{list_all};
 ghost use Rattle.replay.specs.Films.{before, untouched, same_printed, film_replayed};
 
 use crate::bytes;
@@ -34,28 +35,19 @@ fn output() -> [u8; OUTPUT_BYTES]
     [BEFORE; OUTPUT_BYTES]
 }
 
-fn wanted_byte(wanted: &[u8], at: usize) -> u8
-    ensures { result ≡ get_or wanted.now at before }
+// Whether each byte is BEFORE.
+fn is_untouched(bytes: &[u8]) -> bool
+    ensures { result ≡ list_all (λ x. x == before) bytes.now }
 {
-    if at < wanted.len() {
-        wanted[at]
-    } else {
-        BEFORE
-    }
+    bytes.iter().all(|byte| *byte == BEFORE)
 }
 
 // Whether each byte is the one wanted at its place, and BEFORE behind the wanted bytes.
 fn same(bytes: &[u8], wanted: &[u8]) -> bool
     ensures { result ≡ same_printed bytes.now wanted.now }
 {
-    let mut k: usize = 0;
-    while k < bytes.len() {
-        if bytes[k] != wanted_byte(wanted, k) {
-            return false;
-        }
-        k = k + 1;
-    }
-    true
+    let (printed, rest) = bytes.split_at(wanted.len().min(bytes.len()));
+    wanted.starts_with(printed) && is_untouched(rest)
 }
 
 // `same` of the whole output.
