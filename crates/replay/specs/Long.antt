@@ -47,3 +47,7 @@ call_replayed r sheet text t =
     (long_at r 20)
     (part_of text 0 (number_at r 16))
     (recorded t)
+
+-- the tally after a call with the long sheet, filled in its whole length, and the long text
+abbrev pub long_replayed : List ℕ → Tally → Tally
+long_replayed r t = call_replayed r (breaks_of long_words) zeros t

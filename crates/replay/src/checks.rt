@@ -4,13 +4,14 @@
 ghost use Rattle.std.specs.Prelude.{◌≡◌, ◌≤◌};
 ghost use Rattle.replay.specs.Checks.{fits_of, checks_replayed};
 
+use crate::format::Format;
 use crate::front::{BEFORE, Call, Function};
 use crate::tally::Tally;
 use crate::{bytes, words};
 use leaves::text::part::part;
 
 // How many bytes the head has.
-pub const HEAD: usize = 28;
+const HEAD: usize = 28;
 
 // The most words of a sheet.
 const SHEET: usize = 768;
@@ -20,13 +21,6 @@ const REPORT: usize = 512;
 
 // The most marks.
 const MARKS: usize = 72;
-
-// How many bytes stand behind the head.
-pub fn behind(r: &[u8]) -> usize
-    ensures { result ≤ 851955 }
-{
-    bytes::pair(r, 0) * 4 + bytes::pair(r, 2) + bytes::pair(r, 4) * 4 + bytes::pair(r, 8) * 4
-}
 
 // Whether the sheet, the report and the marks are within their limits, the list is no longer than the report, and no
 // more marks are written than there are.
@@ -42,34 +36,50 @@ fn fits(r: &[u8]) -> bool
         & (marks <= MARKS)
 }
 
-// Replays both calls with the same sheet and text.
-pub fn replay_record(r: &[u8], tally: Tally) -> Tally
-    ensures { result ≡ checks_replayed r.now tally }
-{
-    let mut sheet = [0u32; SHEET];
-    let n = bytes::pair(r, 0);
-    let bytes = bytes::pair(r, 2);
-    let listed = bytes::pair(r, 4) * 4;
-    words::fill(&mut sheet, part(r, HEAD, n * 4));
-    let text = part(r, HEAD + n * 4, bytes);
-    let list = part(r, HEAD + n * 4 + bytes, listed);
-    let written = part(r, HEAD + n * 4 + bytes + listed, bytes::pair(r, 8) * 4);
-    let check = Call {
-        function: Some(Function::Check),
-        sheet: words::first(&sheet, n),
-        text,
-        lent: bytes::pair(r, 6),
-    };
-    let set = Call {
-        function: Some(Function::Set),
-        lent: bytes::pair(r, 10),
-        ..check
-    };
-    let mut report = [BEFORE; REPORT];
-    let mut marks = [BEFORE; MARKS];
-    let fits = fits(r);
-    let checked = bytes::long_number(r, 12) as u64;
-    let tally = check.compare(&mut report, fits, checked, list, tally.record());
-    let machine = bytes::long_number(r, 20) as u64;
-    set.compare(&mut marks, fits, machine, written, tally)
+#[derive(Clone, Copy)]
+pub struct Checks;
+
+impl Format for Checks {
+    ghost replayed = { λ _ r t. checks_replayed r t };
+
+    fn head(&self) -> usize {
+        HEAD
+    }
+
+    fn behind(&self, head: &[u8]) -> usize {
+        bytes::pair(head, 0) * 4
+            + bytes::pair(head, 2)
+            + bytes::pair(head, 4) * 4
+            + bytes::pair(head, 8) * 4
+    }
+
+    // Replays both calls with the same sheet and text.
+    fn replay(&self, r: &[u8], tally: Tally) -> Tally {
+        let mut sheet = [0u32; SHEET];
+        let n = bytes::pair(r, 0);
+        let bytes = bytes::pair(r, 2);
+        let listed = bytes::pair(r, 4) * 4;
+        words::fill(&mut sheet, part(r, HEAD, n * 4));
+        let text = part(r, HEAD + n * 4, bytes);
+        let list = part(r, HEAD + n * 4 + bytes, listed);
+        let written = part(r, HEAD + n * 4 + bytes + listed, bytes::pair(r, 8) * 4);
+        let check = Call {
+            function: Some(Function::Check),
+            sheet: words::first(&sheet, n),
+            text,
+            lent: bytes::pair(r, 6),
+        };
+        let set = Call {
+            function: Some(Function::Set),
+            lent: bytes::pair(r, 10),
+            ..check
+        };
+        let mut report = [BEFORE; REPORT];
+        let mut marks = [BEFORE; MARKS];
+        let fits = fits(r);
+        let checked = bytes::long_number(r, 12) as u64;
+        let tally = check.compare(&mut report, fits, checked, list, tally.record());
+        let machine = bytes::long_number(r, 20) as u64;
+        set.compare(&mut marks, fits, machine, written, tally)
+    }
 }

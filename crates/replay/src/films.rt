@@ -4,13 +4,14 @@ ghost use Rattle.std.specs.List.{list_all};
 ghost use Rattle.replay.specs.Films.{before, untouched, same_printed, film_replayed};
 
 use crate::bytes;
+use crate::format::Format;
 use crate::tally::Tally;
 use leaves::text::part::part;
 use setter::listing::print::OUTPUT_BYTES;
 use setter::listing::program::list;
 
 // How many bytes stand before the film.
-pub const HEAD: usize = 8;
+const HEAD: usize = 8;
 
 // One byte more than the largest film has.
 const FILM_BYTES: usize = 84504;
@@ -20,12 +21,6 @@ pub const MOST: usize = HEAD + FILM_BYTES + OUTPUT_BYTES;
 
 // Every byte of the output before a film is listed.
 const BEFORE: u8 = 0xA5;
-
-pub fn behind(r: &[u8]) -> usize
-    ensures { result < 2 ^ 33 }
-{
-    bytes::large(r, 0) + bytes::large(r, 4)
-}
 
 // The output before a film is listed. The proofs of callers do not unfold `untouched`, and so do not compute so long a
 // list.
@@ -57,17 +52,30 @@ fn same_output(bytes: &[u8; OUTPUT_BYTES], wanted: &[u8]) -> bool
     same(bytes, wanted)
 }
 
-// Compares how many bytes are printed, and each byte of the output. Behind what is printed it must be as it was.
-pub fn replay_film(r: &[u8], tally: Tally) -> Tally
-    ensures { result ≡ film_replayed r.now tally }
-{
-    let n = bytes::large(r, 0);
-    let m = bytes::large(r, 4);
-    let wanted = part(r, HEAD + n, m);
-    let mut bytes = output();
-    let printed = list(part(r, HEAD, n), &mut bytes);
-    tally
-        .record()
-        .compare(printed == m)
-        .compare(same_output(&bytes, wanted))
+#[derive(Clone, Copy)]
+pub struct Films;
+
+impl Format for Films {
+    ghost replayed = { λ _ r t. film_replayed r t };
+
+    fn head(&self) -> usize {
+        HEAD
+    }
+
+    fn behind(&self, head: &[u8]) -> usize {
+        bytes::large(head, 0) + bytes::large(head, 4)
+    }
+
+    // Compares how many bytes are printed, and each byte of the output. Behind what is printed it must be as it was.
+    fn replay(&self, r: &[u8], tally: Tally) -> Tally {
+        let n = bytes::large(r, 0);
+        let m = bytes::large(r, 4);
+        let wanted = part(r, HEAD + n, m);
+        let mut bytes = output();
+        let printed = list(part(r, HEAD, n), &mut bytes);
+        tally
+            .record()
+            .compare(printed == m)
+            .compare(same_output(&bytes, wanted))
+    }
 }

@@ -4,6 +4,7 @@
 ghost use Rattle.std.specs.Prelude.{◌≡◌, length, IfOk};
 ghost use Rattle.replay.specs.Long.{break_word, breaks_of, unfilled, zeros, untouched, call_replayed};
 
+use crate::format::Format;
 use crate::front::{BEFORE, Call, Function};
 use crate::tally::Tally;
 use crate::{bytes, words};
@@ -13,7 +14,7 @@ use leaves::text::part::part;
 use std::alloc::{AllocError, Global};
 
 // How many bytes a stored call has.
-pub const BYTES: usize = 28;
+const BYTES: usize = 28;
 
 // The words of 65,537 records: two records more than a sheet may have.
 const SHEET: usize = 786444;
@@ -64,18 +65,41 @@ pub fn breaks(words: &mut [u32])
     }
 }
 
-// Compares the answer, and each word of what is lent: also those behind the front, which the function does not see.
-pub fn replay_call(r: &[u8], sheet: &[u32], text: &[u8], tally: Tally) -> Tally
-    ensures { result ≡ call_replayed r.now sheet.now text.now tally }
-{
-    let n = bytes::large(r, 4);
-    let call = Call {
-        function: Function::numbered(bytes::large(r, 0)),
-        sheet: words::first(sheet, n),
-        text: part(text, 0, bytes::large(r, 8)),
-        lent: bytes::large(r, 12),
-    };
-    let zeros = part(text, 0, bytes::large(r, 16));
-    let answer = bytes::long_number(r, 20) as u64;
-    call.compare(&mut lent(), n <= sheet.len(), answer, zeros, tally.record())
+// Calls with the long sheet and the long text.
+#[derive(Clone, Copy)]
+pub struct Calls<'a> {
+    pub sheet: &'a [u32],
+    pub text: &'a [u8],
+}
+
+impl Format for Calls<'_> {
+    ghost replayed = { λ it r t. call_replayed r it.sheet.now it.text.now t };
+
+    fn head(&self) -> usize {
+        BYTES
+    }
+
+    fn behind(&self, _head: &[u8]) -> usize {
+        0
+    }
+
+    // Compares the answer, and each word of what is lent: also those behind the front, which the function does not see.
+    fn replay(&self, r: &[u8], tally: Tally) -> Tally {
+        let n = bytes::large(r, 4);
+        let call = Call {
+            function: Function::numbered(bytes::large(r, 0)),
+            sheet: words::first(self.sheet, n),
+            text: part(self.text, 0, bytes::large(r, 8)),
+            lent: bytes::large(r, 12),
+        };
+        let zeros = part(self.text, 0, bytes::large(r, 16));
+        let answer = bytes::long_number(r, 20) as u64;
+        call.compare(
+            &mut lent(),
+            n <= self.sheet.len(),
+            answer,
+            zeros,
+            tally.record(),
+        )
+    }
 }

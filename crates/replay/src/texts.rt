@@ -1,9 +1,9 @@
 // Stored texts, each with the fourteen answers of the functions that take a text.
-ghost use Rattle.std.specs.Prelude.{◌≡◌, ◌<◌, ◌≤◌};
-ghost use Rattle.replay.specs.Bytes.{byte_at};
+ghost use Rattle.std.specs.Prelude.{◌≡◌, ◌<◌};
 ghost use Rattle.replay.specs.Texts.{is_set, compared_bit, answers_for, compared_bits, text_replayed};
 
 use crate::bytes;
+use crate::format::Format;
 use crate::tally::Tally;
 use leaves::text::edges::has_blank_edge_line;
 use leaves::text::fence::{FrontmatterKind, holds_fence_line};
@@ -73,21 +73,28 @@ fn compare_answers(answers: &[bool; ANSWERS], mask: u32, bits: u32, tally: Tally
 }
 
 // How many bytes stand before a record's text: its length, the mask, the answers.
-pub const HEAD: usize = 5;
+const HEAD: usize = 5;
 
-pub fn behind(r: &[u8]) -> usize
-    ensures { (result ≡ byte_at r.now 0) × (result ≤ 255) }
-{
-    bytes::small(r, 0)
-}
+#[derive(Clone, Copy)]
+pub struct Texts;
 
-// Compares the answers whose bits are set in the mask.
-pub fn replay_record(r: &[u8], tally: Tally) -> Tally
-    ensures { result ≡ text_replayed r.now tally }
-{
-    let both = bytes::number(r, 1);
-    let mask = both % 0x1_0000;
-    let bits = both / 0x1_0000;
-    let text = part(r, HEAD, behind(r));
-    compare_answers(&answers(text), mask, bits, tally.record())
+impl Format for Texts {
+    ghost replayed = { λ _ r t. text_replayed r t };
+
+    fn head(&self) -> usize {
+        HEAD
+    }
+
+    fn behind(&self, head: &[u8]) -> usize {
+        bytes::small(head, 0)
+    }
+
+    // Compares the answers whose bits are set in the mask.
+    fn replay(&self, r: &[u8], tally: Tally) -> Tally {
+        let both = bytes::number(r, 1);
+        let mask = both % 0x1_0000;
+        let bits = both / 0x1_0000;
+        let text = part(r, HEAD, bytes::small(r, 0));
+        compare_answers(&answers(text), mask, bits, tally.record())
+    }
 }

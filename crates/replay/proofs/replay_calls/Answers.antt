@@ -3,4 +3,4 @@ use Rattle.replay.proofs.FileLaws.{add-calls}
 use Rattle.replay.proofs.replay_calls.Goals as goal
 
 pub returns : goal.returns
-returns g c = add-calls _ _ _ _ _ _ c.close.ensures c.replay-found.ensures c.breaks.ensures c.requires.sheet c.requires.text
+returns g c = add-calls _ _ _ _ _ c.replay.ensures c.breaks.ensures c.requires.sheet c.requires.text

@@ -1,15 +1,18 @@
 -- `replay::file::replay_opened` meets its contract.
-use Rattle.replay.proofs.FileLaws.{files}
+use Rattle.replay.proofs.FileLaws.{files, found-broken}
 use Rattle.replay.proofs.file.replay_opened.Goals as goal
 
-pub loop-k-init : goal.loop-k-init
-loop-k-init g c = search files
+pub loop-init : goal.loop-init
+loop-init g c = search files
 
-pub returns-then-not-step : goal.returns-then-not-step
-returns-then-not-step g c = search files
+pub loop-preserved : goal.loop-preserved
+loop-preserved g c = search files
 
-pub loop-k-preserved : goal.loop-k-preserved
-loop-k-preserved g c = search files
+pub returns-in-Ok-None : goal.returns-in-Ok-None
+returns-in-Ok-None g c = search files
+
+pub returns-in-Err : goal.returns-in-Err
+returns-in-Err g c = found-broken _ _ _ c.loop.invariant c.differs.ensures
 
 pub returns : goal.returns
-returns g c = search files
+returns g c = found-broken _ _ _ c.loop.invariant c.differs-2.ensures
