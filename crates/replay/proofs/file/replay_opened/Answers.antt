@@ -1,4 +1,5 @@
 -- `replay::file::replay_opened` meets its contract.
+use borrow.Author.Rules.{rules}
 use Rattle.replay.proofs.FileLaws.{files, found-broken}
 use Rattle.replay.proofs.file.replay_opened.Goals as goal
 
@@ -12,7 +13,7 @@ pub returns-in-Ok-None : goal.returns-in-Ok-None
 returns-in-Ok-None g c = search files
 
 pub returns-in-Err : goal.returns-in-Err
-returns-in-Err g c = found-broken _ _ _ c.loop.invariant c.differs.ensures
+returns-in-Err g c = search (found-broken, rules)
 
 pub returns : goal.returns
-returns g c = found-broken _ _ _ c.loop.invariant c.differs-2.ensures
+returns g c = search (found-broken, rules)
