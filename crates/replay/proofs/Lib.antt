@@ -1,4 +1,3 @@
-pub mod ByteLaws
 pub mod CheckLaws
 pub mod FileLaws
 pub mod FilmLaws

@@ -1,7 +1,8 @@
 // A stored check and setting. Its head has six counts (words of the sheet, bytes of the text, words of the list, words
 // of the report, marks that are written, marks) and two answers (the check's, the setting machine's). Behind the head
 // stand the sheet, the text, the list and the marks that are written.
-ghost use Rattle.std.specs.Prelude.{◌≡◌, ◌≤◌};
+ghost use Rattle.std.specs.Prelude.{◌≡◌, ◌+◌, ◌*◌};
+ghost use Rattle.replay.specs.Bytes.{pair_at};
 ghost use Rattle.replay.specs.Checks.{fits_of, checks_replayed};
 
 use crate::format::Format;
@@ -40,6 +41,8 @@ fn fits(r: &[u8]) -> bool
 pub struct Checks;
 
 impl Format for Checks {
+    ghost behind_of = { λ head. pair_at head 0 * 4 + pair_at head 2 + pair_at head 4 * 4 + pair_at head 8 * 4 };
+
     ghost replayed = { λ _ r t. checks_replayed r t };
 
     fn head(&self) -> usize {

@@ -1,6 +1,7 @@
 // A stored film: how many bytes it has and how many are printed for it (4 bytes each), the film, and what is printed.
-ghost use Rattle.std.specs.Prelude.{◌≡◌, ◌==◌, ◌<◌, ◌^◌};
+ghost use Rattle.std.specs.Prelude.{◌≡◌, ◌==◌, ◌+◌};
 ghost use Rattle.std.specs.List.{list_all};
+ghost use Rattle.replay.specs.Bytes.{number_at};
 ghost use Rattle.replay.specs.Films.{before, untouched, same_printed, film_replayed};
 
 use crate::bytes;
@@ -56,6 +57,8 @@ fn same_output(bytes: &[u8; OUTPUT_BYTES], wanted: &[u8]) -> bool
 pub struct Films;
 
 impl Format for Films {
+    ghost behind_of = { λ head. number_at head 0 + number_at head 4 };
+
     ghost replayed = { λ _ r t. film_replayed r t };
 
     fn head(&self) -> usize {

@@ -1,12 +1,16 @@
 // The formats of the files: how long a record is, and how it is replayed.
-ghost use Rattle.std.specs.Prelude.{ℕ, ◌≡◌, ◌≤◌, ◌<◌, ◌^◌, List};
+ghost use Rattle.std.specs.Prelude.{ℕ, ◌≡◌, ◌≤◌, ◌<◌, ◌+◌, ◌*◌, ◌^◌, List};
 ghost use Rattle.replay.specs.declared.tally.Tally.{Tally};
+ghost use Rattle.replay.specs.Bytes.{pair_at};
 ghost use Rattle.replay.specs.Sheets.{sheet_replayed};
 
-use crate::sheets;
 use crate::tally::Tally;
+use crate::{bytes, sheets};
 
 pub trait Format {
+    // How many bytes stand behind the head of a record.
+    ghost behind_of: { List ℕ → ℕ };
+
     // The tally after a record.
     ghost replayed: { Self → List ℕ → Tally → Tally };
 
@@ -14,9 +18,9 @@ pub trait Format {
     fn head(&self) -> usize
         ensures { result ≤ 28 };
 
-    // How many bytes stand behind the head.
     fn behind(&self, head: &[u8]) -> usize
-        ensures { result < 2 ^ 33 };
+        ensures exact { result ≡ behind_of head.now }
+        ensures bound { result < 2 ^ 33 };
 
     // Replays a record.
     fn replay(&self, r: &[u8], tally: Tally) -> Tally
@@ -28,6 +32,8 @@ pub trait Format {
 pub struct Sheets;
 
 impl Format for Sheets {
+    ghost behind_of = { λ head. pair_at head 0 * 4 + pair_at head 2 };
+
     ghost replayed = { λ _ r t. sheet_replayed r t };
 
     fn head(&self) -> usize {
@@ -35,7 +41,7 @@ impl Format for Sheets {
     }
 
     fn behind(&self, head: &[u8]) -> usize {
-        sheets::behind(head)
+        bytes::pair(head, 0) * 4 + bytes::pair(head, 2)
     }
 
     fn replay(&self, r: &[u8], tally: Tally) -> Tally {

@@ -1,5 +1,6 @@
 // Stored sheets of one paragraph, each with the list that the Rust gives for its inlines.
-ghost use Rattle.std.specs.Prelude.{◌≡◌, ◌≤◌};
+ghost use Rattle.std.specs.Prelude.{◌≡◌, ◌+◌, ◌*◌};
+ghost use Rattle.replay.specs.Bytes.{pair_at};
 ghost use Rattle.replay.specs.Lists.{listed_of, list_replayed};
 ghost use Rattle.replay.specs.Words.{Gives};
 
@@ -45,6 +46,8 @@ fn listed(sheet: &[u32], text: &[u8], report: &mut [u32]) -> usize
 pub struct Lists;
 
 impl Format for Lists {
+    ghost behind_of = { λ head. pair_at head 0 * 4 + pair_at head 2 + pair_at head 4 * 4 };
+
     ghost replayed = { λ _ r t. list_replayed r t };
 
     fn head(&self) -> usize {

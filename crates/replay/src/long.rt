@@ -73,6 +73,8 @@ pub struct Calls<'a> {
 }
 
 impl Format for Calls<'_> {
+    ghost behind_of = { λ _. 0 };
+
     ghost replayed = { λ it r t. call_replayed r it.sheet.now it.text.now t };
 
     fn head(&self) -> usize {

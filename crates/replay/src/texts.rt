@@ -1,5 +1,6 @@
 // Stored texts, each with the fourteen answers of the functions that take a text.
 ghost use Rattle.std.specs.Prelude.{◌≡◌, ◌<◌};
+ghost use Rattle.replay.specs.Bytes.{byte_at};
 ghost use Rattle.replay.specs.Texts.{is_set, compared_bit, answers_for, compared_bits, text_replayed};
 
 use crate::bytes;
@@ -79,6 +80,8 @@ const HEAD: usize = 5;
 pub struct Texts;
 
 impl Format for Texts {
+    ghost behind_of = { λ head. byte_at head 0 };
+
     ghost replayed = { λ _ r t. text_replayed r t };
 
     fn head(&self) -> usize {

@@ -1,4 +1,6 @@
 // Stored pairs of texts, scalar values, and parts of a text, each with its answer.
+ghost use Rattle.std.specs.Prelude.{◌+◌};
+ghost use Rattle.replay.specs.Bytes.{byte_at};
 ghost use Rattle.replay.specs.Values.{pair_replayed, punctuation_replayed, part_replayed};
 
 use crate::bytes;
@@ -15,6 +17,8 @@ const PAIR: usize = 3;
 pub struct Pairs;
 
 impl Format for Pairs {
+    ghost behind_of = { λ head. byte_at head 0 + byte_at head 1 };
+
     ghost replayed = { λ _ r t. pair_replayed r t };
 
     fn head(&self) -> usize {
@@ -38,6 +42,8 @@ impl Format for Pairs {
 pub struct Punctuation;
 
 impl Format for Punctuation {
+    ghost behind_of = { λ _. 0 };
+
     ghost replayed = { λ _ r t. punctuation_replayed r t };
 
     // The scalar value and the answer.
@@ -63,6 +69,8 @@ const PART: usize = 17;
 pub struct Parts;
 
 impl Format for Parts {
+    ghost behind_of = { λ head. byte_at head 16 };
+
     ghost replayed = { λ _ r t. part_replayed r t };
 
     fn head(&self) -> usize {
