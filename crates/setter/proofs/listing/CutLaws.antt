@@ -4,14 +4,14 @@ use mathlib.Core.Bool.{Bool, true, false}
 use mathlib.Core.List.{List}
 use Prim.Native.Nat.{ℕ, zero, suc, ◌+◌, ◌-◌, ◌*◌, ◌<◌, ◌≤◌}
 use native.Mathlib.Omega.{arith}
-use lib.Dec.{eqb}
+use lib.Dec.{eqb, ltb}
 use lib.ListN.{length, take, drop, length-take, length-drop}
-use borrow.Author.Tests.{ne_eqb}
+use borrow.Author.Tests.{ne_eqb, ltb-false}
 use Rattle.leaves.specs.Sheet.Records.{record_words}
+use Rattle.leaves.proofs.text.TestLaws.{or_left, or_right}
 use Rattle.leaves.specs.Text.Columns.{line_bytes, is_line, numbers}
 use Rattle.leaves.proofs.text.ColumnLaws.{drop-take, numbers-take, line-take}
 use Rattle.setter.specs.Listing.Film.{count_fields, record_count, byte_count, are_records, behind_counts, text_behind, most_film_records, most_film_bytes, most_input, is_big, film_of}
-use Rattle.setter.proofs.listing.FilmLaws.{few-of, short-of}
 
 records-take : (n m : ℕ) (s : List ℕ) → n * line_bytes record_words ≤ m → are_records n (take m s) ≡ are_records n s
 unfolding are_records
@@ -28,6 +28,12 @@ module _ (s : List ℕ) (long : most_input < length s) where
 
   counts-are : numbers count_fields (take (suc most_input) s) ≡ numbers count_fields s
   counts-are = numbers-take count_fields (suc most_input) s (omega arith)
+
+  few-of : is_big s ≡ false → record_count s ≤ most_film_records
+  few-of q = ltb-false _ _ (or_left (ltb most_film_records (record_count s)) (ltb most_film_bytes (byte_count s)) q)
+
+  short-of : is_big s ≡ false → byte_count s ≤ most_film_bytes
+  short-of q = ltb-false _ _ (or_right (ltb most_film_records (record_count s)) (ltb most_film_bytes (byte_count s)) q)
 
   module _ (few : record_count s ≤ most_film_records) (short : byte_count s ≤ most_film_bytes) where
     lines_are : are_records (record_count s) (behind_counts (take (suc most_input) s)) ≡ are_records (record_count s) (behind_counts s)
@@ -50,8 +56,8 @@ module _ (s : List ℕ) (long : most_input < length s) where
       go false p b q d r = record { same = rw (line-is, p); refused = rw p }
       go true p true q d r = record { same = rw (line-is, counts-are, p, q); refused = rw (p, q) }
       go true p false q false r =
-          record { same = rw (line-is, counts-are, lines_are (few-of s q) (short-of s q), p, q, r); refused = rw (p, q, r) }
+          record { same = rw (line-is, counts-are, lines_are (few-of q) (short-of q), p, q, r); refused = rw (p, q, r) }
       go true p false q true r =
-          let few = few-of s q in
-          let short = short-of s q in
+          let few = few-of q in
+          let short = short-of q in
           record { same = rw (line-is, counts-are, lines_are few short, text-cut few short, text-long few short, p, q, r); refused = rw (p, q, r, text-long few short) }

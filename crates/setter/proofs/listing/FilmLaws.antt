@@ -10,19 +10,11 @@ use borrow.Author.Tests.{eq-eqb, ne_eqb, lt-ltb, le-ltb, ltb-false, not-true, no
 use Rattle.leaves.specs.Sheet.Records.{record_words}
 use Rattle.leaves.specs.Text.Columns.{line_bytes, is_line, numbers}
 use Rattle.leaves.proofs.text.ColumnLaws.{numbers-long}
-use Rattle.leaves.proofs.text.TestLaws.{or_left, or_right}
-use Rattle.setter.specs.Listing.Film.{count_fields, record_count, byte_count, are_records, sheet_of, behind_counts, film_sheet, text_behind, most_film_records, most_film_bytes, is_big, film_text, film_of, filled_sheet, Reads, ReadsCounts}
+use Rattle.setter.specs.Listing.Film.{count_fields, record_count, byte_count, are_records, sheet_of, behind_counts, film_sheet, text_behind, most_film_records, most_film_bytes, film_text, film_of, filled_sheet, Reads, ReadsCounts}
 use Rattle.leaves.specs.Refusal.Verdict.{answer}
 use Rattle.std.specs.Prelude.{Ok, Err}
 use Rattle.setter.specs.declared.listing.film_answer.FilmError.{FilmError}
 use Rattle.setter.specs.declared.listing.film_answer.FilmError.TheVariants.{BadColumn, BigFilm}
-
--- ---- the counts of a film that is not big
-pub few-of : (s : List ℕ) → is_big s ≡ false → record_count s ≤ most_film_records
-few-of s q = ltb-false _ _ (or_left (ltb most_film_records (record_count s)) (ltb most_film_bytes (byte_count s)) q)
-
-pub short-of : (s : List ℕ) → is_big s ≡ false → byte_count s ≤ most_film_bytes
-short-of s q = ltb-false _ _ (or_right (ltb most_film_records (record_count s)) (ltb most_film_bytes (byte_count s)) q)
 
 -- ---- `read_counts`
 module _ (s : List ℕ) {good : Bool} {counts : List ℕ} (first : (good ≡ is_line count_fields s) × (counts ≡ numbers count_fields s)) where
@@ -59,9 +51,6 @@ module _ (s : List ℕ) {good : Bool} {counts : List ℕ} (first : (good ≡ is_
 pub film-refused : (s old : List ℕ) (e : FilmError) → ReadsCounts s (Err e) → Reads s old old (Err e)
 unfolding filled_sheet
 film-refused s old e c = record { answer = c.1; words = rw c.0 }
-
-pub counts-few : (s : List ℕ) {counts : ℕ × ℕ} → ReadsCounts s (Ok counts) → counts.0 ≤ most_film_records
-counts-few s c = rw c.2 (few-of s c.1)
 
 module _ (s old : List ℕ) {n m : ℕ} (c : ReadsCounts s (Ok (n, m))) {t new : List ℕ} {lines : Bool} (e : t ≡ behind_counts s) (f : (lines ≡ are_records n t) × (new ≡ sheet_of n t ++ drop (n * record_words) old)) where
   count-is : record_count s ≡ n
