@@ -2,15 +2,11 @@
 // says which bytes are printed for those that are read.
 #![tactic(auto)]
 
-use setter::listing::input::read_full;
+use setter::listing::input::{INPUT_BYTES, read_full};
 use setter::listing::print::OUTPUT_BYTES;
 use setter::listing::program::list;
 use std::io;
 use std::io::Write;
-
-// One byte more than the largest film has. Of a longer film these bytes are read, and what is printed for them is what
-// would be printed for all of it: `listing-cut` of `setter` proves this.
-const INPUT_BYTES: usize = 84504;
 
 // `N` bytes of 0. It promises nothing, so that no proof computes the array.
 fn bytes<const N: usize>() -> [u8; N] {

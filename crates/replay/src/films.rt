@@ -8,17 +8,15 @@ use crate::bytes;
 use crate::format::Format;
 use crate::tally::Tally;
 use leaves::text::part::part;
+use setter::listing::input::INPUT_BYTES;
 use setter::listing::print::OUTPUT_BYTES;
 use setter::listing::program::list;
 
 // How many bytes stand before the film.
 const HEAD: usize = 8;
 
-// One byte more than the largest film has.
-const FILM_BYTES: usize = 84504;
-
 // The most bytes of a record: the head, the film, and all that can be printed.
-pub const MOST: usize = HEAD + FILM_BYTES + OUTPUT_BYTES;
+pub const MOST: usize = HEAD + INPUT_BYTES + OUTPUT_BYTES;
 
 // Every byte of the output before a film is listed.
 const BEFORE: u8 = 0xA5;

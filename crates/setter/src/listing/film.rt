@@ -19,6 +19,11 @@ const MOST_FILM_BYTES: usize = 16384;
 // The words of the largest sheet of a film.
 pub(crate) const SHEET_WORDS: usize = MOST_FILM_RECORDS * RECORD_WORDS;
 
+// How many bytes the largest film has.
+pub(crate) const MOST_BYTES: usize = COUNT_BYTES
+    + MOST_FILM_RECORDS * RECORD_BYTES
+    + MOST_FILM_BYTES;
+
 // The text of a film of `n` records: all that stands behind them.
 pub(crate) fn text_behind(s: &[u8], n: usize) -> &[u8]
     requires { n ≤ most_film_records }

@@ -1,9 +1,14 @@
-// Reads a buffer full. The listing program and the one that replays stored answers both read so.
+// What the listing program reads, and how it reads. The program that replays stored answers reads so too.
 ghost use Rattle.std.specs.Prelude.{◌≤◌, length, take, IfOk};
 ghost use Rattle.std.specs.Io.KnownBytes.{Consumes};
 
+use crate::listing::film::MOST_BYTES;
 use std::io;
 use std::io::{ErrorKind, Read};
+
+// One byte more than the largest film has. Who reads no more than this of a longer film reads enough: what is printed
+// for these bytes is what would be printed for all of it, as `listing-cut` proves.
+pub const INPUT_BYTES: usize = MOST_BYTES + 1;
 
 // Reads until the buffer is full or nothing is left, and answers how many bytes were read: they stand at its front.
 pub fn read_full<R: Read>(from: &mut R, buffer: &mut [u8]) -> io::Result<usize>

@@ -6,12 +6,13 @@ ghost use Rattle.setter.specs.Listing.Print.{refusal_line, report_words, Prints}
 ghost use Rattle.setter.specs.Listing.PrintInWords.{lines_in, front_words};
 
 use leaves::text::columns::write_line;
+use leaves::text::field::PLACES;
 
 // How many words the program's report has.
 pub(crate) const REPORT_WORDS: usize = 4096;
 
-// How many bytes the program prints at most.
-pub const OUTPUT_BYTES: usize = 49186;
+// How many bytes the program prints at most: a field and an LF for each word of the report, and the last line.
+pub const OUTPUT_BYTES: usize = REPORT_WORDS * (PLACES + 1) + (3 * PLACES + 1);
 
 // How many words of an entry stand before its path; the last of them is the path's length.
 const HEAD: usize = 5;
