@@ -1,11 +1,12 @@
 -- Calls with a long sheet or a long text.
-use mathlib.Core.Path.{◌≡◌, refl, sym, ◌∙◌}
+use mathlib.Core.Path.{◌≡◌, refl, sym, ap, subst, ◌∙◌}
 use mathlib.Core.List.{List}
 use Prim.Native.Nat.{ℕ}
 use borrow.Author.Rules.{rules}
 use borrow.Author.Tests.{eq-eqb, ne_eqb}
 use lib.Dec.{leb}
-use lib.ListN.{length}
+use lib.ListN.{length, length-replicate}
+use Rattle.replay.specs.File.{Adds}
 use Rattle.leaves.specs.Text.Part.{part_of}
 use Rattle.replay.specs.declared.tally.Tally.{Tally}
 use Rattle.replay.specs.Bytes.{number_at, long_at}
@@ -14,7 +15,7 @@ use Rattle.replay.specs.Words.{first_of}
 use Rattle.std.specs.Prelude.{Option}
 use Rattle.replay.specs.declared.front.Function.{Function}
 use Rattle.replay.specs.Front.{function_of, call_compared}
-use Rattle.replay.specs.Long.{break_word, long_words, unfilled, zeros, untouched, call_replayed}
+use Rattle.replay.specs.Long.{break_word, breaks_of, long_words, unfilled, zeros, untouched, call_replayed, long_replayed}
 use Rattle.std.proofs.lemmas.Result.{IfOk-weaker}
 use Rattle.std.specs.Prelude.{Result, Vec, IfOk, replicate}
 
@@ -45,5 +46,19 @@ unfilled-zeros = refl
 pub text-zeros : zeros ≡ replicate 16777217 0
 unfolding zeros
 text-zeros = refl
+
+-- stated of every n, so that no list of that length is computed
+as_long : (n : ℕ) (old : List ℕ) → old ≡ replicate n 0 → length old ≡ n
+as_long n old e = ap length e ∙ length-replicate n 0
+
+unfilled-long : (old : List ℕ) → old ≡ unfilled → length old ≡ long_words
+unfolding unfilled
+unfilled-long old e = as_long long_words old e
+
+-- the long sheet is filled in its whole length
+pub add-calls : (old sheet text : List ℕ) (total t : Tally) → Adds (λ r u. call_replayed r sheet text u) total t → sheet ≡ breaks_of (length old) → old ≡ unfilled → text ≡ zeros → Adds long_replayed total t
+add-calls old sheet text total t h b o z =
+    let e : sheet ≡ breaks_of long_words = b ∙ ap breaks_of (unfilled-long old o) in
+    subst (λ (s : List ℕ). Adds (λ r u. call_replayed r s zeros u) total t) e (subst (λ (s : List ℕ). Adds (λ r u. call_replayed r sheet s u) total t) z h)
 
 pub ruleset longs = (break-kind, break-level, break-rest, rules)

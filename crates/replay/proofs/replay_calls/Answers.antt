@@ -1,5 +1,5 @@
 -- `replay::replay_calls` meets its contract.
-use Rattle.replay.proofs.FileLaws.{add-calls}
+use Rattle.replay.proofs.LongLaws.{add-calls}
 use Rattle.replay.proofs.replay_calls.Goals as goal
 
 pub returns : goal.returns
