@@ -1,30 +1,51 @@
 -- Films and what is printed for each.
-use mathlib.Core.Path.{◌≡◌, refl, sym}
-use mathlib.Core.Bool.{Bool}
+use mathlib.Core.Path.{◌≡◌, refl, sym, ap, ◌∙◌}
+use mathlib.Core.Bool.{Bool, true, ◌&&◌, and_assoc}
 use mathlib.Core.List.{List, [], ◌∷◌}
-use Prim.Native.Nat.{ℕ, zero, suc, ◌+◌, ◌≤◌, ◌<◌}
+use Prim.Native.Nat.{ℕ, zero, suc, min, ◌+◌}
 use native.Mathlib.Omega.{arith}
-use borrow.Author.Rules.{rules}
 use lib.Dec.{eqb}
-use lib.ListN.{length, get_or, get_or-eq_default}
+use lib.ListN.{length, get_or, take, drop}
+use lib.Pointwise.{pointwise}
+use Rattle.std.specs.Bool.{◌==◌}
+use Rattle.std.specs.List.{list_all, starts_with}
 use Rattle.leaves.specs.Text.Part.{part_of}
 use Rattle.setter.specs.Listing.Program.{listing, Page}
 use Rattle.replay.specs.declared.tally.Tally.{Tally}
 use Rattle.replay.specs.Bytes.{number_at}
 use Rattle.replay.specs.Tally.{recorded, comparing}
+use Rattle.replay.specs.Words.{agrees}
 use Rattle.replay.specs.Films.{before, untouched, same_printed, film_in, wanted_in, printed_over, film_replayed}
 
-pub wanted-past : (wanted : List ℕ) (at : ℕ) → length wanted ≤ at → before ≡ get_or wanted at before
-wanted-past wanted at h = sym (get_or-eq_default wanted before h)
+-- numbers compared from place k + 1 on are compared with those of one place on
+agrees-on : (f : ℕ → ℕ) (k : ℕ) (xs : List ℕ) → agrees f (suc k) xs ≡ agrees (λ j. f (suc j)) k xs
+unfolding agrees
+agrees-on f k [] = refl
+agrees-on f k (x ∷ xs) = ap (λ (b : Bool). eqb x (f (suc k)) && b) (agrees-on f (suc k) xs)
 
--- a byte inside is the same whatever stands behind
-inside : (l : List ℕ) (i d e : ℕ) → i < length l → get_or l i d ≡ get_or l i e
-inside [] i d e h = absurd (omega arith)
-inside (x ∷ l) zero d e h = refl
-inside (x ∷ l) (suc i) d e h = inside l i d e (omega arith)
+-- the bytes are the wanted ones as far as both go, and those behind are as before
+unfoldable pub split_same : List ℕ → List ℕ → Bool
+split_same [] wanted = true
+split_same (x ∷ xs) [] = eqb x before && split_same xs []
+split_same (x ∷ xs) (y ∷ ys) = eqb x y && split_same xs ys
 
-pub wanted-inside : (wanted : List ℕ) (at : ℕ) → at < length wanted → get_or wanted at 0 ≡ get_or wanted at before
-wanted-inside wanted at h = inside wanted at 0 before h
+pub printed-same : (bytes wanted : List ℕ) → split_same bytes wanted ≡ same_printed bytes wanted
+unfolding split_same same_printed agrees
+printed-same [] wanted = refl
+printed-same (x ∷ xs) [] = ap (λ (b : Bool). eqb x before && b) (printed-same xs [] ∙ sym (agrees-on (λ k. before) 0 xs))
+printed-same (x ∷ xs) (y ∷ ys) = ap (λ (b : Bool). eqb x y && b) (printed-same xs ys ∙ sym (agrees-on (λ k. get_or (y ∷ ys) k before) 0 xs))
+
+starts-same : (bytes wanted : List ℕ) (n : ℕ) → n ≡ min (length wanted) (length bytes) → (pointwise eqb (take n bytes) (take (length (take n bytes)) wanted) && list_all (λ x. x == before) (drop n bytes)) ≡ split_same bytes wanted
+unfolding split_same
+starts-same [] wanted n e = let z : n ≡ 0 = omega arith in rw z
+starts-same (x ∷ xs) [] n e =
+    let z : n ≡ 0 = omega arith in
+    rw z (ap (λ (b : Bool). eqb x before && b) (starts-same xs [] 0 (omega arith)))
+starts-same (x ∷ xs) (y ∷ ys) zero e = absurd (omega arith)
+starts-same (x ∷ xs) (y ∷ ys) (suc m) e = and_assoc (eqb x y) (pointwise eqb (take m xs) (take (length (take m xs)) ys)) (list_all (λ z. z == before) (drop m xs)) ∙ ap (λ (b : Bool). eqb x y && b) (starts-same xs ys m (omega arith))
+
+pub same-start : (bytes wanted a b : List ℕ) (n : ℕ) (s : Bool) → n ≡ min (length wanted) (length bytes) → a ≡ take n bytes → b ≡ drop n bytes → s ≡ starts_with eqb wanted a → (s && list_all (λ x. x == before) b) ≡ same_printed bytes wanted
+same-start bytes wanted a b n s m e f g = rw (g, e, f) (starts-same bytes wanted n m ∙ printed-same bytes wanted)
 
 pub film-record : (r film wanted output new : List ℕ) (n m printed : ℕ) (same : Bool) (t t₁ t₂ t₃ : Tally) → t₃ ≡ comparing same t₂ → t₂ ≡ comparing (eqb printed m) t₁ → t₁ ≡ recorded t → same ≡ same_printed new wanted → Page film output new printed → output ≡ untouched → film ≡ part_of r 8 n → wanted ≡ part_of r (8 + n) m → n ≡ number_at r 0 → m ≡ number_at r 4 → t₃ ≡ film_replayed r t
 unfolding film_replayed film_in wanted_in printed_over
@@ -32,5 +53,3 @@ film-record r film wanted output new n m printed same t t₁ t₂ t₃ p q e s g
     let f : printed ≡ length (listing film) = g.prints.count in
     let l = g.prints.printed in
     cc
-
-pub ruleset films = (wanted-past, wanted-inside, rules)

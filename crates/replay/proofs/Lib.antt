@@ -1,6 +1,4 @@
-pub mod ByteLaws
 pub mod CheckLaws
-pub mod FileLaws
 pub mod FilmLaws
 pub mod FrontLaws
 pub mod ListLaws

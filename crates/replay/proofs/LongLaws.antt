@@ -1,20 +1,21 @@
 -- Calls with a long sheet or a long text.
-use mathlib.Core.Path.{◌≡◌, refl, sym, ◌∙◌}
-use mathlib.Core.Bool.{Bool, ◌&&◌}
+use mathlib.Core.Path.{◌≡◌, refl, sym, ap, subst, ◌∙◌}
 use mathlib.Core.List.{List}
 use Prim.Native.Nat.{ℕ}
 use borrow.Author.Rules.{rules}
 use borrow.Author.Tests.{eq-eqb, ne_eqb}
-use lib.Dec.{eqb, leb}
-use lib.ListN.{length}
+use lib.Dec.{leb}
+use lib.ListN.{length, length-replicate}
+use Rattle.replay.specs.File.{Adds}
 use Rattle.leaves.specs.Text.Part.{part_of}
 use Rattle.replay.specs.declared.tally.Tally.{Tally}
 use Rattle.replay.specs.Bytes.{number_at, long_at}
-use Rattle.replay.specs.Tally.{recorded, comparing}
-use Rattle.replay.specs.Words.{first_of, same_words, Gives}
-use Rattle.replay.specs.Front.{answered_of}
-use Rattle.replay.specs.Checks.{before}
-use Rattle.replay.specs.Long.{break_word, long_words, unfilled, zeros, untouched, call_of, call_replayed}
+use Rattle.replay.specs.Tally.{recorded}
+use Rattle.replay.specs.Words.{first_of}
+use Rattle.std.specs.Prelude.{Option}
+use Rattle.replay.specs.declared.front.Function.{Function}
+use Rattle.replay.specs.Front.{function_of, call_compared}
+use Rattle.replay.specs.Long.{break_word, breaks_of, long_words, unfilled, zeros, untouched, call_replayed, long_replayed}
 use Rattle.std.proofs.lemmas.Result.{IfOk-weaker}
 use Rattle.std.specs.Prelude.{Result, Vec, IfOk, replicate}
 
@@ -30,12 +31,9 @@ pub break-rest : (field : ℕ) → (field ≡ 0 → ⊥) → (field ≡ 1 → �
 unfolding break_word
 break-rest field d e = rw (ne_eqb field 0 d, ne_eqb field 1 e)
 
-pub call-record : (r sheet text front seen lent left zeros : List ℕ) (function n k m z found answer : ℕ) (same : Bool) (t t₁ t₂ t₃ : Tally) → t₃ ≡ comparing same t₂ → t₂ ≡ comparing (leb n (length sheet) && eqb found answer) t₁ → t₁ ≡ recorded t → same ≡ same_words left zeros before → zeros ≡ part_of text 0 z → Gives (answered_of function front seen lent m) found left → lent ≡ untouched → front ≡ first_of sheet n → seen ≡ part_of text 0 k → function ≡ number_at r 0 → n ≡ number_at r 4 → k ≡ number_at r 8 → m ≡ number_at r 12 → z ≡ number_at r 16 → answer ≡ long_at r 20 → t₃ ≡ call_replayed r sheet text t
-unfolding call_replayed call_of
-call-record r sheet text front seen lent left zeros function n k m z found answer same t t₁ t₂ t₃ p q e s a g b c d x₀ x₄ x₈ x₁₂ x₁₆ x₂₀ =
-    let f : found ≡ (answered_of function front seen lent m).0 = g.first in
-    let l : left ≡ (answered_of function front seen lent m).1 = g.second in
-    cc
+pub call-record : (r sheet text front seen lent zeros : List ℕ) (f : Option Function) (function n k m z answer : ℕ) (t t₁ t₂ : Tally) → t₂ ≡ call_compared f front seen m lent (leb n (length sheet)) answer zeros t₁ → t₁ ≡ recorded t → zeros ≡ part_of text 0 z → f ≡ function_of function → lent ≡ untouched → front ≡ first_of sheet n → seen ≡ part_of text 0 k → function ≡ number_at r 0 → n ≡ number_at r 4 → k ≡ number_at r 8 → m ≡ number_at r 12 → z ≡ number_at r 16 → answer ≡ long_at r 20 → t₂ ≡ call_replayed r sheet text t
+unfolding call_replayed
+call-record r sheet text front seen lent zeros f function n k m z answer t t₁ t₂ p e a g b c d x₀ x₄ x₈ x₁₂ x₁₆ x₂₀ = cc
 
 -- A vector that is made of n zeros. It is stated of every n, so that no list of that length is computed.
 pub all-zeros : {A E : Type 0} (r : Result (Vec ℕ A) E) (n : ℕ) (whole : List ℕ) → whole ≡ replicate n 0 → IfOk r (λ v. ((y : ℕ) → y ≡ 0 → y ≡ 0) → v.items ≡ replicate n 0) → IfOk r (λ v. v.items ≡ whole)
@@ -48,5 +46,19 @@ unfilled-zeros = refl
 pub text-zeros : zeros ≡ replicate 16777217 0
 unfolding zeros
 text-zeros = refl
+
+-- stated of every n, so that no list of that length is computed
+as_long : (n : ℕ) (old : List ℕ) → old ≡ replicate n 0 → length old ≡ n
+as_long n old e = ap length e ∙ length-replicate n 0
+
+unfilled-long : (old : List ℕ) → old ≡ unfilled → length old ≡ long_words
+unfolding unfilled
+unfilled-long old e = as_long long_words old e
+
+-- the long sheet is filled in its whole length
+pub add-calls : (old sheet text : List ℕ) (total t : Tally) → Adds (λ r u. call_replayed r sheet text u) total t → sheet ≡ breaks_of (length old) → old ≡ unfilled → text ≡ zeros → Adds long_replayed total t
+add-calls old sheet text total t h b o z =
+    let e : sheet ≡ breaks_of long_words = b ∙ ap breaks_of (unfilled-long old o) in
+    subst (λ (s : List ℕ). Adds (λ r u. call_replayed r s zeros u) total t) e (subst (λ (s : List ℕ). Adds (λ r u. call_replayed r sheet s u) total t) z h)
 
 pub ruleset longs = (break-kind, break-level, break-rest, rules)

@@ -1,29 +1,32 @@
 -- Sums of counts, and the differences that a comparison adds.
-use mathlib.Core.Path.{◌≡◌}
-use mathlib.Core.Bool.{Bool, true, false}
-use Prim.Native.Nat.{ℕ, ◌+◌, ◌≤◌, ◌<◌}
-use borrow.Author.Rules.{rules}
-use borrow.Author.Tests.{le-leb, lt-leb}
+use mathlib.Core.Path.{◌≡◌, refl}
+use mathlib.Core.Bool.{Bool, true, false, not}
+use Prim.Native.Nat.{ℕ, max, ◌+◌, ◌≤◌, ◌<◌}
+use native.Mathlib.Omega.{arith}
+use borrow.Author.Tests.{le-leb, lt-leb, leb-false}
+use lib.Dec.{leb}
+use mir.Val.{bool_byte}
 use Rattle.replay.specs.Tally.{most, sum_of, differences_of}
 
-pub sum_first : (a b : ℕ) → most ≤ a → most ≡ sum_of a b
+pub sum-plain : (a b : ℕ) → max a b < most → a + b ≡ sum_of a b
 unfolding sum_of
-sum_first a b h = rw (le-leb most a h)
+sum-plain a b h =
+    let f : a < most = omega arith in
+    let g : b < most = omega arith in
+    rw (lt-leb most a f, lt-leb most b g)
 
-pub sum-second : (a b : ℕ) → a < most → most ≤ b → most ≡ sum_of a b
+pub sum-capped : (a b : ℕ) → most ≤ max a b → most ≡ sum_of a b
 unfolding sum_of
-sum-second a b g h = rw (lt-leb most a g, le-leb most b h)
+sum-capped a b h = go (leb most a) refl
+  where
+    go : (c : Bool) → leb most a ≡ c → most ≡ sum_of a b
+    go true e = rw e
+    go false e =
+        let f : a < most = leb-false most a e in
+        let g : most ≤ b = omega arith in
+        rw (e, le-leb most b g)
 
-pub sum-plain : (a b : ℕ) → a < most → b < most → a + b ≡ sum_of a b
-unfolding sum_of
-sum-plain a b g h = rw (lt-leb most a g, lt-leb most b h)
-
-pub differs_none : (same : Bool) → same ≡ true → 0 ≡ differences_of same
+pub differs : (same : Bool) → bool_byte (not same) ≡ differences_of same
 unfolding differences_of
-differs_none same e = rw e
-
-pub differs-one : (same : Bool) → same ≡ false → 1 ≡ differences_of same
-unfolding differences_of
-differs-one same e = rw e
-
-pub ruleset tallies = (sum_first, sum-second, sum-plain, differs_none, differs-one, rules)
+differs true = refl
+differs false = refl

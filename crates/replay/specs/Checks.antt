@@ -1,16 +1,12 @@
 -- Stored checks and settings.
-use Rattle.std.specs.Prelude.{ℕ, ◌+◌, ◌*◌, Bool, ◌&&◌, List, eqb, leb, replicate}
+use Rattle.std.specs.Prelude.{ℕ, ◌+◌, ◌*◌, Bool, ◌&&◌, List, Some, leb, replicate}
 use Rattle.leaves.specs.Text.Part.{part_of}
 use Rattle.replay.specs.declared.tally.Tally.{Tally}
 use Rattle.replay.specs.Bytes.{pair_at, long_at}
-use Rattle.replay.specs.Tally.{recorded, comparing}
-use Rattle.replay.specs.Words.{same_words}
+use Rattle.replay.specs.Tally.{recorded}
 use Rattle.replay.specs.Sheets.{sheet_in}
-use Rattle.replay.specs.Front.{the_check, the_machine, answered_of}
-
--- every word of the report and every mark before the calls
-abbrev pub before : ℕ
-before = 0xA5A5A5A5
+use Rattle.replay.specs.declared.front.Function.TheVariants.{Check, Set}
+use Rattle.replay.specs.Front.{before, call_compared}
 
 -- how many bytes the head has
 abbrev pub check_head : ℕ
@@ -36,25 +32,15 @@ fits_of r =
     && leb (pair_at r 8) (pair_at r 10)
     && leb (pair_at r 10) most_check_marks
 
--- the check's answer, and the report after it
-abbrev pub check_of : List ℕ → List ℕ → List ℕ → ℕ × List ℕ
-check_of r w bytes = answered_of the_check w bytes (replicate most_check_report before) (pair_at r 6)
-
 -- the check's answer is compared, and every word of the report: it is the list's, and as before behind the list
 unfoldable pub check_replayed : List ℕ → List ℕ → List ℕ → List ℕ → Tally → Tally
 check_replayed r w bytes list t =
-    comparing (same_words (check_of r w bytes).1 list before)
-    (comparing (fits_of r && eqb (check_of r w bytes).0 (long_at r 12)) t)
-
--- the machine's answer, and the marks after it
-abbrev pub set_of : List ℕ → List ℕ → List ℕ → ℕ × List ℕ
-set_of r w bytes = answered_of the_machine w bytes (replicate most_check_marks before) (pair_at r 10)
+    call_compared (Some Check) w bytes (pair_at r 6) (replicate most_check_report before) (fits_of r) (long_at r 12) list t
 
 -- the machine's answer is compared, and every mark: it is the one that is stored, and as before behind those
 unfoldable pub set_replayed : List ℕ → List ℕ → List ℕ → List ℕ → Tally → Tally
 set_replayed r w bytes written t =
-    comparing (same_words (set_of r w bytes).1 written before)
-    (comparing (fits_of r && eqb (set_of r w bytes).0 (long_at r 20)) t)
+    call_compared (Some Set) w bytes (pair_at r 10) (replicate most_check_marks before) (fits_of r) (long_at r 20) written t
 
 -- the sheet of a record, its text, the list and the marks that are written, one behind the other
 unfoldable pub sheet_of : List ℕ → List ℕ

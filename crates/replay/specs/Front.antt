@@ -1,9 +1,18 @@
--- The exported functions by number, each lent the front of some words as its report or its marks.
-use Rattle.std.specs.Prelude.{ℕ, ◌+◌, ◌*◌, ◌^◌, List, ◌++◌, eqb, ltb, length, take, drop}
+-- The exported functions, each lent the front of some words as its report or its marks.
+use Rattle.std.specs.Prelude.{ℕ, ◌+◌, ◌*◌, ◌^◌, Bool, ◌&&◌, List, ◌++◌, Option, Some, None, eqb, ltb, length, take, drop}
 use Rattle.leaves.specs.Text.Lists.{when◌then◌else◌}
 use Rattle.blocks.specs.Check.{outcome}
 use Rattle.leaves.specs.Refusal.Verdict.{Answer}
 use Rattle.setter.specs.Setting.{setting_of}
+use Rattle.replay.specs.declared.front.Function.{Function}
+use Rattle.replay.specs.declared.front.Function.TheVariants.{Check, Set}
+use Rattle.replay.specs.declared.tally.Tally.{Tally}
+use Rattle.replay.specs.Tally.{comparing}
+use Rattle.replay.specs.Words.{same_words}
+
+-- every word that is lent, before a call
+abbrev pub before : ℕ
+before = 0xA5A5A5A5
 
 -- what neither function ever answers
 abbrev pub no_answer : ℕ
@@ -20,20 +29,26 @@ the_check = 0
 abbrev pub the_machine : ℕ
 the_machine = 1
 
--- the answer of a function for a sheet, its text and the words that it is lent, and those words after it. Where neither
--- function has the number: no answer, and the words as they were.
-unfoldable pub called_of : ℕ → List ℕ → List ℕ → List ℕ → ℕ × List ℕ
-called_of function w bytes lent =
-    when eqb function the_check
-    then (packed (outcome w bytes lent).0, (outcome w bytes lent).1)
-    else when eqb function the_machine
-    then (packed (setting_of w bytes lent).0, (setting_of w bytes lent).1)
-    else (no_answer, lent)
+-- the function that has a number, if there is one
+unfoldable pub function_of : ℕ → Option Function
+function_of n = when eqb n the_check then Some Check else when eqb n the_machine then Some Set else None
 
--- the same where the first m words are lent, and those behind them stay. Where there are fewer: no answer, and the
--- words as they were.
-unfoldable pub answered_of : ℕ → List ℕ → List ℕ → List ℕ → ℕ → ℕ × List ℕ
-answered_of function w bytes lent m =
+-- the answer of a function for a sheet, its text and the words that it is lent, and those words after it
+unfoldable pub called_of : Function → List ℕ → List ℕ → List ℕ → ℕ × List ℕ
+called_of Check w bytes lent = (packed (outcome w bytes lent).0, (outcome w bytes lent).1)
+called_of Set w bytes lent = (packed (setting_of w bytes lent).0, (setting_of w bytes lent).1)
+
+-- the same where the first m words are lent, and those behind them stay. Where there are fewer, or no function: no
+-- answer, and the words as they were.
+unfoldable pub answered_of : Option Function → List ℕ → List ℕ → List ℕ → ℕ → ℕ × List ℕ
+answered_of None w bytes lent m = (no_answer, lent)
+answered_of (Some function) w bytes lent m =
     when ltb (length lent) m
     then (no_answer, lent)
     else ((called_of function w bytes (take m lent)).0, (called_of function w bytes (take m lent)).1 ++ drop m lent)
+
+-- the answer is compared, where the call fits, and every word: it is the stored one, and as before behind those
+unfoldable pub call_compared : Option Function → List ℕ → List ℕ → ℕ → List ℕ → Bool → ℕ → List ℕ → Tally → Tally
+call_compared function w bytes m lent fits answer stored t =
+    comparing (same_words (answered_of function w bytes lent m).1 stored before)
+    (comparing (fits && eqb (answered_of function w bytes lent m).0 answer) t)

@@ -2,7 +2,6 @@ pub mod Bytes
 pub mod Checks
 pub mod File
 pub mod Films
-pub mod Format
 pub mod Front
 pub mod Lists
 pub mod Long

@@ -1,15 +1,14 @@
 -- Stored calls with a long sheet or a long text.
-use Rattle.std.specs.Prelude.{ℕ, ◌%◌, ◌&&◌, List, eqb, leb, length, replicate}
+use Rattle.std.specs.Prelude.{ℕ, ◌%◌, List, eqb, leb, length, replicate}
 use Rattle.leaves.specs.Text.Lists.{when◌then◌else◌}
 use Rattle.leaves.specs.Text.Part.{part_of}
 use Rattle.leaves.specs.Sheet.Kinds.{thematic_break}
 use Rattle.leaves.specs.Sheet.Records.{record_words}
 use Rattle.replay.specs.declared.tally.Tally.{Tally}
 use Rattle.replay.specs.Bytes.{number_at, long_at}
-use Rattle.replay.specs.Tally.{recorded, comparing}
-use Rattle.replay.specs.Words.{up_to, first_of, same_words}
-use Rattle.replay.specs.Front.{answered_of}
-use Rattle.replay.specs.Checks.{before}
+use Rattle.replay.specs.Tally.{recorded}
+use Rattle.replay.specs.Words.{up_to, first_of}
+use Rattle.replay.specs.Front.{before, function_of, call_compared}
 
 -- a word of a thematic break at level 1, by its field: the kind, the level, and 0 for each field behind them
 unfoldable pub break_word : ℕ → ℕ
@@ -35,19 +34,20 @@ zeros = replicate 16777217 0
 unfoldable pub untouched : List ℕ
 untouched = replicate 65544 before
 
--- the answer of a call, and the lent words after it. The sheet and the text are the fronts of the long ones; the record
--- has their lengths.
-unfoldable pub call_of : List ℕ → List ℕ → List ℕ → ℕ × List ℕ
-call_of r sheet text =
-    answered_of (number_at r 0)
-    (first_of sheet (number_at r 4))
-    (part_of text 0 (number_at r 8))
-    untouched
-    (number_at r 12)
-
--- the answer is compared, and every lent word: as many bytes as the record says are the text's (zeros), and every word
--- behind them is as before
+-- The answer is compared, and every lent word: as many bytes as the record says are the text's (zeros), and every word
+-- behind them is as before. The sheet and the text are the fronts of the long ones; the record has their lengths.
 unfoldable pub call_replayed : List ℕ → List ℕ → List ℕ → Tally → Tally
 call_replayed r sheet text t =
-    comparing (same_words (call_of r sheet text).1 (part_of text 0 (number_at r 16)) before)
-    (comparing (leb (number_at r 4) (length sheet) && eqb (call_of r sheet text).0 (long_at r 20)) (recorded t))
+    call_compared (function_of (number_at r 0))
+    (first_of sheet (number_at r 4))
+    (part_of text 0 (number_at r 8))
+    (number_at r 12)
+    untouched
+    (leb (number_at r 4) (length sheet))
+    (long_at r 20)
+    (part_of text 0 (number_at r 16))
+    (recorded t)
+
+-- the tally after a call with the long sheet, filled in its whole length, and the long text
+abbrev pub long_replayed : List ℕ → Tally → Tally
+long_replayed r t = call_replayed r (breaks_of long_words) zeros t

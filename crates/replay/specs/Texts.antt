@@ -1,5 +1,5 @@
 -- Stored texts, each with the fourteen answers of the functions that take a text.
-use Rattle.std.specs.Prelude.{ℕ, ◌/◌, ◌%◌, Bool, List, eqb}
+use Rattle.std.specs.Prelude.{ℕ, suc, ◌/◌, ◌%◌, ◌^◌, Bool, List, [], ◌∷◌, eqb}
 use Rattle.std.specs.Bool.{beq}
 use Rattle.leaves.specs.Text.Lists.{when◌then◌else◌}
 use Rattle.leaves.specs.Text.Fence.{holds_fence_line}
@@ -17,36 +17,38 @@ use Rattle.replay.specs.declared.tally.Tally.{Tally}
 use Rattle.replay.specs.Bytes.{byte_at, number_at}
 use Rattle.replay.specs.Tally.{recorded, comparing}
 
--- the bit of this weight is set
+-- bit k is set
 unfoldable pub is_set : ℕ → ℕ → Bool
-is_set bits weight = eqb (bits / weight % 2) 1
+is_set bits k = eqb (bits / 2 ^ k % 2) 1
 
--- an answer is compared with its bit of `bits` where that bit is set in `mask`
+-- an answer is compared with bit k of `bits` where that bit is set in `mask`
 unfoldable pub compared_bit : ℕ → ℕ → ℕ → Bool → Tally → Tally
-compared_bit mask bits weight answer t =
-    when is_set mask weight then comparing (beq answer (is_set bits weight)) t else t
+compared_bit mask bits k answer t = when is_set mask k then comparing (beq answer (is_set bits k)) t else t
 
--- the first seven answers are compared, each with its bit
-unfoldable pub first_seven : List ℕ → ℕ → ℕ → Tally → Tally
-first_seven s mask bits t =
-    compared_bit mask bits 0x40 (holds_fence_line Yaml s)
-    (compared_bit mask bits 0x20 (has_blank_edge_line s)
-    (compared_bit mask bits 0x10 (is_blank s)
-    (compared_bit mask bits 0x8 (holds_line_ending s)
-    (compared_bit mask bits 0x4 (ends_with_white s)
-    (compared_bit mask bits 0x2 (starts_with_white s)
-    (compared_bit mask bits 0x1 (is_utf8 s) t))))))
+-- each answer is compared with its bit; the first answer's bit is bit k
+unfoldable pub compared_bits : List Bool → ℕ → ℕ → ℕ → Tally → Tally
+compared_bits [] k mask bits t = t
+compared_bits (answer ∷ answers) k mask bits t =
+    compared_bits answers (suc k) mask bits (compared_bit mask bits k answer t)
 
--- the last seven answers are compared
-unfoldable pub last_seven : List ℕ → ℕ → ℕ → Tally → Tally
-last_seven s mask bits t =
-    compared_bit mask bits 0x2000 (holds_backtick_dollar s)
-    (compared_bit mask bits 0x1000 (is_blank_identifier s)
-    (compared_bit mask bits 0x800 (is_attribute_name s)
-    (compared_bit mask bits 0x400 (is_directive_name s)
-    (compared_bit mask bits 0x200 (has_odd_escaped_pipe s)
-    (compared_bit mask bits 0x100 (is_alert_title s)
-    (compared_bit mask bits 0x80 (holds_fence_line Toml s) t))))))
+-- the answers for a text, that of bit 0 first
+unfoldable pub answers_for : List ℕ → List Bool
+answers_for s =
+    is_utf8 s
+    ∷ starts_with_white s
+    ∷ ends_with_white s
+    ∷ holds_line_ending s
+    ∷ is_blank s
+    ∷ has_blank_edge_line s
+    ∷ holds_fence_line Yaml s
+    ∷ holds_fence_line Toml s
+    ∷ is_alert_title s
+    ∷ has_odd_escaped_pipe s
+    ∷ is_directive_name s
+    ∷ is_attribute_name s
+    ∷ is_blank_identifier s
+    ∷ holds_backtick_dollar s
+    ∷ []
 
 -- the text of a record, whose length is its first byte
 abbrev pub text_of : List ℕ → List ℕ
@@ -61,6 +63,4 @@ answers_of r = number_at r 1 / 0x10000
 
 -- the tally after a record
 unfoldable pub text_replayed : List ℕ → Tally → Tally
-text_replayed r t =
-    last_seven (text_of r) (mask_of r) (answers_of r)
-    (first_seven (text_of r) (mask_of r) (answers_of r) (recorded t))
+text_replayed r t = compared_bits (answers_for (text_of r)) 0 (mask_of r) (answers_of r) (recorded t)

@@ -5,43 +5,33 @@ ghost use Rattle.replay.specs.Bytes.{byte_at, pair_at, number_at, long_at};
 pub fn byte(s: &[u8], at: usize) -> u8
     ensures { result ≡ byte_at s.now at }
 {
-    if at < s.len() { s[at] } else { 0 }
-}
-
-fn wide(b: u8) -> u32
-    ensures { (result ≡ b) × (result < 256) }
-{
-    b as u32
-}
-
-fn size(b: u8) -> usize
-    ensures { (result ≡ b) × (result < 256) }
-{
-    b as usize
+    s.get(at).copied().unwrap_or(0)
 }
 
 // A byte, as a size.
 pub fn small(s: &[u8], at: usize) -> usize
     ensures { (result ≡ byte_at s.now at) × (result ≤ 255) }
 {
-    size(byte(s, at))
+    usize::from(byte(s, at))
 }
 
 pub fn pair(s: &[u8], at: usize) -> usize
     requires { at < 256 }
     ensures { (result ≡ pair_at s.now at) × (result ≤ 65535) }
 {
-    small(s, at) + small(s, at + 1) * 0x100
+    usize::from(u16::from_le_bytes([byte(s, at), byte(s, at + 1)]))
 }
 
 pub fn number(s: &[u8], at: usize) -> u32
     requires { at < 2 ^ 63 }
     ensures { result ≡ number_at s.now at }
 {
-    wide(byte(s, at))
-        + wide(byte(s, at + 1)) * 0x100
-        + wide(byte(s, at + 2)) * 0x1_0000
-        + wide(byte(s, at + 3)) * 0x100_0000
+    u32::from_le_bytes([
+        byte(s, at),
+        byte(s, at + 1),
+        byte(s, at + 2),
+        byte(s, at + 3),
+    ])
 }
 
 // A number of four bytes, as a size.

@@ -1,15 +1,18 @@
 // A stored check and setting. Its head has six counts (words of the sheet, bytes of the text, words of the list, words
 // of the report, marks that are written, marks) and two answers (the check's, the setting machine's). Behind the head
 // stand the sheet, the text, the list and the marks that are written.
-ghost use Rattle.std.specs.Prelude.{◌≡◌, ◌≤◌};
-ghost use Rattle.replay.specs.Checks.{fits_of, check_replayed, set_replayed, checks_replayed};
+ghost use Rattle.std.specs.Prelude.{◌≡◌, ◌+◌, ◌*◌};
+ghost use Rattle.replay.specs.Bytes.{pair_at};
+ghost use Rattle.replay.specs.Checks.{fits_of, checks_replayed};
 
+use crate::format::Format;
+use crate::front::{BEFORE, Call, Function};
 use crate::tally::Tally;
-use crate::{bytes, front, words};
+use crate::{bytes, words};
 use leaves::text::part::part;
 
 // How many bytes the head has.
-pub const HEAD: usize = 28;
+const HEAD: usize = 28;
 
 // The most words of a sheet.
 const SHEET: usize = 768;
@@ -19,16 +22,6 @@ const REPORT: usize = 512;
 
 // The most marks.
 const MARKS: usize = 72;
-
-// Every word of the report and every mark before the calls.
-const BEFORE: u32 = 0xA5A5_A5A5;
-
-// How many bytes stand behind the head.
-pub fn behind(r: &[u8]) -> usize
-    ensures { result ≤ 851955 }
-{
-    bytes::pair(r, 0) * 4 + bytes::pair(r, 2) + bytes::pair(r, 4) * 4 + bytes::pair(r, 8) * 4
-}
 
 // Whether the sheet, the report and the marks are within their limits, the list is no longer than the report, and no
 // more marks are written than there are.
@@ -44,45 +37,52 @@ fn fits(r: &[u8]) -> bool
         & (marks <= MARKS)
 }
 
-// Compares the check's answer, and each word of the report. Every word behind the list must be as it was, and so must
-// every word past the report's end.
-fn replay_check(r: &[u8], sheet: &[u32], text: &[u8], list: &[u8], tally: Tally) -> Tally
-    ensures { result ≡ check_replayed r.now sheet.now text.now
-        list.now tally }
-{
-    let mut report = [BEFORE; REPORT];
-    let found = front::answer(front::CHECK, sheet, text, &mut report, bytes::pair(r, 6));
-    tally
-        .compare(fits(r) & (found == bytes::long_number(r, 12) as u64))
-        .compare(words::same(&report, list, BEFORE))
-}
+#[derive(Clone, Copy)]
+pub struct Checks;
 
-// Compares the machine's answer, and each mark. The marks of records that it does not open must be as they were, and so
-// must every word past the marks.
-fn replay_set(r: &[u8], sheet: &[u32], text: &[u8], written: &[u8], tally: Tally) -> Tally
-    ensures { result ≡ set_replayed r.now sheet.now text.now
-        written.now tally }
-{
-    let mut marks = [BEFORE; MARKS];
-    let found = front::answer(front::SET, sheet, text, &mut marks, bytes::pair(r, 10));
-    tally
-        .compare(fits(r) & (found == bytes::long_number(r, 20) as u64))
-        .compare(words::same(&marks, written, BEFORE))
-}
+impl Format for Checks {
+    ghost behind_of = { λ head. pair_at head 0 * 4 + pair_at head 2 + pair_at head 4 * 4 + pair_at head 8 * 4 };
 
-// Replays both calls with the same sheet and text.
-pub fn replay_record(r: &[u8], tally: Tally) -> Tally
-    ensures { result ≡ checks_replayed r.now tally }
-{
-    let mut sheet = [0u32; SHEET];
-    let n = bytes::pair(r, 0);
-    let bytes = bytes::pair(r, 2);
-    let listed = bytes::pair(r, 4) * 4;
-    words::fill(&mut sheet, part(r, HEAD, n * 4));
-    let text = part(r, HEAD + n * 4, bytes);
-    let list = part(r, HEAD + n * 4 + bytes, listed);
-    let written = part(r, HEAD + n * 4 + bytes + listed, bytes::pair(r, 8) * 4);
-    let sheet = words::first(&sheet, n);
-    let checked = replay_check(r, sheet, text, list, tally.record());
-    replay_set(r, sheet, text, written, checked)
+    ghost replayed = { λ _ r t. checks_replayed r t };
+
+    fn head(&self) -> usize {
+        HEAD
+    }
+
+    fn behind(&self, head: &[u8]) -> usize {
+        bytes::pair(head, 0) * 4
+            + bytes::pair(head, 2)
+            + bytes::pair(head, 4) * 4
+            + bytes::pair(head, 8) * 4
+    }
+
+    // Replays both calls with the same sheet and text.
+    fn replay(&self, r: &[u8], tally: Tally) -> Tally {
+        let mut sheet = [0u32; SHEET];
+        let n = bytes::pair(r, 0);
+        let bytes = bytes::pair(r, 2);
+        let listed = bytes::pair(r, 4) * 4;
+        words::fill(&mut sheet, part(r, HEAD, n * 4));
+        let text = part(r, HEAD + n * 4, bytes);
+        let list = part(r, HEAD + n * 4 + bytes, listed);
+        let written = part(r, HEAD + n * 4 + bytes + listed, bytes::pair(r, 8) * 4);
+        let check = Call {
+            function: Some(Function::Check),
+            sheet: words::first(&sheet, n),
+            text,
+            lent: bytes::pair(r, 6),
+        };
+        let set = Call {
+            function: Some(Function::Set),
+            lent: bytes::pair(r, 10),
+            ..check
+        };
+        let mut report = [BEFORE; REPORT];
+        let mut marks = [BEFORE; MARKS];
+        let fits = fits(r);
+        let checked = bytes::long_number(r, 12) as u64;
+        let tally = check.compare(&mut report, fits, checked, list, tally.record());
+        let machine = bytes::long_number(r, 20) as u64;
+        set.compare(&mut marks, fits, machine, written, tally)
+    }
 }

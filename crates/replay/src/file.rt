@@ -1,88 +1,92 @@
 // A file of stored answers, replayed record by record.
-ghost use Rattle.std.specs.Prelude.{◌≡◌};
-ghost use Rattle.replay.specs.File.{Stepped, Found};
+ghost use Rattle.std.specs.Prelude.{◌≡◌, ◌≤◌, IfOk, IfSome, length};
+ghost use Rattle.replay.specs.File.{Found};
 ghost use Rattle.replay.specs.Tally.{together};
 
 use crate::films;
-use crate::format::{Format, behind, head_of, replay_record};
+use crate::format::Format;
 use crate::line::write_line;
-use crate::piece::{Got, Step, last, next, read_at};
 use crate::tally::Tally;
-use leaves::text::part::part;
-use std::fs;
+use setter::listing::input::read_full;
 use std::io::Read;
 use std::rt::Files;
+use std::{fs, io};
 
 // Far more records than any file has.
 const RECORDS: usize = 0x10_0000;
+
+// Why a record is not replayed: the file ends inside it, there is no room for it, or it cannot be read.
+#[derive(Clone, Copy, Debug, PartialEq, Eq)]
+enum Broken {
+    CutOff,
+    TooLong,
+    Unreadable,
+}
+
+impl From<io::Error> for Broken {
+    fn from(_error: io::Error) -> Broken {
+        Broken::Unreadable
+    }
+}
 
 // Room for a record: a film's is the longest. The function promises nothing, so that no proof computes the array.
 fn room() -> [u8; films::MOST] {
     [0u8; films::MOST]
 }
 
-// Reads what stands behind the head of a record, and replays the record. A file that ends inside a record, or has one
-// that is too long, counts as a difference.
-fn replay_behind<R: Read>(
+// Reads the next record into the front of the buffer, and answers how many bytes it has; None at the file's end.
+fn read_record<R: Read, F: Format>(
     file: &mut R,
-    format: Format,
-    buffer: &mut [u8; films::MOST],
-    sheet: &[u32],
-    text: &[u8],
-    tally: Tally,
-) -> Step
-    ensures { Stepped format sheet.now text.now tally result }
+    format: &F,
+    buffer: &mut [u8],
+) -> Result<Option<usize>, Broken>
+    ensures { IfOk result (λ n. IfSome n (λ n. n ≤ length buffer.new)) }
 {
-    let head = head_of(format);
-    let n = behind(format, buffer);
-    match read_at(file, buffer, head, n) {
-        Got::All => next(replay_record(format, part(buffer, 0, head + n), sheet, text, tally)),
-        _ => last(tally.differs()),
+    let head = format.head();
+    if buffer.len() < head {
+        return Err(Broken::TooLong);
     }
+    let read = read_full(file, &mut buffer[..head])?;
+    if read == 0 {
+        return Ok(None);
+    }
+    if read < head {
+        return Err(Broken::CutOff);
+    }
+    let behind = format.behind(&buffer[..head]);
+    let end = head + behind;
+    if buffer.len() < end {
+        return Err(Broken::TooLong);
+    }
+    if read_full(file, &mut buffer[head..end])? < behind {
+        return Err(Broken::CutOff);
+    }
+    Ok(Some(end))
 }
 
-fn replay_next<R: Read>(
-    file: &mut R,
-    format: Format,
-    buffer: &mut [u8; films::MOST],
-    sheet: &[u32],
-    text: &[u8],
-    tally: Tally,
-) -> Step
-    ensures { Stepped format sheet.now text.now tally result }
-{
-    match read_at(file, buffer, 0, head_of(format)) {
-        Got::All => replay_behind(file, format, buffer, sheet, text, tally),
-        Got::Nothing => last(tally),
-        Got::Less => last(tally.differs()),
-    }
-}
-
-// Replays the records of an open file. A file that does not end within RECORDS records counts as a difference.
-fn replay_opened<R: Read>(file: &mut R, format: Format, sheet: &[u32], text: &[u8]) -> Tally
-    ensures { Found format sheet.now text.now result }
+// Replays the records of an open file. A record that cannot be replayed counts as a difference and is the last, and so
+// does a file that does not end within RECORDS records.
+fn replay_opened<R: Read, F: Format>(file: &mut R, format: &F) -> Tally
+    ensures { Found (F.replayed format.now) result }
 {
     let mut buffer = room();
     let mut tally = Tally::none();
-    let mut k: usize = 0;
-    while k < RECORDS {
-        let step = replay_next(file, format, &mut buffer, sheet, text, tally);
-        tally = step.tally;
-        if !step.more {
-            return tally;
+    for _ in 0..RECORDS {
+        match read_record(file, format, &mut buffer) {
+            Ok(Some(n)) => tally = format.replay(&buffer[..n], tally),
+            Ok(None) => return tally,
+            Err(_) => return tally.differs(),
         }
-        k = k + 1;
     }
     tally.differs()
 }
 
-// Answers what is found in a file. A file that could not be opened counts as a difference. Only a file of calls needs
-// the sheet and the text: they are the long ones.
-pub fn replay<R: Read + Drop>(file: Option<R>, format: Format, sheet: &[u32], text: &[u8]) -> Tally
-    ensures { Found format sheet.now text.now result }
+// Answers what is found in a file. A file that could not be opened counts as a difference.
+pub fn replay<R: Read + Drop, F: Format>(file: Option<R>, format: &F) -> Tally
+    ensures { Found (F.replayed format.now) result }
 {
     match file {
-        Some(mut file) => replay_opened(&mut file, format, sheet, text),
+        Some(mut file) => replay_opened(&mut file, format),
         None => Tally::none().differs(),
     }
 }

@@ -1,30 +1,25 @@
 // A stored film: how many bytes it has and how many are printed for it (4 bytes each), the film, and what is printed.
-ghost use Rattle.std.specs.Prelude.{◌≡◌, ◌<◌, ◌^◌, get_or};
+ghost use Rattle.std.specs.Prelude.{◌≡◌, ◌==◌, ◌+◌};
+ghost use Rattle.std.specs.List.{list_all};
+ghost use Rattle.replay.specs.Bytes.{number_at};
 ghost use Rattle.replay.specs.Films.{before, untouched, same_printed, film_replayed};
 
 use crate::bytes;
+use crate::format::Format;
 use crate::tally::Tally;
 use leaves::text::part::part;
+use setter::listing::input::INPUT_BYTES;
 use setter::listing::print::OUTPUT_BYTES;
 use setter::listing::program::list;
 
 // How many bytes stand before the film.
-pub const HEAD: usize = 8;
-
-// One byte more than the largest film has.
-const FILM_BYTES: usize = 84504;
+const HEAD: usize = 8;
 
 // The most bytes of a record: the head, the film, and all that can be printed.
-pub const MOST: usize = HEAD + FILM_BYTES + OUTPUT_BYTES;
+pub const MOST: usize = HEAD + INPUT_BYTES + OUTPUT_BYTES;
 
 // Every byte of the output before a film is listed.
 const BEFORE: u8 = 0xA5;
-
-pub fn behind(r: &[u8]) -> usize
-    ensures { result < 2 ^ 33 }
-{
-    bytes::large(r, 0) + bytes::large(r, 4)
-}
 
 // The output before a film is listed. The proofs of callers do not unfold `untouched`, and so do not compute so long a
 // list.
@@ -34,28 +29,19 @@ fn output() -> [u8; OUTPUT_BYTES]
     [BEFORE; OUTPUT_BYTES]
 }
 
-fn wanted_byte(wanted: &[u8], at: usize) -> u8
-    ensures { result ≡ get_or wanted.now at before }
+// Whether each byte is BEFORE.
+fn is_untouched(bytes: &[u8]) -> bool
+    ensures { result ≡ list_all (λ x. x == before) bytes.now }
 {
-    if at < wanted.len() {
-        wanted[at]
-    } else {
-        BEFORE
-    }
+    bytes.iter().all(|byte| *byte == BEFORE)
 }
 
 // Whether each byte is the one wanted at its place, and BEFORE behind the wanted bytes.
 fn same(bytes: &[u8], wanted: &[u8]) -> bool
     ensures { result ≡ same_printed bytes.now wanted.now }
 {
-    let mut k: usize = 0;
-    while k < bytes.len() {
-        if bytes[k] != wanted_byte(wanted, k) {
-            return false;
-        }
-        k = k + 1;
-    }
-    true
+    let (printed, rest) = bytes.split_at(wanted.len().min(bytes.len()));
+    wanted.starts_with(printed) && is_untouched(rest)
 }
 
 // `same` of the whole output.
@@ -65,17 +51,32 @@ fn same_output(bytes: &[u8; OUTPUT_BYTES], wanted: &[u8]) -> bool
     same(bytes, wanted)
 }
 
-// Compares how many bytes are printed, and each byte of the output. Behind what is printed it must be as it was.
-pub fn replay_film(r: &[u8], tally: Tally) -> Tally
-    ensures { result ≡ film_replayed r.now tally }
-{
-    let n = bytes::large(r, 0);
-    let m = bytes::large(r, 4);
-    let wanted = part(r, HEAD + n, m);
-    let mut bytes = output();
-    let printed = list(part(r, HEAD, n), &mut bytes);
-    tally
-        .record()
-        .compare(printed == m)
-        .compare(same_output(&bytes, wanted))
+#[derive(Clone, Copy)]
+pub struct Films;
+
+impl Format for Films {
+    ghost behind_of = { λ head. number_at head 0 + number_at head 4 };
+
+    ghost replayed = { λ _ r t. film_replayed r t };
+
+    fn head(&self) -> usize {
+        HEAD
+    }
+
+    fn behind(&self, head: &[u8]) -> usize {
+        bytes::large(head, 0) + bytes::large(head, 4)
+    }
+
+    // Compares how many bytes are printed, and each byte of the output. Behind what is printed it must be as it was.
+    fn replay(&self, r: &[u8], tally: Tally) -> Tally {
+        let n = bytes::large(r, 0);
+        let m = bytes::large(r, 4);
+        let wanted = part(r, HEAD + n, m);
+        let mut bytes = output();
+        let printed = list(part(r, HEAD, n), &mut bytes);
+        tally
+            .record()
+            .compare(printed == m)
+            .compare(same_output(&bytes, wanted))
+    }
 }

@@ -1,70 +1,50 @@
-// The formats of the files. A record's length and its replay are left to the module of its format.
-ghost use Rattle.std.specs.Prelude.{◌≡◌, ◌≤◌, ◌<◌, ◌^◌};
-ghost use Rattle.replay.specs.Format.{replayed};
+// The formats of the files: how long a record is, and how it is replayed.
+ghost use Rattle.std.specs.Prelude.{ℕ, ◌≡◌, ◌≤◌, ◌<◌, ◌+◌, ◌*◌, ◌^◌, List};
+ghost use Rattle.replay.specs.declared.tally.Tally.{Tally};
+ghost use Rattle.replay.specs.Bytes.{pair_at};
+ghost use Rattle.replay.specs.Sheets.{sheet_replayed};
 
 use crate::tally::Tally;
-use crate::{checks, films, lists, long, sheets, texts, values};
+use crate::{bytes, sheets};
 
+pub trait Format {
+    // How many bytes stand behind the head of a record.
+    ghost behind_of: { List ℕ → ℕ };
+
+    // The tally after a record.
+    ghost replayed: { Self → List ℕ → Tally → Tally };
+
+    // How many bytes the head of a record has. The head says how long the record is.
+    fn head(&self) -> usize
+        ensures { result ≤ 28 };
+
+    fn behind(&self, head: &[u8]) -> usize
+        ensures exact { result ≡ behind_of head.now }
+        ensures bound { result < 2 ^ 33 };
+
+    // Replays a record.
+    fn replay(&self, r: &[u8], tally: Tally) -> Tally
+        ensures { result ≡ replayed self.now r.now tally };
+}
+
+// Sheets, each with its refusal.
 #[derive(Clone, Copy)]
-pub enum Format {
-    Texts,
-    Pairs,
-    Punctuation,
-    Parts,
-    Sheets,
-    Lists,
-    Checks,
-    Films,
-    Calls,
-}
+pub struct Sheets;
 
-// How many bytes the head of a record has. The head says how long the record is.
-pub fn head_of(format: Format) -> usize
-    ensures { result ≤ 28 }
-{
-    match format {
-        Format::Texts => texts::HEAD,
-        Format::Pairs => values::PAIR,
-        Format::Punctuation => values::PUNCTUATION,
-        Format::Parts => values::PART,
-        Format::Sheets => sheets::HEAD,
-        Format::Lists => lists::HEAD,
-        Format::Checks => checks::HEAD,
-        Format::Films => films::HEAD,
-        Format::Calls => long::BYTES,
+impl Format for Sheets {
+    ghost behind_of = { λ head. pair_at head 0 * 4 + pair_at head 2 };
+
+    ghost replayed = { λ _ r t. sheet_replayed r t };
+
+    fn head(&self) -> usize {
+        sheets::HEAD
     }
-}
 
-// How many bytes stand behind the head.
-pub fn behind(format: Format, r: &[u8]) -> usize
-    ensures { result < 2 ^ 33 }
-{
-    match format {
-        Format::Texts => texts::behind(r),
-        Format::Pairs => values::behind_pair(r),
-        Format::Punctuation => 0,
-        Format::Parts => values::behind_part(r),
-        Format::Sheets => sheets::behind(r),
-        Format::Lists => lists::behind(r),
-        Format::Checks => checks::behind(r),
-        Format::Films => films::behind(r),
-        Format::Calls => 0,
+    fn behind(&self, head: &[u8]) -> usize {
+        bytes::pair(head, 0) * 4 + bytes::pair(head, 2)
     }
-}
 
-// Replays a record. Only a call needs the sheet and the text: they are the long ones.
-pub fn replay_record(format: Format, r: &[u8], sheet: &[u32], text: &[u8], tally: Tally) -> Tally
-    ensures { result ≡ replayed format r.now sheet.now text.now tally }
-{
-    match format {
-        Format::Texts => texts::replay_record(r, tally),
-        Format::Pairs => values::replay_pair(r, tally),
-        Format::Punctuation => values::replay_punctuation(r, tally),
-        Format::Parts => values::replay_part(r, tally),
-        Format::Sheets => sheets::replay_record(r, tally),
-        Format::Lists => lists::replay_record(r, tally),
-        Format::Checks => checks::replay_record(r, tally),
-        Format::Films => films::replay_film(r, tally),
-        Format::Calls => long::replay_call(r, sheet, text, tally),
+    fn replay(&self, r: &[u8], tally: Tally) -> Tally {
+        sheets::replay_record(r, tally)
     }
 }

@@ -1,37 +1,89 @@
-// Calls an exported function by number, and lends it the front of some words as its report or its marks.
-ghost use Rattle.replay.specs.Front.{called_of, answered_of};
+// Calls of the exported functions, each of which is lent the front of some words as its report or its marks.
+ghost use Rattle.std.specs.Prelude.{◌≡◌};
+ghost use Rattle.replay.specs.Front.{function_of, called_of, answered_of, call_compared};
 ghost use Rattle.replay.specs.Words.{Gives};
 
+use crate::tally::Tally;
+use crate::words;
 use setter::exports::{reedsander_check, reedsander_set};
 
-pub const CHECK: usize = 0;
+// An exported function.
+#[derive(Clone, Copy, Debug, PartialEq, Eq)]
+pub enum Function {
+    Check,
+    Set,
+}
 
-pub const SET: usize = 1;
+// Every word that is lent, before a call.
+pub const BEFORE: u32 = 0xA5A5_A5A5;
 
 // What neither function ever answers.
 const NONE: u64 = 0xFFFF_FFFF_FFFF_FFFF;
 
-fn call(function: usize, sheet: &[u32], text: &[u8], lent: &mut [u32]) -> u64
-    ensures { Gives (called_of function sheet.now text.now lent.old)
-        result lent.new }
-{
-    if function == CHECK {
-        return reedsander_check(sheet, text, lent);
+impl Function {
+    // The function that has this number, if there is one.
+    pub fn numbered(number: usize) -> Option<Function>
+        ensures { result ≡ function_of number }
+    {
+        match number {
+            0 => Some(Function::Check),
+            1 => Some(Function::Set),
+            _ => None,
+        }
     }
-    if function == SET {
-        return reedsander_set(sheet, text, lent);
+
+    fn call(self, sheet: &[u32], text: &[u8], lent: &mut [u32]) -> u64
+        ensures { Gives (called_of self sheet.now text.now lent.old) result lent.new }
+    {
+        match self {
+            Function::Check => reedsander_check(sheet, text, lent),
+            Function::Set => reedsander_set(sheet, text, lent),
+        }
     }
-    NONE
 }
 
-// The answer of the function that is lent the first `m` words. NONE where there are fewer words, or where neither
-// function has that number.
-pub fn answer(function: usize, sheet: &[u32], text: &[u8], lent: &mut [u32], m: usize) -> u64
-    ensures { Gives (answered_of function sheet.now text.now lent.old m)
-        result lent.new }
-{
-    if lent.len() < m {
-        return NONE;
+// A call with a sheet and a text, and how many words it is lent.
+#[derive(Clone, Copy)]
+pub struct Call<'a> {
+    pub function: Option<Function>,
+    pub sheet: &'a [u32],
+    pub text: &'a [u8],
+    pub lent: usize,
+}
+
+impl Call<'_> {
+    // The answer of the function that is lent the front of the words. NONE where there are fewer words, or no function.
+    fn answer(&self, words: &mut [u32]) -> u64
+        ensures { Gives (answered_of self.now.function self.now.sheet.now self.now.text.now words.old self.now.lent)
+            result words.new }
+    {
+        match self.function {
+            Some(function) => {
+                if words.len() < self.lent {
+                    return NONE;
+                }
+                function.call(self.sheet, self.text, &mut words[..self.lent])
+            }
+            None => NONE,
+        }
     }
-    call(function, sheet, text, &mut lent[..m])
+
+    // Compares the answer, where the call `fits`, and each of the words: it is the one that is stored, and BEFORE behind
+    // those, also where it was not lent.
+    pub fn compare(
+        &self,
+        words: &mut [u32],
+        fits: bool,
+        answer: u64,
+        stored: &[u8],
+        tally: Tally,
+    ) -> Tally
+        ensures { result ≡ call_compared self.now.function self.now.sheet.now self.now.text.now self.now.lent
+            words.old fits answer stored.now tally }
+    {
+        let found = self.answer(words);
+        tally
+            .compare(fits & (found == answer))
+            .compare(words::same(words, stored, BEFORE))
+    }
 }

@@ -3,9 +3,6 @@ use crate::tally::Tally;
 use std::io;
 
 // A line: the name, records, answers compared, answers that differ.
-pub fn write_line<R: Print>(rt: &R, name: &str, t: Tally) -> io::Result<()> {
-    let records = t.records;
-    let compared = t.compared;
-    let differ = t.differ;
-    println!(rt; "{name} {records} {compared} {differ}")
+pub fn write_line<R: Print>(rt: &R, name: &str, tally: Tally) -> io::Result<()> {
+    println!(rt; "{name} {tally}")
 }

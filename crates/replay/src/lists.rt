@@ -1,8 +1,10 @@
 // Stored sheets of one paragraph, each with the list that the Rust gives for its inlines.
-ghost use Rattle.std.specs.Prelude.{◌≡◌, ◌≤◌};
+ghost use Rattle.std.specs.Prelude.{◌≡◌, ◌+◌, ◌*◌};
+ghost use Rattle.replay.specs.Bytes.{pair_at};
 ghost use Rattle.replay.specs.Lists.{listed_of, list_replayed};
 ghost use Rattle.replay.specs.Words.{Gives};
 
+use crate::format::Format;
 use crate::tally::Tally;
 use crate::{bytes, words};
 use inlines::nodes::validate_inlines;
@@ -14,16 +16,10 @@ use leaves::text::part::part;
 
 // How many bytes stand before a record's words: three counts (words of the sheet, bytes of the text, words of the
 // list).
-pub const HEAD: usize = 6;
+const HEAD: usize = 6;
 
 // The most words of a sheet, and of a list.
 const MOST: usize = 800;
-
-pub fn behind(r: &[u8]) -> usize
-    ensures { result ≤ 589815 }
-{
-    bytes::pair(r, 0) * 4 + bytes::pair(r, 2) + bytes::pair(r, 4) * 4
-}
 
 // Writes the list of the first block's inlines into the report, and answers how many words it has. Where the sheet has
 // no record or is refused, it writes nothing and answers 0.
@@ -46,21 +42,36 @@ fn listed(sheet: &[u32], text: &[u8], report: &mut [u32]) -> usize
     report.tally.words
 }
 
-// Compares the length of the list, and each word of the report. Behind the list each must be 0.
-pub fn replay_record(r: &[u8], tally: Tally) -> Tally
-    ensures { result ≡ list_replayed r.now tally }
-{
-    let mut sheet = [0u32; MOST];
-    let mut report = [0u32; MOST];
-    let n = bytes::pair(r, 0);
-    let bytes = bytes::pair(r, 2);
-    let m = bytes::pair(r, 4);
-    words::fill(&mut sheet, part(r, HEAD, n * 4));
-    let text = part(r, HEAD + n * 4, bytes);
-    let expected = part(r, HEAD + n * 4 + bytes, m * 4);
-    let found = listed(words::first(&sheet, n), text, &mut report);
-    tally
-        .record()
-        .compare((n <= MOST) & (m <= MOST) & (found == m))
-        .compare(words::same(&report, expected, 0))
+#[derive(Clone, Copy)]
+pub struct Lists;
+
+impl Format for Lists {
+    ghost behind_of = { λ head. pair_at head 0 * 4 + pair_at head 2 + pair_at head 4 * 4 };
+
+    ghost replayed = { λ _ r t. list_replayed r t };
+
+    fn head(&self) -> usize {
+        HEAD
+    }
+
+    fn behind(&self, head: &[u8]) -> usize {
+        bytes::pair(head, 0) * 4 + bytes::pair(head, 2) + bytes::pair(head, 4) * 4
+    }
+
+    // Compares the length of the list, and each word of the report. Behind the list each must be 0.
+    fn replay(&self, r: &[u8], tally: Tally) -> Tally {
+        let mut sheet = [0u32; MOST];
+        let mut report = [0u32; MOST];
+        let n = bytes::pair(r, 0);
+        let bytes = bytes::pair(r, 2);
+        let m = bytes::pair(r, 4);
+        words::fill(&mut sheet, part(r, HEAD, n * 4));
+        let text = part(r, HEAD + n * 4, bytes);
+        let expected = part(r, HEAD + n * 4 + bytes, m * 4);
+        let found = listed(words::first(&sheet, n), text, &mut report);
+        tally
+            .record()
+            .compare((n <= MOST) & (m <= MOST) & (found == m))
+            .compare(words::same(&report, expected, 0))
+    }
 }

@@ -4,15 +4,17 @@
 ghost use Rattle.std.specs.Prelude.{◌≡◌, length, IfOk};
 ghost use Rattle.replay.specs.Long.{break_word, breaks_of, unfilled, zeros, untouched, call_replayed};
 
+use crate::format::Format;
+use crate::front::{BEFORE, Call, Function};
 use crate::tally::Tally;
-use crate::{bytes, front, words};
+use crate::{bytes, words};
 use leaves::sheet::kinds;
 use leaves::sheet::records::RECORD_WORDS;
 use leaves::text::part::part;
 use std::alloc::{AllocError, Global};
 
 // How many bytes a stored call has.
-pub const BYTES: usize = 28;
+const BYTES: usize = 28;
 
 // The words of 65,537 records: two records more than a sheet may have.
 const SHEET: usize = 786444;
@@ -22,9 +24,6 @@ const TEXT: usize = 16777217;
 
 // A few words more than a mark for each record that a sheet may have.
 const LENT: usize = 65544;
-
-// Every word that is lent to be written into, before the call.
-const BEFORE: u32 = 0xA5A5_A5A5;
 
 // The long sheet before it is filled, the long text, and what is lent before a call. The proofs of callers do not
 // unfold `unfilled`, `zeros` and `untouched`, and so do not compute such long lists.
@@ -50,39 +49,59 @@ fn lent() -> [u32; LENT]
 fn word(field: usize) -> u32
     ensures { result ≡ break_word field }
 {
-    if field == 0 {
-        return kinds::THEMATIC_BREAK;
+    match field {
+        0 => kinds::THEMATIC_BREAK,
+        1 => 1,
+        _ => 0,
     }
-    if field == 1 {
-        return 1;
-    }
-    0
 }
 
 // Fills the words with thematic breaks at level 1, one after another.
 pub fn breaks(words: &mut [u32])
     ensures { words.new ≡ breaks_of (length words.old) }
 {
-    let mut k: usize = 0;
-    while k < words.len() {
-        words[k] = word(k % RECORD_WORDS);
-        k = k + 1;
+    for (k, filled) in words.iter_mut().enumerate() {
+        *filled = word(k % RECORD_WORDS);
     }
 }
 
-// Compares the answer, and each word of `lent`: also those behind the first `m`, which the function does not see.
-pub fn replay_call(r: &[u8], sheet: &[u32], text: &[u8], tally: Tally) -> Tally
-    ensures { result ≡ call_replayed r.now sheet.now text.now tally }
-{
-    let mut lent = lent();
-    let n = bytes::large(r, 4);
-    let seen = part(text, 0, bytes::large(r, 8));
-    let function = bytes::large(r, 0);
-    let m = bytes::large(r, 12);
-    let found = front::answer(function, words::first(sheet, n), seen, &mut lent, m);
-    let zeros = part(text, 0, bytes::large(r, 16));
-    tally
-        .record()
-        .compare((n <= sheet.len()) & (found == bytes::long_number(r, 20) as u64))
-        .compare(words::same(&lent, zeros, BEFORE))
+// Calls with the long sheet and the long text.
+#[derive(Clone, Copy)]
+pub struct Calls<'a> {
+    pub sheet: &'a [u32],
+    pub text: &'a [u8],
+}
+
+impl Format for Calls<'_> {
+    ghost behind_of = { λ _. 0 };
+
+    ghost replayed = { λ it r t. call_replayed r it.sheet.now it.text.now t };
+
+    fn head(&self) -> usize {
+        BYTES
+    }
+
+    fn behind(&self, _head: &[u8]) -> usize {
+        0
+    }
+
+    // Compares the answer, and each word of what is lent: also those behind the front, which the function does not see.
+    fn replay(&self, r: &[u8], tally: Tally) -> Tally {
+        let n = bytes::large(r, 4);
+        let call = Call {
+            function: Function::numbered(bytes::large(r, 0)),
+            sheet: words::first(self.sheet, n),
+            text: part(self.text, 0, bytes::large(r, 8)),
+            lent: bytes::large(r, 12),
+        };
+        let zeros = part(self.text, 0, bytes::large(r, 16));
+        let answer = bytes::long_number(r, 20) as u64;
+        call.compare(
+            &mut lent(),
+            n <= self.sheet.len(),
+            answer,
+            zeros,
+            tally.record(),
+        )
+    }
 }

@@ -3,9 +3,11 @@ ghost use Rattle.std.specs.Prelude.{◌≡◌};
 ghost use Rattle.replay.specs.Tally.{sum_of, differences_of};
 ghost use Rattle.replay.specs.Tally.{nothing, recorded, differing, comparing, together};
 
+use std::fmt;
+
 const MOST: u64 = 0x1000_0000_0000_0000;
 
-#[derive(Clone, Copy)]
+#[derive(Clone, Copy, Debug, PartialEq, Eq)]
 pub struct Tally {
     pub records: u64,
     pub compared: u64,
@@ -16,20 +18,14 @@ pub struct Tally {
 fn sum(a: u64, b: u64) -> u64
     ensures { result ≡ sum_of a b }
 {
-    if MOST <= a {
-        return MOST;
-    }
-    if MOST <= b {
-        return MOST;
-    }
-    a + b
+    if a.max(b) < MOST { a + b } else { MOST }
 }
 
 // How many differences a comparison adds.
 fn differences(same: bool) -> u64
     ensures { result ≡ differences_of same }
 {
-    if same { 0 } else { 1 }
+    u64::from(!same)
 }
 
 impl Tally {
@@ -48,8 +44,7 @@ impl Tally {
     {
         Tally {
             records: sum(self.records, 1),
-            compared: self.compared,
-            differ: self.differ,
+            ..self
         }
     }
 
@@ -57,9 +52,8 @@ impl Tally {
         ensures { result ≡ differing self }
     {
         Tally {
-            records: self.records,
-            compared: self.compared,
             differ: sum(self.differ, 1),
+            ..self
         }
     }
 
@@ -67,9 +61,9 @@ impl Tally {
         ensures { result ≡ comparing same self }
     {
         Tally {
-            records: self.records,
             compared: sum(self.compared, 1),
             differ: sum(self.differ, differences(same)),
+            ..self
         }
     }
 
@@ -81,5 +75,12 @@ impl Tally {
             compared: sum(self.compared, other.compared),
             differ: sum(self.differ, other.differ),
         }
+    }
+}
+
+// The three counts of a line, a space between them.
+impl fmt::Display for Tally {
+    fn fmt<W: fmt::Write>(&self, f: &mut fmt::Formatter<W>) -> fmt::Result {
+        write!(f, "{} {} {}", self.records, self.compared, self.differ)
     }
 }

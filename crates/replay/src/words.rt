@@ -8,10 +8,8 @@ use crate::bytes;
 pub fn fill(words: &mut [u32], s: &[u8])
     ensures { words.new ≡ words_of (length words.old) s.now }
 {
-    let mut k: usize = 0;
-    while k < words.len() {
-        words[k] = bytes::number(s, k * 4);
-        k = k + 1;
+    for (k, word) in words.iter_mut().enumerate() {
+        *word = bytes::number(s, k * 4);
     }
 }
 
@@ -19,10 +17,7 @@ pub fn fill(words: &mut [u32], s: &[u8])
 pub fn first(words: &[u32], n: usize) -> &[u32]
     ensures { result.now ≡ first_of words.now n }
 {
-    if words.len() < n {
-        return &words[..0];
-    }
-    &words[..n]
+    if n <= words.len() { &words[..n] } else { &[] }
 }
 
 // The word whose bytes begin at `at`; `rest` behind the bytes.
@@ -41,12 +36,10 @@ fn word(s: &[u8], at: usize, rest: u32) -> u32
 pub fn same(words: &[u32], s: &[u8], rest: u32) -> bool
     ensures { result ≡ same_words words.now s.now rest }
 {
-    let mut k: usize = 0;
-    while k < words.len() {
-        if words[k] != word(s, k * 4, rest) {
+    for (k, found) in words.iter().enumerate() {
+        if *found != word(s, k * 4, rest) {
             return false;
         }
-        k = k + 1;
     }
     true
 }

@@ -9,14 +9,14 @@ use blocks::answer::{answer_number, answer_value};
 use blocks::check::check;
 
 // The number of an answer is multiplied by this: it is in the upper half, and the value in the lower.
-const UPPER: u64 = 4294967296;
+const UPPER: u64 = 1 << 32;
 
 // An answer in the two halves of one number.
 fn packed(number: u32, value: usize) -> u64
     requires { value < 2 ^ 32 }
     ensures { Halves result (answer number value) }
 {
-    (number as u64) * UPPER + (value as u64)
+    u64::from(number) * UPPER + value as u64
 }
 
 // The check. Its promise is the check's, for the answer and for the whole report.

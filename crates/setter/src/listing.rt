@@ -1,6 +1,7 @@
 // The listing program's work: from what it reads to what it prints.
 mod film;
-mod filmanswer;
+mod film_answer;
+pub mod input;
 pub mod print;
 pub mod program;
 mod records;

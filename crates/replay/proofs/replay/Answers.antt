@@ -1,6 +1,7 @@
 -- `replay::replay` meets its contract.
-use Rattle.replay.proofs.FileLaws.{add-found}
+use borrow.Author.Rules.{rules}
+use Rattle.replay.specs.File.{adds}
 use Rattle.replay.proofs.replay.Goals as goal
 
 pub returns : goal.returns
-returns g c = add-found _ _ _ _ _ _ c.close.ensures c.replay-found.ensures
+returns g c = search (adds, rules)

@@ -6,35 +6,18 @@ use Prim.Native.Nat.{ℕ, zero, suc, min, ◌+◌, ◌-◌, ◌*◌, ◌<◌, �
 use native.Mathlib.Nat.{sub-zero, zero-add}
 use native.Mathlib.Omega.{arith}
 use lib.Dec.{leb}
-use lib.ListN.{length, get_or, take, drop, length-append, length-take, length-drop, drop_of_length-le}
-use lib.Seq.{take_all, take_at, drop_at, drop-drop, get_or-drop}
+use lib.ListN.{length, take, drop, length-append, length-take, length-drop, drop_of_length-le}
+use lib.Seq.{take_all, take_at, drop_at}
 use borrow.Author.Rules.{rules}
 use borrow.Author.Tests.{leb-true, leb-false}
-use Rattle.leaves.specs.Report.Entries.{Entry, words, head_words, flat, path_length}
+use Rattle.leaves.specs.Report.Entries.{Entry, words, flat}
 use Rattle.leaves.specs.Text.Lists.{over}
 use Rattle.leaves.proofs.text.OverLaws.{over-fits, over-nil, over-two, length_over}
 use Rattle.leaves.specs.Text.Field.{places}
 use Rattle.leaves.specs.Text.Columns.{line, line_bytes, Writes}
 use Rattle.leaves.proofs.text.ColumnLaws.{line-long}
 use Rattle.setter.specs.Listing.Print.{refusal_line, entry_lines, report_words, output_bytes, Prints}
-use Rattle.setter.specs.Listing.PrintInWords.{entry_words, lines_in, entry_end}
-
--- ---- `entry_end`
-module _ (w : List ℕ) (at : ℕ) (h : at ≤ length w) where
-  pub end-headless : length w - at < head_words → length w ≡ entry_end w at
-  end-headless g = omega arith
-
-  module _ {path : ℕ} (e : path ≡ get_or w (at + 4) 0) where
-    path-is : path_length (drop at w) ≡ path
-    path-is = get_or-drop at w 4 0 ∙ sym e
-
-    pub end-cut : length w - at - head_words < path → length w ≡ entry_end w at
-    end-cut g = rw path-is (omega arith)
-
-    pub end_whole : head_words ≤ length w - at → path ≤ length w - at - head_words → at + head_words + path ≡ entry_end w at
-    end_whole f g = rw path-is (omega arith)
-
-pub ruleset endings = (end-headless, end-cut, end_whole, rules)
+use Rattle.setter.specs.Listing.PrintInWords.{entry_words, lines_in, front_words}
 
 -- ---- `write_entries`
 
@@ -61,58 +44,47 @@ lines-most zero w = omega arith
 lines-most (suc n) w = simp length-append (omega (arith, line-long (take (entry_words w) w), length-take (entry_words w) w, length-drop (entry_words w) w, lines-most n (drop (entry_words w) w)))
 
 -- i entries are printed, and what is left decides the whole
-pub record Printing (old w : List ℕ) (n : ℕ) (out : List ℕ) (end at i : ℕ) : Type 0 where
+pub record Printing (old w : List ℕ) (n : ℕ) (out : List ℕ) (end : ℕ) (rest : List ℕ) (i : ℕ) : Type 0 where
   pub inside : i ≤ n
-  pub within : at ≤ length w
   pub long : length out ≡ length old
-  pub is : over old 0 (lines_in n w) ≡ over out end (lines_in (n - i) (drop at w))
-  pub ends : length (lines_in n w) ≡ end + length (lines_in (n - i) (drop at w))
+  pub is : over old 0 (lines_in n w) ≡ over out end (lines_in (n - i) rest)
+  pub ends : length (lines_in n w) ≡ end + length (lines_in (n - i) rest)
 
-pub print-start : (old w : List ℕ) (n : ℕ) → Printing old w n old 0 0 0
-print-start old w n = record { inside = omega arith; within = omega arith; long = refl; is = rw sub-zero; ends = rw sub-zero (omega arith) }
+pub print-start : (old w : List ℕ) (n : ℕ) → Printing old w n old 0 w 0
+print-start old w n = record { inside = omega arith; long = refl; is = rw sub-zero; ends = rw sub-zero (omega arith) }
 
-module _ {old w out : List ℕ} {n end at i next : ℕ} (p : Printing old w n out end at i) (h : i < n) (room : length w * places + n ≤ length old) (e : next ≡ entry_end w at) where
-  pub next-after : at ≤ next
-  next-after = omega arith
-
-  pub next-within : next ≤ length w
-  next-within = omega (arith, p.within)
-
+module _ {old w out rest : List ℕ} {n end i own : ℕ} (p : Printing old w n out end rest i) (h : i < n) (room : length w * places + n ≤ length old) (e : own ≡ front_words rest) where
   -- the entry's line, and what is left behind it
-  left_is : lines_in (n - i) (drop at w) ≡ line (take (next - at) (drop at w)) ++ lines_in (n - (i + 1)) (drop next w)
+  left_is : lines_in (n - i) rest ≡ line (take own rest) ++ lines_in (n - (i + 1)) (drop own rest)
   unfolding lines_in
   left_is =
       let left : n - i ≡ suc (n - (i + 1)) = omega arith in
-      let own : next - at ≡ min (entry_words (drop at w)) (length (drop at w)) = rw length-drop (omega arith) in
-      let past : next ≡ at + min (entry_words (drop at w)) (length (drop at w)) = rw length-drop e in
-      let t : take (next - at) (drop at w) ≡ take (entry_words (drop at w)) (drop at w) = rw own (take_min (entry_words (drop at w)) (drop at w)) in
-      let d : drop next w ≡ drop (entry_words (drop at w)) (drop at w) = rw (past, ← drop-drop (min (entry_words (drop at w)) (length (drop at w))) at w) (drop_min (entry_words (drop at w)) (drop at w)) in
-      rw (left, t, d)
+      rw (left, e, take_min (entry_words rest) rest, drop_min (entry_words rest) rest)
 
-  pub print-room : end + line_bytes (length (take (next - at) (drop at w))) ≤ length out
-  print-room = omega (arith, p.long, p.ends, lines-most n w, ap length left_is ∙ length-append (line (take (next - at) (drop at w))) (lines_in (n - (i + 1)) (drop next w)), line-long (take (next - at) (drop at w)))
+  pub print-room : {entry : List ℕ} → entry ≡ take own rest → end + line_bytes (length entry) ≤ length out
+  print-room {entry} a = rw a (omega (arith, p.long, p.ends, lines-most n w, ap length left_is ∙ length-append (line (take own rest)) (lines_in (n - (i + 1)) (drop own rest)), line-long (take own rest)))
 
-  pub print-next : {new : List ℕ} {r : ℕ} → Writes out end (line (take (next - at) (drop at w))) new r → Printing old w n new r next (i + 1)
-  print-next {new} {r} f =
-      let l = line (take (next - at) (drop at w)) in
-      let rest = lines_in (n - (i + 1)) (drop next w) in
-      let both : length (lines_in (n - i) (drop at w)) ≡ length l + length rest = ap length left_is ∙ length-append l rest in
+  pub print-next : {entry behind new : List ℕ} {r : ℕ} → entry ≡ take own rest → behind ≡ drop own rest → Writes out end (line entry) new r → Printing old w n new r behind (i + 1)
+  print-next {entry} {behind} {new} {r} a b f =
+      let l = line entry in
+      let after = lines_in (n - (i + 1)) behind in
+      let two : lines_in (n - i) rest ≡ l ++ after = rw (a, b) left_is in
+      let both : length (lines_in (n - i) rest) ≡ length l + length after = ap length two ∙ length-append l after in
       record {
         inside = omega arith;
-        within = next-within;
         long = rw f.written (length_over out end l ∙ p.long);
-        is = p.is ∙ rw (left_is, f.written, f.ends) (sym (over-two out l rest end (omega (arith, p.long, p.ends, lines-most n w))));
+        is = p.is ∙ rw (two, f.written, f.ends) (sym (over-two out l after end (omega (arith, p.long, p.ends, lines-most n w))));
         ends = omega (arith, p.ends, f.ends);
       }
 
-pub print-end : {old w out : List ℕ} {n end at i : ℕ} → Printing old w n out end at i → n ≤ i → length w * places + n ≤ length old → Writes old 0 (lines_in n w) out end
+pub print-end : {old w out rest : List ℕ} {n end i : ℕ} → Printing old w n out end rest i → n ≤ i → length w * places + n ≤ length old → Writes old 0 (lines_in n w) out end
 unfolding lines_in
-print-end {old} {w} {out} {n} {end} {at} {i} p h room =
+print-end {old} {w} {out} {rest} {n} {end} {i} p h room =
     let none : n - i ≡ 0 = omega arith in
     let e : length (lines_in n w) ≡ end = rw none at p.ends ∙ omega arith in
     record { written = sym (p.is ∙ rw none (over-nil out end)); ends = omega arith }
 
-pub ruleset printing = (print-start, next-after, next-within, print-room, print-next, print-end, rules)
+pub ruleset printing = (print-start, print-room, print-next, print-end, rules)
 
 -- ---- `write_list`, `write_refusal`: what is written from the front on is printed
 

@@ -27,7 +27,9 @@ use Rattle.blocks.proofs.AnswerLaws.{value-word}
 use Rattle.leaves.specs.Text.Columns.{line}
 use Rattle.setter.specs.Listing.Film.{record_count, behind_counts, film_sheet, text_behind, film_text, most_film_records, most_input, film_of, Reads}
 use Rattle.setter.specs.Listing.FilmAnswer.{film_answer}
-use Rattle.setter.specs.declared.listing.filmanswer.Film.{Film}
+use Rattle.setter.specs.declared.listing.film_answer.FilmError.{FilmError}
+use Rattle.setter.specs.declared.listing.film_answer.FilmError.TheVariants.{BadColumn, BigFilm}
+use Rattle.std.specs.Prelude.{Ok, Err}
 use Rattle.setter.proofs.listing.FilmLaws.{Good, good, sheet-long}
 use Rattle.setter.proofs.listing.CutLaws.{cut}
 use Rattle.setter.specs.Listing.Print.{report_words, refusal_line, entry_lines, list_lines, Prints}
@@ -91,47 +93,51 @@ module _ (w bytes x : List ℕ) {y : List ℕ} {c : Answer} {number value : ℕ}
           let lines : lines_in value y ≡ entry_lines (validate_document w bytes) = rw (list-is.count, list-is.holds) (lines_of (validate_document w bytes) _) in
           rw (checked-is, ← a, eq-eqb _ _ h, ← lines, ← list-is.count, ← stop-at, ← at-is) p
 
--- ---- `list`: the film was read into the words of a sheet
-module _ {s old sheet : List ℕ} {f : Film} {number : ℕ} (r : Reads s old sheet f) (a : number ≡ (film_answer f).number) where
-  number_is : (film_of s).number ≡ number
-  number_is = sym (a ∙ ap (λ (p : Answer). p.number) r.answer)
+-- ---- `list`: the film is refused, or was read into the words of a sheet
+refused : (e : FilmError) → (film_answer (Err e)).number ≡ 0 → ⊥
+refused BadColumn h = cc
+refused BigFilm h = cc
 
-  pub film-printed : {out new : List ℕ} {k : ℕ} → (number ≡ 0 → ⊥) → Prints out (refusal_line number 0) new k → Prints out (listing s) new k
+pub film-printed : {s old sheet out new : List ℕ} {e : FilmError} {number k : ℕ} → Reads s old sheet (Err e) → number ≡ (film_answer (Err e)).number → Prints out (refusal_line number 0) new k → Prints out (listing s) new k
+unfolding listing
+film-printed {e = e} r a p =
+    rw (← r.answer, ne_eqb _ _ (refused e), ← a) p
+
+module _ {s old sheet : List ℕ} {n : ℕ} (r : Reads s old sheet (Ok n)) where
+  number_is : (film_of s).number ≡ 0
+  number_is = sym (ap (λ (p : Answer). p.number) r.answer)
+
+  ready : Good s
+  ready = good s number_is
+
+  n-is : n ≡ record_count s
+  n-is = ap (λ (p : Answer). p.value) (r.answer ∙ ready.answer)
+
+  pub ready-few : n ≤ most_film_records
+  ready-few = omega (arith, n-is, ready.few)
+
+  sheet-is : take (n * record_words) sheet ≡ film_sheet s
+  unfolding film_sheet
+  sheet-is = rw (r.words, ready.filled old) (take_at (film_sheet s) _ (n * record_words) (sheet-long (record_count s) (behind_counts s) ∙ rw n-is))
+
+  pub ready-long : n * record_words ≡ length (take (n * record_words) sheet)
+  unfolding film_sheet
+  ready-long = rw (sheet-is, n-is) (sym (sheet-long (record_count s) (behind_counts s)))
+
+  pub ready-room : n * record_words ≤ length sheet
+  ready-room = omega (arith, ready-long, length-take (n * record_words) sheet)
+
+  pub ready-records : records_of (take (n * record_words) sheet) ≤ most_film_records
+  unfolding film_sheet
+  ready-records =
+      let k : length (film_sheet s) / record_words ≡ record_count s = div-eq_of_eq-mul_left (omega arith) (sheet-long (record_count s) (behind_counts s)) in
+      rw sheet-is (omega (arith, ready.few))
+
+  pub ready-printed : {out new text : List ℕ} {k : ℕ} → text ≡ text_behind n s → Prints out (sheet_lines (take (n * record_words) sheet) text) new k → Prints out (listing s) new k
   unfolding listing
-  film-printed h p = rw (number_is, ne_eqb _ _ h) p
-
-  module _ (h : number ≡ 0) {n : ℕ} (b : n ≡ (film_answer f).value) where
-    ready : Good s
-    ready = good s (number_is ∙ h)
-
-    n-is : n ≡ record_count s
-    n-is = b ∙ ap (λ (p : Answer). p.value) (r.answer ∙ ready.answer)
-
-    pub ready-few : n ≤ most_film_records
-    ready-few = omega (arith, n-is, ready.few)
-
-    sheet-is : take (n * record_words) sheet ≡ film_sheet s
-    unfolding film_sheet
-    sheet-is = rw (r.words, ready.filled old) (take_at (film_sheet s) _ (n * record_words) (sheet-long (record_count s) (behind_counts s) ∙ rw n-is))
-
-    pub ready-long : n * record_words ≡ length (take (n * record_words) sheet)
-    unfolding film_sheet
-    ready-long = rw (sheet-is, n-is) (sym (sheet-long (record_count s) (behind_counts s)))
-
-    pub ready-room : n * record_words ≤ length sheet
-    ready-room = omega (arith, ready-long, length-take (n * record_words) sheet)
-
-    pub ready-records : records_of (take (n * record_words) sheet) ≤ most_film_records
-    unfolding film_sheet
-    ready-records =
-        let k : length (film_sheet s) / record_words ≡ record_count s = div-eq_of_eq-mul_left (omega arith) (sheet-long (record_count s) (behind_counts s)) in
-        rw sheet-is (omega (arith, ready.few))
-
-    pub ready-printed : {out new text : List ℕ} {k : ℕ} → text ≡ text_behind n s → Prints out (sheet_lines (take (n * record_words) sheet) text) new k → Prints out (listing s) new k
-    unfolding listing
-    ready-printed {text = text} e p =
-        let t : text ≡ film_text s = e ∙ rw n-is in
-        rw (number_is, eq-eqb _ _ h, ← sheet-is, ← t) p
+  ready-printed {text = text} e p =
+      let t : text ≡ film_text s = e ∙ rw n-is in
+      rw (number_is, ← sheet-is, ← t) p
 
 -- ---- what is cut off behind the largest film says nothing: who reads no more than one byte more lists the same
 pub listing-cut : (s : List ℕ) → listing (take (suc most_input) s) ≡ listing s

@@ -1,13 +1,13 @@
 -- A film: what the program reads, a sheet and its text.
 -- Document 01: "The program reads a sheet on standard input: counts of records and text bytes; a line a record; the
 -- text."
-use Rattle.std.specs.Prelude.{ℕ, ◌+◌, ◌*◌, ◌≡◌, Bool, not, ◌&&◌, ◌||◌, List, ◌++◌, eqb, ltb, length, get_or, drop}
+use Rattle.std.specs.Prelude.{ℕ, ◌+◌, ◌*◌, ◌≡◌, Bool, true, false, not, ◌&&◌, ◌||◌, List, ◌++◌, eqb, ltb, length, get_or, drop, Result, Ok, Err}
 use Rattle.leaves.specs.Text.Lists.{when◌then◌else◌}
 use Rattle.leaves.specs.Sheet.Records.{record_words}
 use Rattle.leaves.specs.Text.Columns.{line_bytes, is_line, numbers}
 unfoldable pub use Rattle.setter.specs.Listing.Records.{are_records, sheet_of}
 pub use Rattle.setter.specs.Listing.Records.{most_film_records}
-use Rattle.setter.specs.declared.listing.filmanswer.Film.{Film}
+use Rattle.setter.specs.declared.listing.film_answer.FilmError.{FilmError}
 use Rattle.leaves.specs.Refusal.Verdict.{Answer, answer}
 use Rattle.setter.specs.Listing.FilmAnswer.{bad_column, big_film, film_answer}
 
@@ -64,6 +64,13 @@ film_of s =
     then answer bad_column 0
     else answer 0 (record_count s)
 
+-- the first line is good and not too big, and has these two counts; or it is why the film is refused
+abbrev pub ReadsCounts : List ℕ → Result (ℕ × ℕ) FilmError → Type 0
+ReadsCounts s (Ok counts) =
+    (is_line count_fields s ≡ true) × (is_big s ≡ false) × (counts ≡ (record_count s, byte_count s))
+ReadsCounts s (Err error) =
+    ((is_line count_fields s && not (is_big s)) ≡ false) × (film_answer (Err error) ≡ film_of s)
+
 -- ---- the words that the sheet is read into. Where the counts are good, the records' words stand at the front, and
 -- behind them the old words stay; else all stay.
 unfoldable pub filled_sheet : List ℕ → List ℕ → List ℕ
@@ -73,6 +80,6 @@ filled_sheet s old =
     else old
 
 -- what reading a film hands back: its answer, and the words of the sheet
-pub record Reads (s old new : List ℕ) (film : Film) : Type 0 where
+pub record Reads (s old new : List ℕ) (film : Result ℕ FilmError) : Type 0 where
   pub answer : film_answer film ≡ film_of s
   pub words : new ≡ filled_sheet s old

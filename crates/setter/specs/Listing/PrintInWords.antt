@@ -1,6 +1,6 @@
 -- What the printing code goes by: entries as they stand in a report's words. A reader need not believe these: where the
 -- report holds a list, they give the lines of that list (`lines_of` in proofs/listing/PrintLaws.antt).
-use Rattle.std.specs.Prelude.{ℕ, zero, suc, min, ◌+◌, ◌-◌, List, [], ◌++◌, length, take, drop}
+use Rattle.std.specs.Prelude.{ℕ, zero, suc, min, ◌+◌, List, [], ◌++◌, length, take, drop}
 use Rattle.leaves.specs.Report.Entries.{head_words, path_length}
 use Rattle.leaves.specs.Text.Columns.{line}
 
@@ -8,11 +8,11 @@ use Rattle.leaves.specs.Text.Columns.{line}
 abbrev pub entry_words : List ℕ → ℕ
 entry_words w = head_words + path_length w
 
+-- .. and no more than there are
+abbrev pub front_words : List ℕ → ℕ
+front_words w = min (entry_words w) (length w)
+
 -- the lines of the n entries at the front
 unfoldable pub lines_in : ℕ → List ℕ → List ℕ
 lines_in zero w = []
 lines_in (suc n) w = line (take (entry_words w) w) ++ lines_in n (drop (entry_words w) w)
-
--- where the entry at a place ends: behind its words, and no later than the report
-abbrev pub entry_end : List ℕ → ℕ → ℕ
-entry_end w at = at + min (entry_words (drop at w)) (length w - at)

@@ -1,8 +1,8 @@
 // A film: its sheet and its text, or why it is refused.
 ghost use Rattle.std.specs.Prelude.{◌≡◌, ◌≤◌};
-ghost use Rattle.setter.specs.Listing.Film.{most_film_records, text_behind, Reads};
+ghost use Rattle.setter.specs.Listing.Film.{most_film_records, text_behind, Reads, ReadsCounts};
 
-use crate::listing::filmanswer::Film;
+use crate::listing::film_answer::FilmError;
 use crate::listing::records::{RECORD_BYTES, behind, read_records};
 use leaves::sheet::records::RECORD_WORDS;
 use leaves::text::columns::read_line;
@@ -19,6 +19,11 @@ const MOST_FILM_BYTES: usize = 16384;
 // The words of the largest sheet of a film.
 pub(crate) const SHEET_WORDS: usize = MOST_FILM_RECORDS * RECORD_WORDS;
 
+// How many bytes the largest film has.
+pub(crate) const MOST_BYTES: usize = COUNT_BYTES
+    + MOST_FILM_RECORDS * RECORD_BYTES
+    + MOST_FILM_BYTES;
+
 // The text of a film of `n` records: all that stands behind them.
 pub(crate) fn text_behind(s: &[u8], n: usize) -> &[u8]
     requires { n ≤ most_film_records }
@@ -27,37 +32,36 @@ pub(crate) fn text_behind(s: &[u8], n: usize) -> &[u8]
     behind(s, COUNT_BYTES + n * RECORD_BYTES)
 }
 
-fn size(n: u32) -> usize
-    ensures { result ≡ n }
+// The two counts of the first line: records, and bytes of the text.
+fn read_counts(s: &[u8]) -> Result<(usize, usize), FilmError>
+    ensures { ReadsCounts s.now result }
 {
-    n as usize
+    let mut counts = [0u32; 2];
+    if !read_line(s, &mut counts) {
+        return Err(FilmError::BadColumn);
+    }
+    let records = counts[0] as usize;
+    let bytes = counts[1] as usize;
+    if MOST_FILM_RECORDS < records {
+        return Err(FilmError::BigFilm);
+    }
+    if MOST_FILM_BYTES < bytes {
+        return Err(FilmError::BigFilm);
+    }
+    Ok((records, bytes))
 }
 
 // Reads a film's sheet into the words where the counts are good. Answers how many records the film has, or why it is
 // refused.
-pub(crate) fn read_film(s: &[u8], sheet: &mut [u32; SHEET_WORDS]) -> Film
+pub(crate) fn read_film(s: &[u8], sheet: &mut [u32; SHEET_WORDS]) -> Result<usize, FilmError>
     ensures { Reads s.now sheet.old sheet.new result }
 {
-    let mut counts = [0u32; 2];
-    let good = read_line(s, &mut counts);
-    if !good {
-        return Film::BadColumn;
+    let (records, bytes) = read_counts(s)?;
+    if !read_records(behind(s, COUNT_BYTES), records, sheet) {
+        return Err(FilmError::BadColumn);
     }
-    let records = size(counts[0]);
-    let bytes = size(counts[1]);
-    if MOST_FILM_RECORDS < records {
-        return Film::BigFilm;
+    if text_behind(s, records).len() != bytes {
+        return Err(FilmError::BadColumn);
     }
-    if MOST_FILM_BYTES < bytes {
-        return Film::BigFilm;
-    }
-    let lines = read_records(behind(s, COUNT_BYTES), records, sheet);
-    if !lines {
-        return Film::BadColumn;
-    }
-    let text = text_behind(s, records);
-    if text.len() != bytes {
-        return Film::BadColumn;
-    }
-    Film::Ready(records)
+    Ok(records)
 }

@@ -3,39 +3,28 @@ ghost use Rattle.std.specs.Prelude.{◌≡◌, [], ◌∷◌, ◌++◌, ◌+◌,
 ghost use Rattle.leaves.specs.Text.Field.{places};
 ghost use Rattle.leaves.specs.Text.Columns.{line, Writes};
 ghost use Rattle.setter.specs.Listing.Print.{refusal_line, report_words, Prints};
-ghost use Rattle.setter.specs.Listing.PrintInWords.{lines_in, entry_end};
+ghost use Rattle.setter.specs.Listing.PrintInWords.{lines_in, front_words};
 
 use leaves::text::columns::write_line;
+use leaves::text::field::PLACES;
 
 // How many words the program's report has.
 pub(crate) const REPORT_WORDS: usize = 4096;
 
-// How many bytes the program prints at most.
-pub const OUTPUT_BYTES: usize = 49186;
+// How many bytes the program prints at most: a field and an LF for each word of the report, and the last line.
+pub const OUTPUT_BYTES: usize = REPORT_WORDS * (PLACES + 1) + (3 * PLACES + 1);
 
 // How many words of an entry stand before its path; the last of them is the path's length.
 const HEAD: usize = 5;
 
-fn size(n: u32) -> usize
-    ensures { result ≡ n }
+// How many words the entry at the front has: those of its head and of its path, and no more than there are.
+fn front_words(words: &[u32]) -> usize
+    ensures { result ≡ front_words words.now }
 {
-    n as usize
-}
-
-// Where the entry at a place of the report ends: behind its path, and no later than the report.
-fn entry_end(report: &[u32], at: usize) -> usize
-    requires { at ≤ length report.now }
-    ensures { result ≡ entry_end report.now at }
-{
-    let left = report.len() - at;
-    if left < HEAD {
-        return report.len();
+    match words.get(HEAD - 1) {
+        Some(&path) => words.len().min(HEAD + path as usize),
+        None => words.len(),
     }
-    let path = size(report[at + (HEAD - 1)]);
-    if left - HEAD < path {
-        return report.len();
-    }
-    at + HEAD + path
 }
 
 // Writes a line for each of the `n` entries at the report's front; answers where the lines end.
@@ -43,14 +32,12 @@ fn write_entries(out: &mut [u8], report: &[u32], n: usize) -> usize
     requires { length report.now * places + n ≤ length out.old }
     ensures { Writes out.old 0 (lines_in n report.now) out.new result }
 {
-    let mut end: usize = 0;
-    let mut at: usize = 0;
-    let mut i: usize = 0;
-    while i < n {
-        let next = entry_end(report, at);
-        end = write_line(out, end, &report[at..next]);
-        at = next;
-        i = i + 1;
+    let mut end = 0;
+    let mut rest = report;
+    for _ in 0..n {
+        let (entry, behind) = rest.split_at(front_words(rest));
+        end = write_line(out, end, entry);
+        rest = behind;
     }
     end
 }

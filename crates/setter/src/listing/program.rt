@@ -8,21 +8,13 @@ ghost use Rattle.setter.specs.Listing.Program.{sheet_lines, Page};
 use crate::answer::{setting_number, setting_value};
 use crate::both::check_and_set;
 use crate::listing::film::{MOST_FILM_RECORDS, SHEET_WORDS, read_film, text_behind};
-use crate::listing::filmanswer::{film_number, film_records};
 use crate::listing::print::{OUTPUT_BYTES, REPORT_WORDS, write_list, write_refusal};
 use blocks::answer::{answer_number, answer_value};
 use leaves::sheet::records::RECORD_WORDS;
 
-fn sheet_words() -> [u32; SHEET_WORDS] {
-    [0u32; SHEET_WORDS]
-}
-
-fn report_words() -> [u32; REPORT_WORDS] {
-    [0u32; REPORT_WORDS]
-}
-
-fn no_marks() -> [u32; MOST_FILM_RECORDS] {
-    [0u32; MOST_FILM_RECORDS]
+// `N` words of 0. It promises nothing, so that no proof computes the array.
+fn words<const N: usize>() -> [u32; N] {
+    [0u32; N]
 }
 
 // Checks and sets a sheet and its text, and prints the list with the stop and its record, or the refusal.
@@ -32,8 +24,8 @@ fn list_sheet(sheet: &[u32], text: &[u8], output: &mut [u8; OUTPUT_BYTES]) -> us
         (sheet_lines sheet.now text.now)
         output.new result }
 {
-    let mut report = report_words();
-    let mut marks = no_marks();
+    let mut report = words::<REPORT_WORDS>();
+    let mut marks = words::<MOST_FILM_RECORDS>();
     let both = check_and_set(sheet, text, &mut report, &mut marks);
     let checked = both.checked;
     let run = both.set;
@@ -55,13 +47,9 @@ fn list_sheet(sheet: &[u32], text: &[u8], output: &mut [u8; OUTPUT_BYTES]) -> us
 pub fn list(input: &[u8], output: &mut [u8; OUTPUT_BYTES]) -> usize
     ensures { Page input.now output.old output.new result }
 {
-    let mut sheet = sheet_words();
-    let film = read_film(input, &mut sheet);
-    let number = film_number(film);
-    if number != 0 {
-        return write_refusal(output, number, 0);
+    let mut sheet = words::<SHEET_WORDS>();
+    match read_film(input, &mut sheet) {
+        Ok(n) => list_sheet(&sheet[..n * RECORD_WORDS], text_behind(input, n), output),
+        Err(error) => write_refusal(output, error.number(), 0),
     }
-    let n = film_records(film);
-    let end = n * RECORD_WORDS;
-    list_sheet(&sheet[..end], text_behind(input, n), output)
 }

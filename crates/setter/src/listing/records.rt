@@ -14,10 +14,7 @@ pub(crate) const RECORD_BYTES: usize = RECORD_WORDS * PLACES + 1;
 pub(crate) fn behind(s: &[u8], at: usize) -> &[u8]
     ensures { result.now ≡ drop at s.now }
 {
-    if s.len() <= at {
-        return &s[0..0];
-    }
-    &s[at..]
+    s.get(at..).unwrap_or(&[])
 }
 
 // Reads the lines of `n` records from the front of the slice into the sheet; answers whether they are well-formed.
@@ -27,16 +24,11 @@ pub(crate) fn read_records(s: &[u8], n: usize, sheet: &mut [u32]) -> bool
         × (sheet.new ≡ sheet_of n s.now ++ drop (n * record_words) sheet.old) }
 {
     let mut good = true;
-    let mut at: usize = 0;
-    let mut to: usize = 0;
-    let mut i: usize = 0;
-    while i < n {
-        let next = to + RECORD_WORDS;
-        let line = read_line(behind(s, at), &mut sheet[to..next]);
-        good = good & line;
-        at = at + RECORD_BYTES;
-        to = next;
-        i = i + 1;
+    let mut rest = s;
+    for i in 0..n {
+        let at = i * RECORD_WORDS;
+        good &= read_line(rest, &mut sheet[at..at + RECORD_WORDS]);
+        rest = behind(rest, RECORD_BYTES);
     }
     good
 }

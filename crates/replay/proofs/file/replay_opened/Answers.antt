@@ -1,15 +1,16 @@
 -- `replay::file::replay_opened` meets its contract.
-use Rattle.replay.proofs.FileLaws.{files}
+use borrow.Author.Rules.{rules}
+use Rattle.replay.specs.File.{begins, follows, broken}
 use Rattle.replay.proofs.file.replay_opened.Goals as goal
 
-pub loop-k-init : goal.loop-k-init
-loop-k-init g c = search files
+pub loop-init : goal.loop-init
+loop-init g c = search (begins, rules)
 
-pub returns-then-not-step : goal.returns-then-not-step
-returns-then-not-step g c = search files
+pub loop-preserved : goal.loop-preserved
+loop-preserved g c = search (follows, rules)
 
-pub loop-k-preserved : goal.loop-k-preserved
-loop-k-preserved g c = search files
+pub returns-in-Err : goal.returns-in-Err
+returns-in-Err g c = search (broken, rules)
 
 pub returns : goal.returns
-returns g c = search files
+returns g c = search (broken, rules)

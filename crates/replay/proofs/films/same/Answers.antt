@@ -1,15 +1,10 @@
 -- `replay::films::same` meets its contract.
-use Rattle.replay.specs.Films.{same_printed}
-use Rattle.replay.proofs.WordLaws.{words}
+use mathlib.Core.Path.{◌∙◌}
+use Rattle.replay.proofs.FilmLaws.{same-start}
 use Rattle.replay.proofs.films.same.Goals as goal
 
-pub returns-then-bytes-k : goal.returns-then-bytes-k
-unfolding same_printed
-returns-then-bytes-k c = search words
+pub returns-then-starts_with : goal.returns-then-starts_with
+returns-then-starts_with c = c.is_untouched.ensures ∙ same-start _ _ _ _ _ _ c.min.ensures c.split_at.ensures.front c.split_at.ensures.back c.if-starts_with.ensures.value
 
-pub loop-k-preserved : goal.loop-k-preserved
-loop-k-preserved c = search words
-
-pub returns : goal.returns
-unfolding same_printed
-returns c = search words
+pub returns-else-starts_with : goal.returns-else-starts_with
+returns-else-starts_with c = c.if-starts_with.false ∙ same-start _ _ _ _ _ _ c.min.ensures c.split_at.ensures.front c.split_at.ensures.back c.if-starts_with.ensures.value

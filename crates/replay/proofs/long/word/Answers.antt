@@ -2,11 +2,11 @@
 use Rattle.replay.proofs.LongLaws.{longs}
 use Rattle.replay.proofs.long.word.Goals as goal
 
-pub returns-then-field-eq0 : goal.returns-then-field-eq0
-returns-then-field-eq0 c = search longs
+pub returns-in-0 : goal.returns-in-0
+returns-in-0 c = search longs
 
-pub returns-then-field-eq1 : goal.returns-then-field-eq1
-returns-then-field-eq1 c = search longs
+pub returns-in-1 : goal.returns-in-1
+returns-in-1 c = search longs
 
-pub returns : goal.returns
-returns c = search longs
+pub returns-in_default : goal.returns-in_default
+returns-in_default c = search longs

@@ -1,6 +1,6 @@
 -- `replay::texts::bit` meets its contract.
-use Rattle.replay.specs.Texts.{is_set}
 use borrow.Author.Rules.{rules}
+use Rattle.replay.specs.Texts.{is_set}
 use Rattle.replay.proofs.texts.bit.Goals as goal
 
 pub returns : goal.returns

@@ -5,5 +5,5 @@ use Rattle.replay.proofs.texts.compare_bit.Goals as goal
 pub returns-then-bit : goal.returns-then-bit
 returns-then-bit c = search texts
 
-pub returns : goal.returns
-returns c = search texts
+pub returns-else-bit : goal.returns-else-bit
+returns-else-bit c = search texts

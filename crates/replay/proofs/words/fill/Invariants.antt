@@ -1,12 +1,7 @@
 -- `replay::words::fill` meets its contract.
-use Prim.Native.Nat.{◌-◌}
-use lib.ListN.{length}
 use Rattle.replay.specs.Words.{word_of}
 use Rattle.replay.proofs.WordLaws.{Filling}
 use Rattle.replay.proofs.words.fill.Given as goal
 
 abbrev pub invariant-loop-k : goal.invariant-loop-k
 invariant-loop-k l = Filling (word_of l.s) l.initial.words l.words l.k
-
-abbrev pub decreases-loop-k : goal.decreases-loop-k
-decreases-loop-k l = length l.words - l.k

@@ -2,8 +2,8 @@
 use Rattle.replay.proofs.WordLaws.{words}
 use Rattle.replay.proofs.words.first.Goals as goal
 
-pub returns-then-words-n : goal.returns-then-words-n
-returns-then-words-n c = search words
+pub returns-then-n-words : goal.returns-then-n-words
+returns-then-n-words c = search words
 
-pub returns : goal.returns
-returns c = search words
+pub returns-else-n-words : goal.returns-else-n-words
+returns-else-n-words c = search words

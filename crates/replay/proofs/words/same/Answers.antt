@@ -3,9 +3,9 @@ use Rattle.replay.specs.Words.{same_words}
 use Rattle.replay.proofs.WordLaws.{words}
 use Rattle.replay.proofs.words.same.Goals as goal
 
-pub returns-then-words-k : goal.returns-then-words-k
+pub returns-then-found-word : goal.returns-then-found-word
 unfolding same_words
-returns-then-words-k c = search words
+returns-then-found-word c = search words
 
 pub loop-k-preserved : goal.loop-k-preserved
 loop-k-preserved c = search words

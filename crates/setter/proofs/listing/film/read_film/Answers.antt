@@ -1,23 +1,20 @@
 -- `setter::listing::film::read_film` meets its contract.
 use mathlib.Core.Path.{ap}
 use mathlib.Core.Bool.{not}
-use Rattle.setter.proofs.listing.FilmLaws.{film-bad, film-many, film-long, film-lines, film-text, film-ready}
+use Rattle.std.proofs.lemmas.Result.{err_from_is_err_and}
+use Rattle.setter.proofs.listing.FilmLaws.{film-refused, film-lines, film-text, film-ready}
 use Rattle.setter.proofs.listing.film.read_film.Goals as goal
 
-pub returns-then-not-good : goal.returns-then-not-good
-returns-then-not-good c = film-bad _ _ c.read_line-good.ensures (ap not c.if-not-good.true)
+pub returns-in_err-records : goal.returns-in_err-records
+returns-in_err-records c =
+    let p = err_from_is_err_and c.from_residual.result c.from_residual.ensures.1 in
+    rw (p.1, p.2) (film-refused _ _ _ c.in_err-records.ensures)
 
-pub returns-then-records-gt-MOST_FILM_RECORDS : goal.returns-then-records-gt-MOST_FILM_RECORDS
-returns-then-records-gt-MOST_FILM_RECORDS c = film-many _ _ c.read_line-good.ensures (ap not c.if-not-good.false) c.size-records.ensures c.size-bytes.ensures c.if-records-gt-MOST_FILM_RECORDS.true
+pub returns-then-not-read_records : goal.returns-then-not-read_records
+returns-then-not-read_records c = film-lines _ _ c.in_ok-records.ensures c.behind.ensures c.read_records.ensures (ap not c.if-not-read_records.true)
 
-pub returns-then-bytes-gt-MOST_FILM_BYTES : goal.returns-then-bytes-gt-MOST_FILM_BYTES
-returns-then-bytes-gt-MOST_FILM_BYTES c = film-long _ _ c.read_line-good.ensures (ap not c.if-not-good.false) c.size-records.ensures c.size-bytes.ensures c.if-records-gt-MOST_FILM_RECORDS.false c.if-bytes-gt-MOST_FILM_BYTES.true
-
-pub returns-then-not-lines : goal.returns-then-not-lines
-returns-then-not-lines c = film-lines _ _ c.read_line-good.ensures (ap not c.if-not-good.false) c.size-records.ensures c.size-bytes.ensures c.if-records-gt-MOST_FILM_RECORDS.false c.if-bytes-gt-MOST_FILM_BYTES.false c.behind.ensures c.read_records-lines.ensures (ap not c.if-not-lines.true)
-
-pub returns-then-text-bytes : goal.returns-then-text-bytes
-returns-then-text-bytes c = film-text _ _ c.read_line-good.ensures (ap not c.if-not-good.false) c.size-records.ensures c.size-bytes.ensures c.if-records-gt-MOST_FILM_RECORDS.false c.if-bytes-gt-MOST_FILM_BYTES.false c.behind.ensures c.read_records-lines.ensures (ap not c.if-not-lines.false) c.text_behind-text.ensures c.if-text-bytes.true
+pub returns-then-text_behind-bytes : goal.returns-then-text_behind-bytes
+returns-then-text_behind-bytes c = film-text _ _ c.in_ok-records.ensures c.behind.ensures c.read_records.ensures (ap not c.if-not-read_records.false) c.text_behind.ensures c.if-text_behind-bytes.true
 
 pub returns : goal.returns
-returns c = film-ready _ _ c.read_line-good.ensures (ap not c.if-not-good.false) c.size-records.ensures c.size-bytes.ensures c.if-records-gt-MOST_FILM_RECORDS.false c.if-bytes-gt-MOST_FILM_BYTES.false c.behind.ensures c.read_records-lines.ensures (ap not c.if-not-lines.false) c.text_behind-text.ensures c.if-text-bytes.false
+returns c = film-ready _ _ c.in_ok-records.ensures c.behind.ensures c.read_records.ensures (ap not c.if-not-read_records.false) c.text_behind.ensures c.if-text_behind-bytes.false

@@ -5,8 +5,8 @@ use Rattle.setter.proofs.listing.print.write_entries.Goals as goal
 pub write_line-end-requires : goal.write_line-end-requires
 write_line-end-requires c = search printing
 
-pub loop-i-preserved : goal.loop-i-preserved
-loop-i-preserved c = search printing
+pub loop-preserved : goal.loop-preserved
+loop-preserved c = search printing
 
 pub returns : goal.returns
 returns c = search printing

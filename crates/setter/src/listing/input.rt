@@ -1,0 +1,35 @@
+// What the listing program reads, and how it reads. The program that replays stored answers reads so too.
+ghost use Rattle.std.specs.Prelude.{◌≤◌, length, take, IfOk};
+ghost use Rattle.std.specs.Io.KnownBytes.{Consumes};
+
+use crate::listing::film::MOST_BYTES;
+use std::io;
+use std::io::{ErrorKind, Read};
+
+// One byte more than the largest film has. Who reads no more than this of a longer film reads enough: what is printed
+// for these bytes is what would be printed for all of it, as `listing-cut` proves.
+pub const INPUT_BYTES: usize = MOST_BYTES + 1;
+
+// Reads until the buffer is full or nothing is left, and answers how many bytes were read: they stand at its front.
+pub fn read_full<R: Read>(from: &mut R, buffer: &mut [u8]) -> io::Result<usize>
+    ensures within { IfOk result (λ n. n ≤ length buffer.new) }
+    ensures bytes { IfOk result
+        (λ n. Consumes (R.remaining from.old) (R.remaining from.new) (take n buffer.new)) }
+{
+    let mut at = 0;
+    for _ in 0..u64::MAX {
+        if at == buffer.len() {
+            break;
+        }
+        match from.read(&mut buffer[at..]) {
+            Ok(0) => break,
+            Ok(n) => at += n,
+            Err(error) => {
+                if error.kind() != ErrorKind::Interrupted {
+                    return Err(error);
+                }
+            }
+        }
+    }
+    Ok(at)
+}
