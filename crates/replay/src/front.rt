@@ -57,15 +57,13 @@ impl Call<'_> {
         ensures { Gives (answered_of self.now.function self.now.sheet.now self.now.text.now words.old self.now.lent)
             result words.new }
     {
-        match self.function {
-            Some(function) => {
-                if words.len() < self.lent {
-                    return NONE;
-                }
-                function.call(self.sheet, self.text, &mut words[..self.lent])
-            }
-            None => NONE,
+        let Some(function) = self.function else {
+            return NONE;
+        };
+        if words.len() < self.lent {
+            return NONE;
         }
+        function.call(self.sheet, self.text, &mut words[..self.lent])
     }
 
     // Compares the answer, where the call `fits`, and each of the words: it is the one that is stored, and BEFORE behind
