@@ -34,7 +34,8 @@ fn room() -> [u8; films::MOST] {
     [0u8; films::MOST]
 }
 
-// Reads the next record into the front of the buffer, and answers how many bytes it has; None at the file's end.
+// Reads the next record into the front of the buffer, and answers how many bytes it has; None at the file's end. A file
+// that cannot be read where a record would begin ends there.
 fn read_record<R: Read, F: Format>(
     file: &mut R,
     format: &F,
@@ -46,11 +47,11 @@ fn read_record<R: Read, F: Format>(
     if buffer.len() < head {
         return Err(Broken::TooLong);
     }
-    let read = read_full(file, &mut buffer[..head])?;
-    if read == 0 {
-        return Ok(None);
-    }
-    if read < head {
+    let first = match read_full(file, &mut buffer[..head.min(1)]) {
+        Ok(0) | Err(_) => return Ok(None),
+        Ok(n) => n,
+    };
+    if read_full(file, &mut buffer[first..head])? < head - first {
         return Err(Broken::CutOff);
     }
     let behind = format.behind(&buffer[..head]);

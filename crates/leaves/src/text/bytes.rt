@@ -1,7 +1,6 @@
 // Bytes by name, and classes of bytes.
 ghost use Rattle.std.specs.Prelude.{◌≡◌};
 ghost use Rattle.leaves.specs.Text.Bytes.{between, is_blank_byte, is_line_ending_byte, is_letter, is_digit};
-ghost use Rattle.leaves.specs.Text.Lists.{when◌then◌else◌};
 
 pub(crate) const TAB: u8 = b'\t';
 
@@ -26,24 +25,6 @@ pub(crate) const UNDERSCORE: u8 = b'_';
 pub(crate) const BACKTICK: u8 = b'`';
 
 pub(crate) const PIPE: u8 = b'|';
-
-pub fn choose(first: bool, a: bool, b: bool) -> bool
-    ensures { result ≡ (when first then a else b) }
-{
-    if first { a } else { b }
-}
-
-pub fn pick(first: bool, a: u32, b: u32) -> u32
-    ensures { result ≡ (when first then a else b) }
-{
-    if first { a } else { b }
-}
-
-pub fn between(low: u32, high: u32, n: u32) -> bool
-    ensures { result ≡ between low high n }
-{
-    low <= n && n <= high
-}
 
 pub(crate) fn is_blank_byte(b: u8) -> bool
     ensures { result ≡ is_blank_byte b }
