@@ -10,7 +10,8 @@ use leaves::sheet::kinds;
 use leaves::sheet::records::Rec;
 use leaves::text::marker::written_marker;
 
-// What the rules ask of the block before. `kind` is 0 where there is none.
+// What the rules ask of the block before. `kind` is 0 where there is none, as the definition has it: no kind is 0, and
+// each test asks for one kind, so an Option would be unwrapped to 0 each time.
 #[derive(Clone, Copy)]
 pub struct Before {
     pub kind: u32,

@@ -9,6 +9,7 @@ use leaves::sheet::records::Rec;
 use leaves::sheet::texts::text_of;
 use leaves::text::fence::{FrontmatterKind, holds_fence_line};
 
+// Every A but 1 is YAML: nothing can fail, so this is no TryFrom.
 fn frontmatter_kind(a: u32) -> FrontmatterKind
     ensures { result ≡ frontmatter_kind a }
 {

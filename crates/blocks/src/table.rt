@@ -32,6 +32,7 @@ fn validate_cells(records: &mut Records, report: &mut Report)
         (trees records.old report.old.level)) }
 {
     let level = report.level;
+    // the index that goes into the path
     let mut k: u32 = 0;
     while let Some(cell) = records.next_under(level) {
         report.enter(k, cell.level);
@@ -48,6 +49,7 @@ fn validate_rows(records: &mut Records, report: &mut Report, width: usize)
         (trees records.old report.old.level)) }
 {
     let level = report.level;
+    // the index that goes into the path
     let mut k: u32 = 0;
     while let Some(row) = records.next_under(level) {
         report.enter(k, row.level);

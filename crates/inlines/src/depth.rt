@@ -1,4 +1,5 @@
-// The walks over every record of some trees, at any depth.
+// The walks over every record of some trees, at any depth. Their loops differ in one test: a closure for it, with what it
+// promises, would be longer than the loop.
 ghost use Rattle.leaves.specs.Sheet.Trees.{trees};
 ghost use Rattle.leaves.specs.Report.Listed.{path_of};
 ghost use Rattle.leaves.specs.Report.RuleNumbers.{rule_number};

@@ -51,7 +51,7 @@ pub fn validate_directive_name(bytes: &[u8], report: &mut Report, span: Span, na
 }
 
 // Rules 37, 38: a break after a break would leave an empty line, and two strikethroughs join their delimiters.
-// `before` is the kind of the inline before, 0 where there is none.
+// `before` is the kind of the inline before, 0 where there is none, as the definition has it: no kind is 0.
 pub(crate) fn validate_siblings(report: &mut Report, before: u32, r: Rec)
     ensures { Adds report.old report.new
         (validate_siblings (path_of report.old) r.span before r.kind r.a) }

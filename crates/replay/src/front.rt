@@ -67,7 +67,7 @@ impl Call<'_> {
     }
 
     // Compares the answer, where the call `fits`, and each of the words: it is the one that is stored, and BEFORE behind
-    // those, also where it was not lent.
+    // those, also where it was not lent. A struct of what is stored would be made only to be taken apart here.
     pub fn compare(
         &self,
         words: &mut [u32],

@@ -1,5 +1,5 @@
 // The static library: the two functions of `setter::exports`, under the names by which C and Rust call them, with the
-// same promises.
+// same promises. They stand in a crate of their own, since a crate is a library or a static library.
 #![tactic(auto)]
 
 ghost use Rattle.setter.specs.Exports.{CheckPromise, SetPromise};

@@ -53,7 +53,7 @@ impl Malformed {
     }
 }
 
-// The number of the answer; 0 where the sheet is accepted.
+// The number of the answer; 0 where the sheet is accepted, as the C interface has it.
 pub fn number_of(judged: Result<(), Malformed>) -> u32
     ensures { result ≡ (judged_answer judged).number }
 {
@@ -63,7 +63,7 @@ pub fn number_of(judged: Result<(), Malformed>) -> u32
     }
 }
 
-// The record of the answer; 0 where the sheet is accepted.
+// The record of the answer; 0 where the sheet is accepted, as the C interface has it.
 pub fn record_of(judged: Result<(), Malformed>) -> usize
     ensures { result ≡ (judged_answer judged).value }
 {

@@ -80,7 +80,8 @@ fn write_at(report: &mut [u32], at: usize, rule: Rule, span: Span, path: &[u32])
 }
 
 // A report that a walk writes, with the list's tally. The walk stands at a record of the level `level`, whose path is
-// the first `depth` words of `path`; before the first record both are 0.
+// the first `depth` words of `path`; before the first record both are 0. The path is an array with a length beside it,
+// since nothing may be allocated.
 #[derive(Drop)]
 pub struct Report<'a> {
     pub words: &'a mut [u32],

@@ -4,6 +4,7 @@ ghost use Rattle.leaves.specs.Sheet.Records.{record_words, word_at, text_at, rec
 
 pub const RECORD_WORDS: usize = 12;
 
+// A span, in the words of the C interface: entries have the same three, so `flag` is no Option of the other two.
 #[derive(Clone, Copy)]
 pub struct Span {
     pub flag: u32,

@@ -54,7 +54,8 @@ impl<'a> Records<'a> {
     }
 
     // The next record, and goes on behind it, where it is deeper than `level`. So a loop over this goes through all
-    // records of the trees side by side, and one that skips what stands under each goes from tree to tree.
+    // records of the trees side by side, and one that skips what stands under each goes from tree to tree. It is
+    // no Iterator for a `for`: what is called for a record moves the records on.
     pub fn next_under(&mut self, level: u32) -> Option<Rec>
         ensures some { IfSome result (λ r. Reads self.old self.new level r) }
         ensures none { IfNone result (Ends self.old self.new level) }

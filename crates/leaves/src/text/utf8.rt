@@ -121,7 +121,7 @@ impl Expected {
 }
 
 // Passes over chunks of ASCII, then reads a stretch a byte at a time: among other characters a chunk is seldom all
-// ASCII.
+// ASCII. A stretch begins where ASCII ends, so no iterator over chunks gives them.
 pub fn is_utf8(s: &[u8]) -> bool
     ensures { result ≡ is_utf8 s.now }
 {
