@@ -48,5 +48,5 @@ pub(crate) fn validate_directive(records: &Records, report: &mut Report, rule: R
     let mut inlines = label;
     validate_inlines(&mut inlines, report, level);
     let mut breaks = label;
-    depth::validate_one_line(&mut breaks, report, level, rule);
+    depth::validate_one_line(&mut breaks, report, level, rule.number());
 }

@@ -22,7 +22,7 @@ fn validate_cell(records: &mut Records, report: &mut Report)
     validate_inlines(&mut inlines, report, level);
     let mut values = *records;
     depth::validate_cell_values(&mut values, report, level);
-    depth::validate_one_line(records, report, level, Rule::BreakInCell);
+    depth::validate_one_line(records, report, level, Rule::BreakInCell.number());
 }
 
 // The cells of a row.

@@ -2,7 +2,6 @@
 // promises, would be longer than the loop.
 ghost use Rattle.leaves.specs.Sheet.Trees.{trees};
 ghost use Rattle.leaves.specs.Report.Listed.{path_of};
-ghost use Rattle.leaves.specs.Report.RuleNumbers.{rule_number};
 ghost use Rattle.inlines.specs.Walk.{Done};
 ghost use Rattle.inlines.specs.Depth.{validate_one_line, validate_cell_values};
 
@@ -13,13 +12,13 @@ use leaves::sheet::classes;
 use leaves::sheet::trees::Records;
 
 // Rules 20, 22, 23: no break at any depth. A record's children follow it in the sheet, so one loop reaches all depths.
-pub fn validate_one_line(records: &mut Records, report: &mut Report, level: u32, rule: Rule)
+pub fn validate_one_line(records: &mut Records, report: &mut Report, level: u32, rule: u32)
     ensures { Done records.old records.new level report.old report.new
-        (validate_one_line (rule_number rule) (path_of report.old) (trees records.old level)) }
+        (validate_one_line rule (path_of report.old) (trees records.old level)) }
 {
     while let Some(r) = records.next_under(level) {
         let fault = classes::is_break(r.kind);
-        report.list_if(fault, rule, r.span);
+        report.list_number_if(fault, rule, r.span);
     }
 }
 

@@ -110,20 +110,3 @@ passing-same {y = y} {u} {level} v m =
     let t = trees-moved level m in
     let n : u.next ≡ y.next = m.next in
     record { moved = moved-then v.moved (moved-at m (sym n)); gone = rw t (omega (arith, v.gone)) }
-
--- ---- `count`: the trees that were counted and those to come are all of them
-pub record CountsOn (x y : Records) (level counted : ℕ) : Type 0 where
-  pub few : counted ≤ y.next
-  pub all : counted + count (trees y level) ≡ count (trees x level)
-
-module _ {x y z : Records} {level counted : ℕ} (v : CountsOn x y level counted) where
-  pub counts-tree : {u : Records} {r : Rec} → Reads y z level r → Moved z u (z.next + size (trees z r.level)) → CountsOn x u level (counted + 1)
-  unfolding count
-  counts-tree {u} {r} reads behind =
-      let t : count (trees y level) ≡ suc (count (trees u level)) = ap count (reads-tree reads behind) in
-      let n : u.next ≡ y.next + 1 + size (trees z r.level) = behind-next reads behind in
-      record { few = omega (arith, v.few); all = omega (arith, v.all) }
-
-  pub counts-end : Ends y z level → counted ≡ count (trees x level)
-  unfolding count
-  counts-end e = let t : count (trees y level) ≡ 0 = ap count e.none in omega (arith, v.all)

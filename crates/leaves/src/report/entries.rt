@@ -1,6 +1,5 @@
 // Counts the report's entries, and writes those that fit.
 ghost use Rattle.std.specs.Prelude.{◌≡◌, cond, ◌+◌, ◌≤◌, length};
-ghost use Rattle.leaves.specs.Report.RuleNumbers.{rule_number};
 ghost use Rattle.leaves.specs.Report.Entries.{words, head_words, list_if, capped, start, counted};
 ghost use Rattle.leaves.specs.Text.Lists.{over};
 ghost use Rattle.leaves.specs.Refusal.Limits.{most_level};
@@ -53,25 +52,25 @@ fn sum(a: usize, b: usize) -> usize
 }
 
 // Writes an entry at the front of the tail, if the whole entry fits.
-fn write_entry(tail: &mut [u32], rule: Rule, span: Span, path: &[u32])
+fn write_entry(tail: &mut [u32], rule: u32, span: Span, path: &[u32])
     requires { length path.now ≤ most_level }
     ensures { tail.new
-        ≡ over tail.old 0 (words (record { rule = rule_number rule; span = span; path = path.now })) }
+        ≡ over tail.old 0 (words (record { rule = rule; span = span; path = path.now })) }
 {
     let n = path.len();
     if tail.len() < HEAD + n {
         return;
     }
-    let head = [rule.number(), span.flag, span.start, span.end, n as u32];
+    let head = [rule, span.flag, span.start, span.end, n as u32];
     tail[..HEAD].copy_from_slice(&head);
     tail[HEAD..HEAD + n].copy_from_slice(path);
 }
 
 // The same from word `at` on.
-fn write_at(report: &mut [u32], at: usize, rule: Rule, span: Span, path: &[u32])
+fn write_at(report: &mut [u32], at: usize, rule: u32, span: Span, path: &[u32])
     requires { length path.now ≤ most_level }
     ensures { report.new
-        ≡ over report.old at (words (record { rule = rule_number rule; span = span; path = path.now })) }
+        ≡ over report.old at (words (record { rule = rule; span = span; path = path.now })) }
 {
     if report.len() < at {
         return;
@@ -96,6 +95,7 @@ pub struct Report<'a> {
 
 impl<'a> Report<'a> {
     ghost use Rattle.std.specs.Prelude.{◌<◌};
+    ghost use Rattle.leaves.specs.Report.RuleNumbers.{rule_number};
     ghost use Rattle.leaves.specs.Report.Listed.{path_of, Adds, Enters, Leaves};
 
     // A report of no entries, before the first record.
@@ -114,9 +114,17 @@ impl<'a> Report<'a> {
         }
     }
 
-    // Where `fault` holds, counts the diagnostic, and writes its entry behind those before it if the whole entry fits.
+    // Where `fault` holds, counts a diagnostic of the rule, and writes its entry behind those before it if the whole entry
+    // fits.
     pub fn list_if(&mut self, fault: bool, rule: Rule, span: Span)
         ensures { Adds self.old self.new (list_if fault (rule_number rule) span (path_of self.old)) }
+    {
+        self.list_number_if(fault, rule.number(), span);
+    }
+
+    // The same for any number of a rule.
+    pub fn list_number_if(&mut self, fault: bool, rule: u32, span: Span)
+        ensures { Adds self.old self.new (list_if fault rule span (path_of self.old)) }
     {
         if !fault {
             return;

@@ -3,7 +3,7 @@ ghost use Rattle.std.specs.Prelude.{◌*◌, ◌<◌, ◌≤◌, ℕ, length};
 ghost use Rattle.leaves.specs.Sheet.Records.{record_at, record_words};
 ghost use Rattle.leaves.specs.Refusal.Limits.{most_records, most_level};
 
-use crate::sheet::records;
+use crate::sheet::{forest, records};
 use crate::sheet::records::{RECORD_WORDS, Rec};
 
 // The first `n` records of a sheet that keeps to the limits, the sheet's text, and the number of the record that is
@@ -75,29 +75,20 @@ impl<'a> Records<'a> {
     pub fn end(&self, level: u32) -> bool
         ensures { result ≡ eqb (count (trees self.now level)) 0 }
     {
-        if self.next == self.n {
-            return true;
-        }
-        records::level_at(self.sheet, self.next) <= level
+        forest::ends(self.sheet, self.n, self.next, level)
     }
 
     // Goes on behind the trees that are deeper than `level`.
     pub fn skip(&mut self, level: u32)
         ensures { Moved self.old self.new (self.old.next + size (trees self.old level)) }
     {
-        while let Some(_) = self.next_under(level) {}
+        self.next = forest::skip(self.sheet, self.n, self.next, level);
     }
 
     // How many trees deeper than `level` stand side by side.
     pub fn count(&self, level: u32) -> usize
         ensures { result ≡ count (trees self.now level) }
     {
-        let mut records = *self;
-        let mut trees: usize = 0;
-        while let Some(r) = records.next_under(level) {
-            records.skip(r.level);
-            trees += 1;
-        }
-        trees
+        forest::count(self.sheet, self.n, self.next, level)
     }
 }

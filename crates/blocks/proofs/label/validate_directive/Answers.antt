@@ -6,4 +6,4 @@ pub until-label-requires : goal.until-label-requires
 until-label-requires c = label-inside c.args.records.now _ c.label_end.ensures
 
 pub returns : goal.returns
-returns c = directive-done _ _ _ c.label_end.ensures c.validate_directive_name.ensures c.until-label.ensures c.validate_directive_attributes.ensures c.validate_inlines.ensures c.validate_one_line.ensures
+returns c = directive-done _ _ _ c.label_end.ensures c.validate_directive_name.ensures c.until-label.ensures c.validate_directive_attributes.ensures c.validate_inlines.ensures (rw c.number.ensures at c.validate_one_line.ensures)

@@ -3,4 +3,4 @@ use Rattle.blocks.proofs.TableLaws.{cell-done}
 use Rattle.blocks.proofs.table.validate_cell.Goals as goal
 
 pub returns : goal.returns
-returns c = cell-done c.validate_inlines.ensures c.validate_cell_values.ensures c.validate_one_line.ensures
+returns c = cell-done c.validate_inlines.ensures c.validate_cell_values.ensures (rw c.number.ensures at c.validate_one_line.ensures)

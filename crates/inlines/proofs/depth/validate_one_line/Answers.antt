@@ -10,7 +10,7 @@ unfolding validate_one_line
 loop-r-init c = loop-start _
 
 pub loop-r-preserved : goal.loop-r-preserved
-loop-r-preserved c = each_turn (λ r. is_break r.kind) _ c.loop-r.invariant c.in-Some.ensures.some c.is_break-fault.ensures c.list_if.ensures
+loop-r-preserved c = each_turn (λ r. is_break r.kind) _ c.loop-r.invariant c.in-Some.ensures.some c.is_break-fault.ensures c.list_number_if.ensures
 
 pub returns : goal.returns
 returns c = loop-end c.loop-r.invariant (each_none _) c.in_default.ensures.none

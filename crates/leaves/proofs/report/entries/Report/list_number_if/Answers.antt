@@ -1,8 +1,8 @@
--- `leaves::report::entries::Report::list_if` meets its contract.
+-- `leaves::report::entries::Report::list_number_if` meets its contract.
 use mathlib.Core.Path.{refl, ap}
 use mathlib.Core.Bool.{not}
 use Rattle.leaves.proofs.report.ListedLaws.{lists-not, lists-one}
-use Rattle.leaves.proofs.report.entries.Report.list_if.Goals as goal
+use Rattle.leaves.proofs.report.entries.Report.list_number_if.Goals as goal
 
 pub returns-then-not-fault : goal.returns-then-not-fault
 returns-then-not-fault c = lists-not _ _ _ _ (ap not c.if-not-fault.true)
