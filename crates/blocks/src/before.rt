@@ -10,8 +10,8 @@ use leaves::sheet::kinds;
 use leaves::sheet::records::Rec;
 use leaves::text::marker::written_marker;
 
-// What the rules ask of the block before. `kind` is 0 where there is none, as the definition has it: no kind is 0, and
-// each test asks for one kind, so an Option would be unwrapped to 0 each time.
+// What the rules ask of the block before. `kind` is 0 where there is none, and 0 is no kind: each test
+// asks for one kind, and of an Option it would ask that and that there is one.
 #[derive(Clone, Copy)]
 pub struct Before {
     pub kind: u32,

@@ -46,7 +46,7 @@ pub(crate) fn validate_item_blank_lines(
 {
     let level = report.level;
     let mut records = *records;
-    // the index that goes into the path
+    // the index that goes into the path; `records` is no Iterator that could be enumerated
     let mut k: u32 = 0;
     while let Some(r) = records.next_under(level) {
         records.skip(r.level);

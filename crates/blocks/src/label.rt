@@ -23,8 +23,7 @@ fn label_end(records: &Records, level: u32) -> usize
     let mut records = *records;
     let mut end = records.next;
     while let Some(r) = records.next_under(level) {
-        let block = kinds::is_block(r.kind);
-        if block {
+        if kinds::is_block(r.kind) {
             return end;
         }
         records.skip(r.level);

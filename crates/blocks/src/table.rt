@@ -32,7 +32,7 @@ fn validate_cells(records: &mut Records, report: &mut Report)
         (trees records.old report.old.level)) }
 {
     let level = report.level;
-    // the index that goes into the path
+    // the index that goes into the path; `records` is no Iterator that could be enumerated
     let mut k: u32 = 0;
     while let Some(cell) = records.next_under(level) {
         report.enter(k, cell.level);
@@ -49,7 +49,7 @@ fn validate_rows(records: &mut Records, report: &mut Report, width: usize)
         (trees records.old report.old.level)) }
 {
     let level = report.level;
-    // the index that goes into the path
+    // the index that goes into the path; `records` is no Iterator that could be enumerated
     let mut k: u32 = 0;
     while let Some(row) = records.next_under(level) {
         report.enter(k, row.level);

@@ -40,7 +40,7 @@ fn validate_blocks(records: &mut Records, report: &mut Report)
         a: 0,
         b: 0,
     };
-    // the index that goes into the path
+    // the index that goes into the path; `records` is no Iterator that could be enumerated
     let mut k: u32 = 0;
     while let Some(r) = records.next_under(level) {
         report.enter(k, r.level);
@@ -84,7 +84,7 @@ fn validate_list_items(records: &mut Records, report: &mut Report, list: Rec)
         (trees records.old report.old.level)) }
 {
     let level = report.level;
-    // the index that goes into the path
+    // the index that goes into the path; `records` is no Iterator that could be enumerated
     let mut k: u32 = 0;
     while let Some(r) = records.next_under(level) {
         report.enter(k, r.level);

@@ -11,5 +11,4 @@ pub mod NodesLaws
 pub mod OwnLaws
 pub mod PathLaws
 pub mod SingleLaws
-pub mod ValueLaws
 pub mod WalkLaws

@@ -93,9 +93,9 @@ module _ {level : ℕ} {x : Records} {p : Report} where
         let r : v.before ≡ es = sym (join-none v.before) ∙ rw (k.none, e) at v.rest in
         record { moved = passing-end v.passing k; adds = rw r at v.adds }
 
--- ---- the levels left. Where a walk of the level `level` may go at least `left` levels deeper, a record of the level m
--- below it takes one of them: the rest is enough under that record, and the number of a cycle of calls falls (twice the
--- levels left for a loop, one more for a record).
+-- ---- the levels left. `left` levels are enough below `level`; then one less is enough below a deeper record, of the level
+-- m, and the number of a cycle of calls falls: twice the levels left for a loop, and one more for a record. The walks
+-- take 64 less the level for `left`.
 pub record Falls (left m : ℕ) : Type 0 where
   pub some : 1 ≤ left
   pub rest : most_level ≤ left - 1 + m
@@ -104,7 +104,8 @@ pub record Falls (left m : ℕ) : Type 0 where
 pub levels-fall : {left level m : ℕ} → most_level ≤ left + level → m ≤ most_level → level < m → Falls left m
 levels-fall enough most d = record { some = omega arith; rest = omega arith; less = omega arith }
 
--- ---- what acceptance gives a walk from record `from` on, whose path has at most as many words as a sheet has levels
+-- ---- what acceptance gives a walk of the first n records of a sheet from record `from` on, with a path of at most 64
+-- words: what `Records` and `Report` keep of them
 pub record Start (w path : List ℕ) (n from : ℕ) : Type 0 where
   pub whole : n * record_words ≤ length w
   pub few : n ≤ most_records

@@ -26,7 +26,7 @@ pub(crate) struct Content {
     pub joined: bool,
     // the last is a line break
     pub breaks: bool,
-    // the span of the last
+    // the span of the last, which is asked for only where `breaks`: an Option would be taken apart there
     pub last: Span,
 }
 

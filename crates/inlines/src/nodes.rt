@@ -35,8 +35,8 @@ fn validate_node(records: &mut Records, report: &mut Report, r: Rec, before: u32
     validate_inline_nodes(records, report, r.level, 0);
 }
 
-// The inlines that are next and deeper than `level`. `before` is the kind of the inline before them, 0 where there is
-// none.
+// The inlines that are next and deeper than `level`. `before` is the kind of the inline before them, 0, which is no kind,
+// where there is none.
 #[cycle(nodes)]
 fn validate_inline_nodes(records: &mut Records, report: &mut Report, level: u32, before: u32)
     ensures { Done records.old records.new level report.old report.new

@@ -51,7 +51,8 @@ pub fn validate_directive_name(bytes: &[u8], report: &mut Report, span: Span, na
 }
 
 // Rules 37, 38: a break after a break would leave an empty line, and two strikethroughs join their delimiters.
-// `before` is the kind of the inline before, 0 where there is none, as the definition has it: no kind is 0.
+// `before` is the kind of the inline before, 0 where there is none. 0 is no kind: each test asks for one kind, and of an
+// Option it would ask that and that there is one.
 pub(crate) fn validate_siblings(report: &mut Report, before: u32, r: Rec)
     ensures { Adds report.old report.new
         (validate_siblings (path_of report.old) r.span before r.kind r.a) }

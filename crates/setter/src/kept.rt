@@ -9,8 +9,8 @@ use leaves::sheet::{classes, empty, kinds};
 use leaves::text::marker::written_marker;
 
 // What the machine keeps of an open record. The first five fields are of the record and of what is open around it, the
-// others of its children that have closed. Four fields are 0 for none, as the definition has them: an Option would be
-// unwrapped to 0 where the field is compared or counted on from.
+// others of its children that have closed. Four fields are 0 for none: each is asked for one value, which is not 0, or
+// counted on from, and of an Option the machine would ask that and that it is there.
 #[derive(Clone, Copy)]
 pub(crate) struct Kept {
     // the record's number in the sheet, from 0

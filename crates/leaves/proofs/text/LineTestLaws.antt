@@ -10,15 +10,22 @@ use Rattle.leaves.specs.Text.Lines.{holds_line_ending}
 use Rattle.leaves.specs.Text.Lists.{any}
 use Rattle.leaves.proofs.text.ChunkLaws.{leap}
 
-quiet : (b : ℕ) (s : List ℕ) → is_neither lf cr b ≡ true → any is_line_ending_byte (b ∷ s) ≡ any is_line_ending_byte s
+-- bytes that are neither of two, where a test asks for no other
+pub any-leap : (test : ℕ → Bool) (x y : ℕ) {s rest : List ℕ} → ((b : ℕ) → is_neither x y b ≡ true → test b ≡ false) → Past (is_neither x y) s rest → any test s ≡ any test rest
 unfolding any
-quiet b s = go (eqb b lf) (eqb b cr)
+any-leap test x y n p = leap (is_neither x y) (any test) quiet p
   where
-    go : (t u : Bool) → (not t && not u) ≡ true → ((t || u) || any is_line_ending_byte s) ≡ any is_line_ending_byte s
+    quiet : (b : ℕ) (t : List ℕ) → is_neither x y b ≡ true → any test (b ∷ t) ≡ any test t
+    quiet b t h = rw (n b h)
+
+no-ending : (b : ℕ) → is_neither lf cr b ≡ true → is_line_ending_byte b ≡ false
+no-ending b = go (eqb b lf) (eqb b cr)
+  where
+    go : (t u : Bool) → (not t && not u) ≡ true → (t || u) ≡ false
     go false false e = refl
     go false true e = absurd (false≢true e)
     go true u e = absurd (false≢true e)
 
 pub endings-past : {r : Bool} {s rest : List ℕ} → Past (is_neither lf cr) s rest → r ≡ any is_line_ending_byte rest → r ≡ holds_line_ending s
 unfolding holds_line_ending
-endings-past p e = e ∙ sym (leap (is_neither lf cr) (any is_line_ending_byte) quiet p)
+endings-past p e = e ∙ sym (any-leap is_line_ending_byte lf cr no-ending p)

@@ -80,7 +80,7 @@ impl Tables {
 }
 
 // What stands before a record under its parent: the parent's group, the place of the child before it (0 where
-// there is none), and how many HTML tags. A group is a number and no enum, since the tables are read by it.
+// there is none: it is below each place), and how many HTML tags. A group is a number and no enum, since the tables are read by it.
 #[derive(Clone, Copy)]
 pub struct Open {
     pub group: u32,

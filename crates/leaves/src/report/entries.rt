@@ -134,7 +134,7 @@ impl<'a> Report<'a> {
         self.tally = self.tally.with_entry(self.depth);
     }
 
-    // Goes on to a record of the level `level`, which is the child number `index` of the one before.
+    // Goes on to a record of the level `level`, which is the child number `index` of the record where the walk stood.
     pub fn enter(&mut self, index: u32, level: u32)
         requires { (self.old.level < level) × (level ≤ most_level) }
         ensures { Enters self.old self.new index level }

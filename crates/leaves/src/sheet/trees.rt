@@ -3,8 +3,8 @@ ghost use Rattle.std.specs.Prelude.{◌*◌, ◌<◌, ◌≤◌, ℕ, length};
 ghost use Rattle.leaves.specs.Sheet.Records.{record_at, record_words};
 ghost use Rattle.leaves.specs.Refusal.Limits.{most_records, most_level};
 
-use crate::sheet::{forest, records};
 use crate::sheet::records::{RECORD_WORDS, Rec};
+use crate::sheet::{forest, records};
 
 // The first `n` records of a sheet that keeps to the limits, the sheet's text, and the number of the record that is
 // read next.
@@ -53,7 +53,7 @@ impl<'a> Records<'a> {
         }
     }
 
-    // The next record, and goes on behind it, where it is deeper than `level`. So a loop over this goes through all
+    // Reads the next record where it is deeper than `level`, and goes on behind it. So a loop over this goes through all
     // records of the trees side by side, and one that skips what stands under each goes from tree to tree. It is
     // no Iterator for a `for`: what is called for a record moves the records on.
     pub fn next_under(&mut self, level: u32) -> Option<Rec>

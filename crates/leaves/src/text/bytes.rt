@@ -1,6 +1,6 @@
 // Bytes by name, and classes of bytes.
 ghost use Rattle.std.specs.Prelude.{◌≡◌};
-ghost use Rattle.leaves.specs.Text.Bytes.{between, is_blank_byte, is_line_ending_byte, is_letter, is_digit};
+ghost use Rattle.leaves.specs.Text.Bytes.{is_blank_byte, is_line_ending_byte, is_letter, is_digit};
 
 pub(crate) const TAB: u8 = b'\t';
 

@@ -1,6 +1,0 @@
--- `inlines::values::ends_white` meets its contract.
-use Rattle.inlines.proofs.ValueLaws.{values}
-use Rattle.inlines.proofs.values.ends_white.Goals as goal
-
-pub returns : goal.returns
-returns c = search values
