@@ -76,7 +76,7 @@ pub enum Setting {
     Stopped(Stop, u32),
 }
 
-// Why nothing was set.
+// Why nothing was set. It is no error of the check, which the machine does not ask.
 #[derive(Clone, Copy, PartialEq, Eq, Debug)]
 pub enum SetError {
     Malformed(Malformed),

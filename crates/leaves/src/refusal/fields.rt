@@ -169,21 +169,6 @@ fn is_absent(t: Text) -> bool
     t.start == 0 && t.len == 0
 }
 
-// Every kind may have the text 0, 0, so the kind is tested only for other texts.
-#[tactic(auto, unfolding(crate::specs::Refusal::Fields::bad_text))]
-fn bad_first(kind: u32, a: u32, t: Text) -> bool
-    ensures { result ≡ bad_text (has_first kind a) t }
-{
-    !is_absent(t) && !has_first(kind, a)
-}
-
-#[tactic(auto, unfolding(crate::specs::Refusal::Fields::bad_text))]
-fn bad_second(kind: u32, b: u32, t: Text) -> bool
-    ensures { result ≡ bad_text (has_second kind b) t }
-{
-    !is_absent(t) && !has_second(kind, b)
-}
-
 #[tactic(auto, unfolding(crate::specs::Refusal::Fields::bad_span))]
 fn bad_span(kind: u32, s: Span) -> bool
     ensures { result ≡ bad_span kind s }
@@ -216,13 +201,14 @@ fn bad_number(r: Rec) -> bool
         || is_surrogate(r.kind, r.a)
 }
 
-// Whether a value is out of range or an unused word is not 0.
-#[tactic(auto, unfolding(crate::specs::Refusal::Fields::bad_field))]
+// Whether a value is out of range or an unused word is not 0. Every kind may have the text 0, 0, so the kind is tested
+// only for other texts.
+#[tactic(auto, unfolding(crate::specs::Refusal::Fields::bad_field, crate::specs::Refusal::Fields::bad_text))]
 pub(crate) fn bad_field(r: Rec) -> bool
     ensures { result ≡ bad_field r }
 {
     bad_number(r)
         || bad_span(r.kind, r.span)
-        || bad_first(r.kind, r.a, r.first)
-        || bad_second(r.kind, r.b, r.second)
+        || (!is_absent(r.first) && !has_first(r.kind, r.a))
+        || (!is_absent(r.second) && !has_second(r.kind, r.b))
 }

@@ -61,7 +61,8 @@ impl Tables {
         self.places[group as usize][column as usize]
     }
 
-    // The place of a kind under a group of parents; 0 where it is not allowed there.
+    // The place of a kind under a group of parents; 0 where it is not allowed there. What reads the tables by a kind asks
+    // that it is known, which `judge` has tested: a type of known kinds would be made for this, and taken apart at once.
     #[tactic(auto, unfolding(crate::specs::Refusal::Places::place_of))]
     fn place_of(&self, group: u32, kind: u32) -> u32
         requires { is_kind kind ≡ true }
@@ -80,7 +81,8 @@ impl Tables {
 }
 
 // What stands before a record under its parent: the parent's group, the place of the child before it (0 where
-// there is none: it is below each place), and how many HTML tags. A group is a number and no enum, since the tables are read by it.
+// there is none: it is below each place), and how many HTML tags. A group is a number and no enum, since the tables are
+// read by it.
 #[derive(Clone, Copy)]
 pub struct Open {
     pub group: u32,

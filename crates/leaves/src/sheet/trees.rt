@@ -7,7 +7,7 @@ use crate::sheet::records::{RECORD_WORDS, Rec};
 use crate::sheet::{forest, records};
 
 // The first `n` records of a sheet that keeps to the limits, the sheet's text, and the number of the record that is
-// read next.
+// read next. `n` stands beside the sheet, so that no step divides its words by those of a record.
 #[derive(Clone, Copy)]
 pub struct Records<'a> {
     pub sheet: &'a [u32],

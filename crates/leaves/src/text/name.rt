@@ -15,6 +15,7 @@ ghost use Rattle.leaves.specs.Text.Name.{
 use crate::text::bytes;
 use crate::text::bytes::{COLON, HYPHEN, UNDERSCORE};
 
+// The tests of a run's first byte and of the others are two, as they are in the definition.
 fn begins_run(b: u8) -> bool
     ensures { result ≡ begins_run b }
 {
