@@ -3,25 +3,15 @@ use mathlib.Core.Path.{◌≡◌}
 use mathlib.Core.Bool.{not, ◌&&◌}
 use mathlib.Core.List.{List}
 use Prim.Native.Nat.{ℕ}
-use borrow.Author.Tests.{eq-eqb, ne_eqb}
 use lib.Dec.{eqb, ltb}
 use Rattle.leaves.specs.declared.sheet.records.Span.{Span}
 use Rattle.leaves.specs.Report.Rules
-use Rattle.blocks.specs.Number.{item_number, validate_item_number}
+use Rattle.blocks.specs.Number.{validate_item_number}
 use Rattle.leaves.specs.Report.Entries.{list_if}
 use Rattle.std.specs.Prelude.{Option, Some, None}
 use Rattle.leaves.specs.Report.Listed.{path_of, Adds}
 use Rattle.leaves.specs.declared.report.entries.Report.{Report}
 use Rattle.leaves.proofs.report.ListedLaws.{adds-none, adds-then}
-
-module _ (b c : ℕ) where
-  pub number-some : b ≡ 1 → Some c ≡ item_number b c
-  unfolding item_number
-  number-some e = rw (eq-eqb b 1 e)
-
-  pub number-none : (b ≡ 1 → ⊥) → None ≡ item_number b c
-  unfolding item_number
-  number-none e = rw (ne_eqb b 1 e)
 
 module _ (span : Span) (ordered : ℕ) {m : Option ℕ} {x : Report} where
   pub number-absent : (path : List ℕ) → m ≡ None → Adds x x (validate_item_number path span ordered m)

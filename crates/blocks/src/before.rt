@@ -20,10 +20,11 @@ pub struct Before {
 }
 
 // Indented code and footnote definitions take the lines of indented code that follows them.
+#[tactic(auto, unfolding(crate::specs::Before::takes_indented_code))]
 fn takes_indented_code(kind: u32, a: u32) -> bool
     ensures { result ≡ takes_indented_code kind a }
 {
-    ((kind == kinds::CODE_BLOCK) & (a == 1)) | (kind == kinds::FOOTNOTE_DEFINITION)
+    (kind == kinds::CODE_BLOCK && a == 1) || kind == kinds::FOOTNOTE_DEFINITION
 }
 
 // Rule 1: two lists of one marker would read as one. Rule 15: indented code follows no block that takes its lines.
@@ -40,6 +41,7 @@ pub(crate) fn validate_taken_block(report: &mut Report, before: Before, r: Rec)
 }
 
 // The block before the next tree. Blank lines do not count, and trees that are not blocks do not either.
+#[tactic(auto, unfolding(crate::specs::Before::before_at, crate::specs::Before::before_next))]
 pub(crate) fn before_at(before: Before, r: Rec) -> Before
     ensures { result ≡ before_at before r.kind r.a r.b }
 {
@@ -57,6 +59,7 @@ pub(crate) fn before_at(before: Before, r: Rec) -> Before
 }
 
 // The next tree's index: one more after a block.
+#[tactic(auto, unfolding(crate::specs::Before::index_at))]
 pub(crate) fn index_at(k: u32, kind: u32) -> u32
     requires { k ≤ most_records }
     ensures { result ≡ index_at k kind }

@@ -10,6 +10,7 @@ use leaves::sheet::texts::text_of;
 use leaves::text::fence::{FrontmatterKind, holds_fence_line};
 
 // Every A but 1 is YAML: nothing can fail, so this is no TryFrom.
+#[tactic(auto, unfolding(crate::specs::Frontmatter::frontmatter_kind))]
 fn frontmatter_kind(a: u32) -> FrontmatterKind
     ensures { result ≡ frontmatter_kind a }
 {

@@ -13,19 +13,21 @@ use leaves::text::name::is_blank_identifier;
 use leaves::text::title::is_alert_title;
 
 // Rule 10: a heading's depth is from 1 to 6.
+#[tactic(auto, unfolding(crate::specs::Heads::validate_heading))]
 pub(crate) fn validate_heading(report: &mut Report, r: Rec)
     ensures { Adds report.old report.new (validate_heading (path_of report.old) r.span r.a) }
 {
-    let fault = (r.a == 0) | (6 < r.a);
+    let fault = r.a == 0 || 6 < r.a;
     report.list_if(fault, Rule::HeadingDepth, r.span);
 }
 
 // Rule 11, where there is a title (A is 1).
+#[tactic(auto, unfolding(crate::specs::Heads::validate_alert))]
 pub(crate) fn validate_alert(bytes: &[u8], report: &mut Report, r: Rec)
     ensures { Adds report.old report.new
         (validate_alert bytes.now (path_of report.old) r.span r.a r.first) }
 {
-    let fault = (r.a == 1) & !is_alert_title(text_of(bytes, r.first));
+    let fault = r.a == 1 && !is_alert_title(text_of(bytes, r.first));
     report.list_if(fault, Rule::AlertTitle, r.span);
 }
 

@@ -10,6 +10,7 @@ use leaves::sheet::records::Span;
 const MOST_NUMBER: u32 = 999999999;
 
 // The number of an item, from its B and C.
+#[tactic(auto, unfolding(crate::specs::Number::item_number))]
 pub(crate) fn item_number(b: u32, c: u32) -> Option<u32>
     ensures { result ≡ item_number b c }
 {

@@ -9,7 +9,7 @@ use Rattle.leaves.specs.Text.Math.{holds_backtick_dollar}
 use Rattle.leaves.specs.Sheet.Texts.{text_of}
 use Rattle.leaves.specs.declared.sheet.records.Span.{Span}
 use Rattle.leaves.specs.declared.sheet.records.Text.{Text}
-use Rattle.inlines.specs.Literal.{validate_text, validate_code_inline, validate_math_inline}
+use Rattle.inlines.specs.Literal.{validate_code_inline, validate_math_inline}
 use Rattle.leaves.specs.Report.Rules
 use Rattle.leaves.specs.Sheet.Empty.{is_empty}
 use Rattle.leaves.specs.Report.Listed.{path_of, Adds}
@@ -18,10 +18,6 @@ use Rattle.leaves.specs.Report.Entries.{list_if}
 use Rattle.leaves.proofs.report.ListedLaws.{adds-then}
 
 module _ (span : Span) {x y : Report} {p : Bool} where
-  pub text-law : (path bytes : List ℕ) (value : Text) {n : List ℕ} → n ≡ text_of bytes value → p ≡ holds_line_ending n → Adds x y (list_if p Rules.line_ending_in_text span path) → Adds x y (validate_text bytes path span value)
-  unfolding validate_text
-  text-law path bytes value f e l = rw (e, f) at l
-
   module _ {z : Report} {q : Bool} where
     module _ (bytes : List ℕ) (value : Text) {n : List ℕ} (f : n ≡ text_of bytes value) (e : p ≡ is_empty value) where
       pub code-law : q ≡ holds_line_ending n → Adds x y (list_if p Rules.empty_code span (path_of x)) → Adds y z (list_if q Rules.line_ending_in_code span (path_of y)) → Adds x z (validate_code_inline bytes (path_of x) span value)

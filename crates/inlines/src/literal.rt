@@ -11,6 +11,7 @@ use leaves::text::lines::holds_line_ending;
 use leaves::text::math::holds_backtick_dollar;
 
 // Rule 31: text holds no line ending.
+#[tactic(auto, unfolding(crate::specs::Literal::validate_text))]
 pub(crate) fn validate_text(bytes: &[u8], report: &mut Report, span: Span, value: Text)
     ensures { Adds report.old report.new (validate_text bytes.now (path_of report.old) span value) }
 {

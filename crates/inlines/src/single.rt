@@ -18,14 +18,16 @@ use leaves::text::name::is_directive_name;
 use leaves::text::punctuation::is_ascii_punctuation;
 
 // Rule 25: a bare destination (`a` is 0) is not empty.
+#[tactic(auto, unfolding(crate::specs::Single::validate_destination))]
 pub fn validate_destination(report: &mut Report, span: Span, a: u32, destination: Text)
     ensures { Adds report.old report.new (validate_destination (path_of report.old) span a destination) }
 {
-    let fault = (a == 0) & empty::is_empty(destination);
+    let fault = a == 0 && empty::is_empty(destination);
     report.list_if(fault, Rule::EmptyBareDestination, span);
 }
 
 // An identifier or a target is not empty. `rule` is 32, 33, 34 or 36.
+#[tactic(auto, unfolding(crate::specs::Single::validate_identifier))]
 pub(crate) fn validate_identifier(report: &mut Report, rule: Rule, span: Span, identifier: Text)
     ensures { Adds report.old report.new
         (validate_identifier (path_of report.old) (rule_number rule) span identifier) }
@@ -34,6 +36,7 @@ pub(crate) fn validate_identifier(report: &mut Report, rule: Rule, span: Span, i
 }
 
 // Rule 43: an escaped value is ASCII punctuation.
+#[tactic(auto, unfolding(crate::specs::Single::validate_escape))]
 pub(crate) fn validate_escape(report: &mut Report, span: Span, a: u32)
     ensures { Adds report.old report.new (validate_escape (path_of report.old) span a) }
 {
@@ -42,6 +45,7 @@ pub(crate) fn validate_escape(report: &mut Report, span: Span, a: u32)
 }
 
 // Rule 54.
+#[tactic(auto, unfolding(crate::specs::Single::validate_directive_name))]
 pub fn validate_directive_name(bytes: &[u8], report: &mut Report, span: Span, name: Text)
     ensures { Adds report.old report.new
         (validate_directive_name bytes.now (path_of report.old) span name) }
