@@ -3,4 +3,4 @@ use Rattle.inlines.proofs.LiteralLaws.{math-law}
 use Rattle.inlines.proofs.literal.validate_math_inline.Goals as goal
 
 pub returns : goal.returns
-returns c = math-law _ _ _ c.text_of.ensures c.is_empty.ensures _ _ c.holds_backtick_dollar.ensures c.list_if.ensures c.list_if-2.ensures c.list_if-3.ensures
+returns c = math-law _ _ _ c.text_of.ensures c.is_empty-empty.ensures _ _ c.holds_backtick_dollar.ensures c.list_if.ensures c.list_if-2.ensures c.list_if-3.ensures
