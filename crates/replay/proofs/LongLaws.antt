@@ -6,7 +6,7 @@ use borrow.Author.Rules.{rules}
 use borrow.Author.Tests.{eq-eqb, ne_eqb}
 use lib.Dec.{leb}
 use lib.ListN.{length, length-replicate}
-use Rattle.replay.specs.File.{Adds}
+use Rattle.replay.specs.File.{AddsFile}
 use Rattle.leaves.specs.Text.Part.{part_of}
 use Rattle.replay.specs.declared.tally.Tally.{Tally}
 use Rattle.replay.specs.Bytes.{number_at, long_at}
@@ -56,9 +56,9 @@ unfolding unfilled
 unfilled-long old e = as_long long_words old e
 
 -- the long sheet is filled in its whole length
-pub add-calls : (old sheet text : List ℕ) (total t : Tally) → Adds (λ r u. call_replayed r sheet text u) total t → sheet ≡ breaks_of (length old) → old ≡ unfilled → text ≡ zeros → Adds long_replayed total t
+pub add-calls : (old sheet text : List ℕ) (total t : Tally) → AddsFile (λ r u. call_replayed r sheet text u) total t → sheet ≡ breaks_of (length old) → old ≡ unfilled → text ≡ zeros → AddsFile long_replayed total t
 add-calls old sheet text total t h b o z =
     let e : sheet ≡ breaks_of long_words = b ∙ ap breaks_of (unfilled-long old o) in
-    subst (λ (s : List ℕ). Adds (λ r u. call_replayed r s zeros u) total t) e (subst (λ (s : List ℕ). Adds (λ r u. call_replayed r sheet s u) total t) z h)
+    subst (λ (s : List ℕ). AddsFile (λ r u. call_replayed r s zeros u) total t) e (subst (λ (s : List ℕ). AddsFile (λ r u. call_replayed r sheet s u) total t) z h)
 
 pub ruleset longs = (break-kind, break-level, break-rest, rules)

@@ -11,7 +11,7 @@ use Rattle.leaves.specs.Text.Part.{part_of}
 use Rattle.replay.specs.declared.tally.Tally.{Tally}
 use Rattle.replay.specs.Bytes.{byte_at, number_at}
 use Rattle.replay.specs.Tally.{recorded, comparing}
-use Rattle.replay.specs.Texts.{is_set, compared_bit, compared_bits, answers_for, text_replayed}
+use Rattle.replay.specs.Texts.{is_bit_set, compared_with_bit, compared_bits, answers_for, text_replayed}
 
 -- the answers before k are compared, and those from k on decide the whole
 pub record Comparing (answers : List Bool) (mask bits : ℕ) (t : Tally) (k : ℕ) (u : Tally) : Type 0 where
@@ -20,7 +20,7 @@ pub record Comparing (answers : List Bool) (mask bits : ℕ) (t : Tally) (k : �
 pub bits-start : (answers : List Bool) (mask bits : ℕ) (t : Tally) → Comparing answers mask bits t 0 t
 bits-start answers mask bits t = record { same = refl }
 
-pub bits-turn : {answers : List Bool} {mask bits : ℕ} {t u : Tally} {k : ℕ} → Comparing answers mask bits t k u → k < length answers → (d : Bool) (v : Tally) → v ≡ compared_bit mask bits k (get_or answers k d) u → Comparing answers mask bits t (k + 1) v
+pub bits-turn : {answers : List Bool} {mask bits : ℕ} {t u : Tally} {k : ℕ} → Comparing answers mask bits t k u → k < length answers → (d : Bool) (v : Tally) → v ≡ compared_with_bit mask bits k (get_or answers k d) u → Comparing answers mask bits t (k + 1) v
 unfolding compared_bits
 bits-turn {answers} {mask} {bits} {t} {u} {k} inv h d v e =
     record {
@@ -30,13 +30,13 @@ bits-turn {answers} {mask} {bits} {t} {u} {k} inv h d v e =
           ∙ rw (add-one k) (ap (λ (w : Tally). compared_bits (drop (suc k) answers) (suc k) mask bits w) (sym e));
     }
 
-module _ (mask bits k : ℕ) (answer : Bool) (t : Tally) (b : Bool) (set : b ≡ is_set mask k) where
-  pub bit-compared : b ≡ true → (d : Bool) → d ≡ is_set bits k → (u : Tally) → u ≡ comparing (beq answer d) t → u ≡ compared_bit mask bits k answer t
-  unfolding compared_bit
+module _ (mask bits k : ℕ) (answer : Bool) (t : Tally) (b : Bool) (set : b ≡ is_bit_set mask k) where
+  pub bit-compared : b ≡ true → (d : Bool) → d ≡ is_bit_set bits k → (u : Tally) → u ≡ comparing (beq answer d) t → u ≡ compared_with_bit mask bits k answer t
+  unfolding compared_with_bit
   bit-compared e d p u q = rw (← set, e) (cc)
 
-  pub bit-passed : b ≡ false → t ≡ compared_bit mask bits k answer t
-  unfolding compared_bit
+  pub bit-passed : b ≡ false → t ≡ compared_with_bit mask bits k answer t
+  unfolding compared_with_bit
   bit-passed e = rw (← set, e)
 
 pub bits-end : {answers : List Bool} {mask bits : ℕ} {t u : Tally} {k : ℕ} → Comparing answers mask bits t k u → length answers ≤ k → u ≡ compared_bits answers 0 mask bits t

@@ -14,5 +14,5 @@ pub data Found (replayed : List ℕ → Tally → Tally) (t : Tally) : Type 0 wh
   broken : (u : Tally) → Reached replayed u → t ≡ differing u → Found replayed t
 
 -- t is the total with what is found in a file added
-pub data Adds (replayed : List ℕ → Tally → Tally) (total t : Tally) : Type 0 where
-  adds : (found : Tally) → Found replayed found → t ≡ together total found → Adds replayed total t
+pub data AddsFile (replayed : List ℕ → Tally → Tally) (total t : Tally) : Type 0 where
+  adds : (found : Tally) → Found replayed found → t ≡ together total found → AddsFile replayed total t

@@ -18,18 +18,18 @@ use Rattle.replay.specs.Bytes.{byte_at, number_at}
 use Rattle.replay.specs.Tally.{recorded, comparing}
 
 -- bit k is set
-unfoldable pub is_set : ℕ → ℕ → Bool
-is_set bits k = eqb (bits / 2 ^ k % 2) 1
+unfoldable pub is_bit_set : ℕ → ℕ → Bool
+is_bit_set bits k = eqb (bits / 2 ^ k % 2) 1
 
 -- an answer is compared with bit k of `bits` where that bit is set in `mask`
-unfoldable pub compared_bit : ℕ → ℕ → ℕ → Bool → Tally → Tally
-compared_bit mask bits k answer t = when is_set mask k then comparing (beq answer (is_set bits k)) t else t
+unfoldable pub compared_with_bit : ℕ → ℕ → ℕ → Bool → Tally → Tally
+compared_with_bit mask bits k answer t = when is_bit_set mask k then comparing (beq answer (is_bit_set bits k)) t else t
 
 -- each answer is compared with its bit; the first answer's bit is bit k
 unfoldable pub compared_bits : List Bool → ℕ → ℕ → ℕ → Tally → Tally
 compared_bits [] k mask bits t = t
 compared_bits (answer ∷ answers) k mask bits t =
-    compared_bits answers (suc k) mask bits (compared_bit mask bits k answer t)
+    compared_bits answers (suc k) mask bits (compared_with_bit mask bits k answer t)
 
 -- the answers for a text, that of bit 0 first
 unfoldable pub answers_for : List ℕ → List Bool

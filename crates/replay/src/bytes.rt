@@ -42,9 +42,10 @@ pub fn large(s: &[u8], at: usize) -> usize
     number(s, at) as usize
 }
 
-pub fn long_number(s: &[u8], at: usize) -> usize
+// A number of eight bytes.
+pub fn long_number(s: &[u8], at: usize) -> u64
     requires { at < 128 }
     ensures { result ≡ long_at s.now at }
 {
-    large(s, at) + large(s, at + 4) * 0x1_0000_0000
+    u64::from(number(s, at)) + u64::from(number(s, at + 4)) * 0x1_0000_0000
 }

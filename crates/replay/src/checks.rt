@@ -3,7 +3,7 @@
 // stand the sheet, the text, the list and the marks that are written.
 ghost use Rattle.std.specs.Prelude.{◌≡◌, ◌+◌, ◌*◌};
 ghost use Rattle.replay.specs.Bytes.{pair_at};
-ghost use Rattle.replay.specs.Checks.{fits_of, checks_replayed};
+ghost use Rattle.replay.specs.Checks.{check_head, fits_of, checks_replayed};
 
 use crate::format::Format;
 use crate::front::{BEFORE, Call, Function};
@@ -41,6 +41,8 @@ fn fits(r: &[u8]) -> bool
 pub struct Checks;
 
 impl Format for Checks {
+    ghost head_bytes = { check_head };
+
     ghost behind_of = { λ head. pair_at head 0 * 4 + pair_at head 2 + pair_at head 4 * 4 + pair_at head 8 * 4 };
 
     ghost replayed = { λ _ r t. checks_replayed r t };
@@ -80,9 +82,9 @@ impl Format for Checks {
         let mut report = [BEFORE; REPORT];
         let mut marks = [BEFORE; MARKS];
         let fits = fits(r);
-        let checked = bytes::long_number(r, 12) as u64;
+        let checked = bytes::long_number(r, 12);
         let tally = check.compare(&mut report, fits, checked, list, tally.record());
-        let machine = bytes::long_number(r, 20) as u64;
+        let machine = bytes::long_number(r, 20);
         set.compare(&mut marks, fits, machine, written, tally)
     }
 }

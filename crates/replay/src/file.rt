@@ -15,17 +15,13 @@ use std::{fs, io};
 // Far more records than any file has.
 const RECORDS: usize = 0x10_0000;
 
-// Why a record is not replayed: the file ends inside it, there is no room for it, or it cannot be read.
-#[derive(Clone, Copy, Debug, PartialEq, Eq)]
-enum Broken {
-    CutOff,
-    TooLong,
-    Unreadable,
-}
+// A record that cannot be replayed: the file ends inside it, there is no room for it, or it cannot be read.
+#[derive(Clone, Copy)]
+struct Broken;
 
 impl From<io::Error> for Broken {
     fn from(_error: io::Error) -> Broken {
-        Broken::Unreadable
+        Broken
     }
 }
 
@@ -34,8 +30,9 @@ fn room() -> [u8; films::MOST] {
     [0u8; films::MOST]
 }
 
-// Reads the next record into the front of the buffer, and answers how many bytes it has; None at the file's end. A file
-// that cannot be read where a record would begin ends there.
+// Reads the next record into the front of the buffer, and answers how many bytes it has; None at the file's end. Its
+// first byte is read alone: a file that cannot be read where a record would begin ends there, and one that cannot be
+// read inside a record is a difference.
 fn read_record<R: Read, F: Format>(
     file: &mut R,
     format: &F,
@@ -45,22 +42,22 @@ fn read_record<R: Read, F: Format>(
 {
     let head = format.head();
     if buffer.len() < head {
-        return Err(Broken::TooLong);
+        return Err(Broken);
     }
     let first = match read_full(file, &mut buffer[..head.min(1)]) {
         Ok(0) | Err(_) => return Ok(None),
         Ok(n) => n,
     };
     if read_full(file, &mut buffer[first..head])? < head - first {
-        return Err(Broken::CutOff);
+        return Err(Broken);
     }
     let behind = format.behind(&buffer[..head]);
     let end = head + behind;
     if buffer.len() < end {
-        return Err(Broken::TooLong);
+        return Err(Broken);
     }
     if read_full(file, &mut buffer[head..end])? < behind {
-        return Err(Broken::CutOff);
+        return Err(Broken);
     }
     Ok(Some(end))
 }

@@ -2,7 +2,7 @@
 ghost use Rattle.std.specs.Prelude.{◌≡◌, ◌==◌, ◌+◌};
 ghost use Rattle.std.specs.List.{list_all};
 ghost use Rattle.replay.specs.Bytes.{number_at};
-ghost use Rattle.replay.specs.Films.{before, untouched, same_printed, film_replayed};
+ghost use Rattle.replay.specs.Films.{film_head, before, untouched, same_printed, film_replayed};
 
 use crate::bytes;
 use crate::format::Format;
@@ -55,6 +55,8 @@ fn same_output(bytes: &[u8; OUTPUT_BYTES], wanted: &[u8]) -> bool
 pub struct Films;
 
 impl Format for Films {
+    ghost head_bytes = { film_head };
+
     ghost behind_of = { λ head. number_at head 0 + number_at head 4 };
 
     ghost replayed = { λ _ r t. film_replayed r t };

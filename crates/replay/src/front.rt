@@ -21,7 +21,8 @@ pub const BEFORE: u32 = 0xA5A5_A5A5;
 const NONE: u64 = 0xFFFF_FFFF_FFFF_FFFF;
 
 impl Function {
-    // The function that has this number, if there is one.
+    // The function that has this number, if there is one. As TryFrom it would be no plainer: the one caller wants an
+    // Option, and would throw the error away.
     pub fn numbered(number: usize) -> Option<Function>
         ensures { result ≡ function_of number }
     {

@@ -1,7 +1,7 @@
 // Stored sheets of one paragraph, each with the list that the Rust gives for its inlines.
 ghost use Rattle.std.specs.Prelude.{◌≡◌, ◌+◌, ◌*◌};
 ghost use Rattle.replay.specs.Bytes.{pair_at};
-ghost use Rattle.replay.specs.Lists.{listed_of, list_replayed};
+ghost use Rattle.replay.specs.Lists.{list_head, listed_of, list_replayed};
 ghost use Rattle.replay.specs.Words.{Gives};
 
 use crate::format::Format;
@@ -46,6 +46,8 @@ fn listed(sheet: &[u32], text: &[u8], report: &mut [u32]) -> usize
 pub struct Lists;
 
 impl Format for Lists {
+    ghost head_bytes = { list_head };
+
     ghost behind_of = { λ head. pair_at head 0 * 4 + pair_at head 2 + pair_at head 4 * 4 };
 
     ghost replayed = { λ _ r t. list_replayed r t };

@@ -73,6 +73,8 @@ pub struct Calls<'a> {
 }
 
 impl Format for Calls<'_> {
+    ghost head_bytes = { 28 };
+
     ghost behind_of = { λ _. 0 };
 
     ghost replayed = { λ it r t. call_replayed r it.sheet.now it.text.now t };
@@ -95,7 +97,7 @@ impl Format for Calls<'_> {
             lent: bytes::large(r, 12),
         };
         let zeros = part(self.text, 0, bytes::large(r, 16));
-        let answer = bytes::long_number(r, 20) as u64;
+        let answer = bytes::long_number(r, 20);
         call.compare(
             &mut lent(),
             n <= self.sheet.len(),

@@ -19,15 +19,16 @@ mod values;
 mod words;
 
 ghost use Rattle.std.specs.Prelude.{◌≡◌, IfOk};
-ghost use Rattle.replay.specs.File.{Adds};
+ghost use Rattle.replay.specs.File.{AddsFile};
 ghost use Rattle.replay.specs.Long.{unfilled, zeros, long_replayed};
 
 use crate::checks::Checks;
 use crate::films::Films;
-use crate::format::{Format, Sheets};
+use crate::format::Format;
 use crate::line::write_line;
 use crate::lists::Lists;
 use crate::long::Calls;
+use crate::sheets::Sheets;
 use crate::tally::Tally;
 use crate::texts::Texts;
 use crate::values::{Pairs, Parts, Punctuation};
@@ -42,7 +43,7 @@ fn replay<R: Files + Print + Eprint, F: Format>(
     format: &F,
     total: Tally,
 ) -> Tally
-    ensures { Adds (F.replayed format.now) total result }
+    ensures { AddsFile (F.replayed format.now) total result }
 {
     let found = file::replay(file::open(rt, name), format);
     file::close(rt, name, found, total)
@@ -58,7 +59,7 @@ fn replay_calls<R: Files + Print + Eprint>(
 ) -> Tally
     requires sheet { sheet.old ≡ unfilled }
     requires text { text.now ≡ zeros }
-    ensures { Adds long_replayed total result }
+    ensures { AddsFile long_replayed total result }
 {
     long::breaks(sheet);
     replay(rt, name, &Calls { sheet, text }, total)
@@ -70,7 +71,7 @@ fn replay_long<R: Files + Print + Eprint + AllocGlobal>(
     name: &str,
     total: Tally,
 ) -> Result<Tally, AllocError>
-    ensures { IfOk result (λ t. Adds long_replayed total t) }
+    ensures { IfOk result (λ t. AddsFile long_replayed total t) }
 {
     let mut sheet = long::sheet(rt.alloc())?;
     let text = long::text(rt.alloc())?;

@@ -1,7 +1,9 @@
 // Stored sheets, each with the refusal that a plain reading of document 01 gives.
-ghost use Rattle.std.specs.Prelude.{◌≡◌, ◌≤◌};
-ghost use Rattle.replay.specs.Sheets.{judged_of, sheet_replayed};
+ghost use Rattle.std.specs.Prelude.{◌≡◌, ◌+◌, ◌*◌};
+ghost use Rattle.replay.specs.Bytes.{pair_at};
+ghost use Rattle.replay.specs.Sheets.{sheet_head, judged_of, sheet_replayed};
 
+use crate::format::Format;
 use crate::tally::Tally;
 use crate::{bytes, words};
 use leaves::refusal::judge::accept;
@@ -10,16 +12,10 @@ use leaves::text::part::part;
 
 // How many bytes stand before a record's words: two counts (words of the sheet, bytes of the text), and the number and
 // the record of the answer.
-pub const HEAD: usize = 7;
+const HEAD: usize = 7;
 
 // The most words of a sheet.
 const MOST: usize = 800;
-
-pub fn behind(r: &[u8]) -> usize
-    ensures { result ≤ 327675 }
-{
-    bytes::pair(r, 0) * 4 + bytes::pair(r, 2)
-}
 
 // The answer for a stored sheet. A sheet of over MOST words is judged as a sheet of no words.
 fn judged(r: &[u8]) -> Result<(), Malformed>
@@ -32,16 +28,33 @@ fn judged(r: &[u8]) -> Result<(), Malformed>
     accept(words::first(&sheet, n), text)
 }
 
-// Compares the number and the record of the answer.
-pub fn replay_record(r: &[u8], tally: Tally) -> Tally
-    ensures { result ≡ sheet_replayed r.now tally }
-{
-    let fits = bytes::pair(r, 0) <= MOST;
-    let answer = judged(r);
-    let number = number_of(answer) as usize;
-    let record = record_of(answer);
-    tally
-        .record()
-        .compare(fits & (number == bytes::small(r, 4)))
-        .compare(fits & (record == bytes::pair(r, 5)))
+#[derive(Clone, Copy)]
+pub struct Sheets;
+
+impl Format for Sheets {
+    ghost head_bytes = { sheet_head };
+
+    ghost behind_of = { λ head. pair_at head 0 * 4 + pair_at head 2 };
+
+    ghost replayed = { λ _ r t. sheet_replayed r t };
+
+    fn head(&self) -> usize {
+        HEAD
+    }
+
+    fn behind(&self, head: &[u8]) -> usize {
+        bytes::pair(head, 0) * 4 + bytes::pair(head, 2)
+    }
+
+    // Compares the number and the record of the answer.
+    fn replay(&self, r: &[u8], tally: Tally) -> Tally {
+        let fits = bytes::pair(r, 0) <= MOST;
+        let answer = judged(r);
+        let number = number_of(answer) as usize;
+        let record = record_of(answer);
+        tally
+            .record()
+            .compare(fits & (number == bytes::small(r, 4)))
+            .compare(fits & (record == bytes::pair(r, 5)))
+    }
 }

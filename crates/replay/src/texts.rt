@@ -1,7 +1,7 @@
 // Stored texts, each with the fourteen answers of the functions that take a text.
 ghost use Rattle.std.specs.Prelude.{◌≡◌, ◌<◌};
 ghost use Rattle.replay.specs.Bytes.{byte_at};
-ghost use Rattle.replay.specs.Texts.{is_set, compared_bit, answers_for, compared_bits, text_replayed};
+ghost use Rattle.replay.specs.Texts.{is_bit_set, compared_with_bit, answers_for, compared_bits, text_replayed};
 
 use crate::bytes;
 use crate::format::Format;
@@ -23,7 +23,7 @@ const ANSWERS: usize = 14;
 // Whether bit k is set.
 fn bit(bits: u32, k: usize) -> bool
     requires { k < 32 }
-    ensures { result ≡ is_set bits k }
+    ensures { result ≡ is_bit_set bits k }
 {
     (bits >> k) % 2 == 1
 }
@@ -53,7 +53,7 @@ fn answers(s: &[u8]) -> [bool; ANSWERS]
 // Compares an answer with bit k of `bits`, where that bit is set in `mask`.
 fn compare_bit(mask: u32, bits: u32, k: usize, answer: bool, tally: Tally) -> Tally
     requires { k < 32 }
-    ensures { result ≡ compared_bit mask bits k answer tally }
+    ensures { result ≡ compared_with_bit mask bits k answer tally }
 {
     if bit(mask, k) {
         tally.compare(answer == bit(bits, k))
@@ -80,6 +80,8 @@ const HEAD: usize = 5;
 pub struct Texts;
 
 impl Format for Texts {
+    ghost head_bytes = { 5 };
+
     ghost behind_of = { λ head. byte_at head 0 };
 
     ghost replayed = { λ _ r t. text_replayed r t };

@@ -17,6 +17,8 @@ const PAIR: usize = 3;
 pub struct Pairs;
 
 impl Format for Pairs {
+    ghost head_bytes = { 3 };
+
     ghost behind_of = { λ head. byte_at head 0 + byte_at head 1 };
 
     ghost replayed = { λ _ r t. pair_replayed r t };
@@ -42,6 +44,8 @@ impl Format for Pairs {
 pub struct Punctuation;
 
 impl Format for Punctuation {
+    ghost head_bytes = { 5 };
+
     ghost behind_of = { λ _. 0 };
 
     ghost replayed = { λ _ r t. punctuation_replayed r t };
@@ -69,6 +73,8 @@ const PART: usize = 17;
 pub struct Parts;
 
 impl Format for Parts {
+    ghost head_bytes = { 17 };
+
     ghost behind_of = { λ head. byte_at head 16 };
 
     ghost replayed = { λ _ r t. part_replayed r t };
@@ -84,7 +90,9 @@ impl Format for Parts {
     // Compares a part of the text of the bytes 0 to 15 with the bytes that are stored for it.
     fn replay(&self, r: &[u8], tally: Tally) -> Tally {
         let text = [0u8, 1, 2, 3, 4, 5, 6, 7, 8, 9, 10, 11, 12, 13, 14, 15];
-        let found = part(&text, bytes::long_number(r, 0), bytes::long_number(r, 8));
+        let start = bytes::long_number(r, 0) as usize;
+        let len = bytes::long_number(r, 8) as usize;
+        let found = part(&text, start, len);
         let expected = part(r, PART, bytes::small(r, 16));
         tally.record().compare(same_bytes(found, expected))
     }
