@@ -1,5 +1,6 @@
 // The trees of a sheet, by record number: whether one stands at a record, where trees side by side end, and how many
-// there are.
+// there are. They ask that the first n records lie in the sheet, and nothing of its levels: `Records` calls them, and so
+// may who has no accepted sheet.
 ghost use Rattle.std.specs.Prelude.{◌≡◌, ◌+◌, ◌*◌, ◌≤◌, eqb, length};
 ghost use Rattle.leaves.specs.Sheet.Records.{record_words};
 ghost use Rattle.leaves.specs.Sheet.Forest.{under, size, count};

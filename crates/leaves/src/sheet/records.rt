@@ -1,4 +1,5 @@
-// The records of a sheet.
+// The records of a sheet, by number. Each function asks that its record lies in the sheet: nothing else is known of a sheet
+// when its records are tested, so no type can hold it.
 ghost use Rattle.std.specs.Prelude.{◌≡◌, ◌+◌, ◌*◌, ◌<◌, ◌≤◌, length};
 ghost use Rattle.leaves.specs.Sheet.Records.{record_words, word_at, text_at, record_at};
 
