@@ -161,7 +161,7 @@ pub record Closing (w bytes old : List ℕ) (n : ℕ) (new : List ℕ) (os : Lis
   pub ends : (run w bytes).end ≡ (run_of bytes (closes top (under ∷ around) ∷ steps_from (record { top = with_kid top.of under; around = around }) i (records_from w (n - i) i))).end
   pub marked : marks_of (run w bytes).steps old ≡ marks_of (run_of bytes (closes top (under ∷ around) ∷ steps_from (record { top = with_kid top.of under; around = around }) i (records_from w (n - i) i))).steps new
 
-module _ (w bytes old : List ℕ) (n : ℕ) (new : List ℕ) (os : List Kept) (depth i : ℕ) (v : Running w bytes old n new os depth i) where
+module _ {w bytes old : List ℕ} {n : ℕ} {new : List ℕ} {os : List Kept} {depth i : ℕ} (v : Running w bytes old n new os depth i) where
   -- no record has the level 0, and after the last every level closes
   next-some : 1 ≤ next_level w n i
   next-some = go (leb n i) refl
@@ -214,7 +214,7 @@ mark-small r before m own h = go (eqb r.b 1) refl
     go true e = omega (arith, own (eqb-true _ _ e))
     go false e = omega arith
 
-module _ (w bytes old : List ℕ) (n : ℕ) (new : List ℕ) (os : List Kept) (depth i : ℕ) (z : Closing w bytes old n new os depth i) where
+module _ {w bytes old : List ℕ} {n : ℕ} {new : List ℕ} {os : List Kept} {depth i : ℕ} (z : Closing w bytes old n new os depth i) where
   abbrev after-close : List Step
   after-close = steps_from (record { top = with_kid z.top.of z.under; around = z.around }) i (records_from w (n - i) i)
 
@@ -292,14 +292,14 @@ pub record Opening (w bytes old : List ℕ) (n : ℕ) (new : List ℕ) (os : Lis
   pub level : (record_at w i).level ≡ depth + 1
   pub most : depth + 1 ≤ 64
 
-module _ (w bytes old : List ℕ) (n : ℕ) (new : List ℕ) (os : List Kept) (depth i : ℕ) (v : Running w bytes old n new os depth i) where
+module _ {w bytes old : List ℕ} {n : ℕ} {new : List ℕ} {os : List Kept} {depth i : ℕ} (v : Running w bytes old n new os depth i) where
   pub opens-next : {l : ℕ} → l ≡ next_level w n i → depth < l → i < n + depth → Opening w bytes old n new os depth i
   opens-next {l} e h t = go (ltb i n) refl
     where
       go : (b : Bool) → ltb i n ≡ b → Opening w bytes old n new os depth i
       go true a =
           let g : i < n = ltb-true i n a in
-          let m : depth < (record_at w i).level = rw (e, next-is w bytes old n new os depth i v g) at h in
+          let m : depth < (record_at w i).level = rw (e, next-is v g) at h in
           let most = (deep-at w bytes v.ok i (omega (arith, v.all))).most in
           record { running = v; inside = g; level = omega (arith, v.near g); most = omega (arith, v.near g) }
       go false a =
@@ -307,7 +307,7 @@ module _ (w bytes old : List ℕ) (n : ℕ) (new : List ℕ) (os : List Kept) (d
           let m : depth < 1 = rw (e, le-leb n i g) at h in
           absurd (omega (arith, t))
 
-module _ (w bytes old : List ℕ) (n : ℕ) (new : List ℕ) (os : List Kept) (depth i : ℕ) (z : Opening w bytes old n new os depth i) where
+module _ {w bytes old : List ℕ} {n : ℕ} {new : List ℕ} {os : List Kept} {depth i : ℕ} (z : Opening w bytes old n new os depth i) where
   abbrev top : Frame
   top = z.running.top
 

@@ -23,7 +23,11 @@ use Rattle.setter.specs.Answer.{Set, setting_answer, Answers}
 use Rattle.setter.specs.Setting.{after_run, setting_of}
 use Rattle.blocks.specs.Check.{outcome}
 use Rattle.blocks.proofs.CheckLaws.{no-entries}
+use Rattle.blocks.specs.Answer.{Checked, error_answer, checked_answer}
+use Rattle.blocks.specs.declared.answer.CheckError.{CheckError}
+use Rattle.blocks.specs.declared.answer.CheckError.TheVariants.{Malformed, ShortReport}
 use Rattle.blocks.proofs.AnswerLaws.{value-word}
+use Rattle.leaves.proofs.refusal.VerdictLaws.{same_number, same-value, refusal-numbered}
 use Rattle.leaves.specs.Text.Columns.{line}
 use Rattle.setter.specs.Listing.Film.{record_count, behind_counts, film_sheet, text_behind, film_text, most_film_records, most_input, film_of, Reads}
 use Rattle.setter.specs.Listing.FilmAnswer.{film_answer}
@@ -56,8 +60,25 @@ ran : (w bytes m : List ℕ) → judge_sheet w bytes ≡ Ok tt → records_of w 
 unfolding setting_of after_run
 ran w bytes m a h = rw (a, le-ltb _ _ h)
 
+-- ---- the check's answer, where it is a count and where it is an error
+pub counted-answer : {k : Checked} {entries : ℕ} → k ≡ Ok entries → answer 0 entries ≡ checked_answer k
+counted-answer p = rw p
+
+pub error-answer : {k : Checked} {error : CheckError} {number value : ℕ} → k ≡ Err error → number ≡ (error_answer error).number → value ≡ (error_answer error).value → answer number value ≡ checked_answer k
+error-answer p a b = rw (p, a, b)
+
+error-numbered : (error : CheckError) → (error_answer error).number ≡ 0 → ⊥
+error-numbered (Malformed r) h = absurd (omega (arith, (refusal-numbered r).some))
+error-numbered ShortReport h = absurd (omega arith)
+
 -- ---- `list_sheet`: x is the report before the check, and y after it
-module _ (w bytes x : List ℕ) {y : List ℕ} {c : Answer} {number value : ℕ} (e : (c, y) ≡ outcome w bytes x) (long : length x ≡ report_words) (a : number ≡ c.number) (b : value ≡ c.value) where
+module _ (w bytes x : List ℕ) {y : List ℕ} {c : Answer} {number value : ℕ} (e : (c, y) ≡ outcome w bytes x) (long : length x ≡ report_words) (s : answer number value ≡ c) where
+  a : number ≡ c.number
+  a = same_number s
+
+  b : value ≡ c.value
+  b = same-value s
+
   answer-is : c ≡ (outcome w bytes x).0
   answer-is = ap (λ (u : Answer × List ℕ). u.0) e
 
@@ -67,9 +88,9 @@ module _ (w bytes x : List ℕ) {y : List ℕ} {c : Answer} {number value : ℕ}
   pub value-fits : Fits w32 value
   value-fits = record { fits = rw (b, answer-is) (value-word w bytes x) }
 
-  pub refusal-printed : {old new : List ℕ} {r : ℕ} → (number ≡ 0 → ⊥) → Prints old (refusal_line number value) new r → Prints old (sheet_lines w bytes) new r
+  pub refusal-printed : (error : CheckError) {old new : List ℕ} {r : ℕ} → number ≡ (error_answer error).number → Prints old (refusal_line number value) new r → Prints old (sheet_lines w bytes) new r
   unfolding sheet_lines
-  refusal-printed h p = rw (checked-is, ← a, ← b, ne_eqb _ _ h) p
+  refusal-printed error n p = rw (checked-is, ← a, ← b, ne_eqb _ _ (λ z. error-numbered error (sym n ∙ z))) p
 
   module _ (h : number ≡ 0) where
     list-is : Written w bytes x y value
@@ -78,8 +99,8 @@ module _ (w bytes x : List ℕ) {y : List ℕ} {c : Answer} {number value : ℕ}
     pub list-few : value ≤ report_words
     list-few = omega (arith, few-entries (validate_document w bytes), list-is.fits, list-is.count)
 
-    module _ (marks : List ℕ) {m : List ℕ} {s : Set} {stop at : ℕ} (q : Answers (setting_of w bytes marks) s m) (few : records_of w ≤ most_film_records) (same : length marks ≡ most_film_records) (f : stop ≡ (setting_answer s).number) (g : at ≡ (setting_answer s).value) where
-      run_is : setting_answer s ≡ run_answer w bytes
+    module _ (marks : List ℕ) {m : List ℕ} {set : Set} {stop at : ℕ} (q : Answers (setting_of w bytes marks) set m) (few : records_of w ≤ most_film_records) (same : length marks ≡ most_film_records) (f : stop ≡ (setting_answer set).number) (g : at ≡ (setting_answer set).value) where
+      run_is : setting_answer set ≡ run_answer w bytes
       run_is = ap (λ (u : Answer × List ℕ). u.0) q.answer ∙ ran w bytes marks list-is.accepted (omega arith)
 
       pub at-fits : Fits w32 at

@@ -9,7 +9,6 @@ use crate::answer::{setting_number, setting_value};
 use crate::both::check_and_set;
 use crate::listing::film::{MOST_FILM_RECORDS, SHEET_WORDS, read_film, text_behind};
 use crate::listing::print::{OUTPUT_BYTES, REPORT_WORDS, write_list, write_refusal};
-use blocks::answer::{answer_number, answer_value};
 use leaves::sheet::records::RECORD_WORDS;
 
 // `N` words of 0. It promises nothing, so that no proof computes the array.
@@ -27,20 +26,16 @@ fn list_sheet(sheet: &[u32], text: &[u8], output: &mut [u8; OUTPUT_BYTES]) -> us
     let mut report = words::<REPORT_WORDS>();
     let mut marks = words::<MOST_FILM_RECORDS>();
     let both = check_and_set(sheet, text, &mut report, &mut marks);
-    let checked = both.checked;
-    let run = both.set;
-    let number = answer_number(checked);
-    let value = answer_value(checked);
-    if number != 0 {
-        return write_refusal(output, number, value as u32);
+    match both.checked {
+        Ok(entries) => write_list(
+            output,
+            &report,
+            entries,
+            setting_number(both.set),
+            setting_value(both.set) as u32,
+        ),
+        Err(error) => write_refusal(output, error.number(), error.record() as u32),
     }
-    write_list(
-        output,
-        &report,
-        value,
-        setting_number(run),
-        setting_value(run) as u32,
-    )
 }
 
 // Prints what is found in a film, or why it is refused; answers how many bytes are printed.
