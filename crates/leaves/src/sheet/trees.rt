@@ -55,7 +55,7 @@ impl<'a> Records<'a> {
 
     // Reads the next record where it is deeper than `level`, and goes on behind it. So a loop over this goes through all
     // records of the trees side by side, and one that skips what stands under each goes from tree to tree. It is
-    // no Iterator for a `for`: what is called for a record moves the records on.
+    // no Iterator: a walk lends the records to other walks inside its loop, and a `for` would hold them.
     pub fn next_under(&mut self, level: u32) -> Option<Rec>
         ensures some { IfSome result (λ r. Reads self.old self.new level r) }
         ensures none { IfNone result (Ends self.old self.new level) }
