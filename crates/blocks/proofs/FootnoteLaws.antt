@@ -7,11 +7,8 @@ use native.Mathlib.Numerals.{add-one}
 use lib.Dec.{eqb}
 use Rattle.leaves.specs.Sheet.Kinds.{blank_line}
 use Rattle.leaves.specs.declared.sheet.records.Rec.{Rec}
-use Rattle.leaves.specs.declared.sheet.records.Span.{Span}
-use Rattle.leaves.specs.declared.sheet.records.Text.{Text}
 use Rattle.leaves.specs.Report.Rules
-use Rattle.leaves.specs.Sheet.Empty.{is_empty}
-use Rattle.blocks.specs.Footnote.{blank_line_at, validate_footnote_definition}
+use Rattle.blocks.specs.Footnote.{blank_line_at}
 use mathlib.Core.Path.{◌≡◌, refl}
 use Rattle.leaves.specs.Sheet.Forest.{Forest, none, tree, count, size}
 use Rattle.leaves.specs.Sheet.Trees.{trees, Moved, Reads}
@@ -20,7 +17,7 @@ use Rattle.leaves.specs.Report.Listed.{path_of, Adds, Enters, Leaves}
 use Rattle.leaves.specs.declared.sheet.trees.Records.{Records}
 use Rattle.leaves.specs.declared.report.entries.Report.{Report}
 use Rattle.leaves.proofs.report.EntryLaws.{none-join}
-use Rattle.leaves.proofs.report.ListedLaws.{adds-none, adds-from}
+use Rattle.leaves.proofs.report.ListedLaws.{adds-none}
 use Rattle.leaves.proofs.sheet.TreesLaws.{passing-tree, reads-tree, behind-next}
 use Rattle.inlines.proofs.PathLaws.{Paced, paced-path, paced-visit, paced-turn, paced-last}
 
@@ -41,16 +38,12 @@ module _ (path : List ℕ) (k : ℕ) (r : Rec) (kids rest : Forest) where
   unfolding blank_line_at
   blank-later e = rw (none-join, e, add-one k)
 
-module _ {es : List Entry} {x y z u : Records} {p q : Report} {k : ℕ} {r : Rec} {f : Bool} (v : Paced es (blank_line_at (path_of p) k) x y p q k) (reads : Reads y z p.level r) (behind : Moved z u (z.next + size (trees z r.level))) (last : f ≡ eqb (count (trees u p.level)) 0) where
-  pub blank-listed : {a b o : Report} → is_fault r.kind k f ≡ true → Enters q a k r.level → Adds a b (list_if true Rules.blank_line_in_footnote r.span (path_of a)) → Leaves b o p.level → Adds p o es
-  blank-listed e n l c =
-      paced-last v (rw (reads-tree reads behind) (blank-found (path_of p) k r _ _ (rw last at e))) (paced-visit v n (rw (paced-path v n) at l) c)
+module _ {es : List Entry} {x y z u : Records} {p q : Report} {k : ℕ} {r : Rec} (v : Paced es (blank_line_at (path_of p) k) x y p q k) (reads : Reads y z p.level r) (behind : Moved z u (z.next + size (trees z r.level))) where
+  pub blank-listed : {a b o : Report} → Enters q a k r.level → Adds a b (list_if true Rules.blank_line_in_footnote r.span (path_of a)) → Leaves b o p.level → is_fault r.kind k (eqb (count (trees u p.level)) 0) ≡ true → Adds p o es
+  blank-listed n l c e =
+      paced-last v (rw (reads-tree reads behind) (blank-found (path_of p) k r _ _ e)) (paced-visit v n (rw (paced-path v n) at l) c)
 
-  pub blank-passed : is_fault r.kind k f ≡ false → Paced es (blank_line_at (path_of p) (k + 1)) x u p q (k + 1)
+  pub blank-passed : is_fault r.kind k (eqb (count (trees u p.level)) 0) ≡ false → Paced es (blank_line_at (path_of p) (k + 1)) x u p q (k + 1)
   blank-passed e =
       let n : u.next ≡ y.next + 1 + size (trees z r.level) = behind-next reads behind in
-      paced-turn v (passing-tree v.loop.passing reads behind) (rw (reads-tree reads behind) (blank-later (path_of p) k r _ _ (rw last at e))) adds-none (omega (arith, v.few))
-
-pub footnote-law : (span : Span) (identifier : Text) (k : Records) {f : Bool} {x y z : Report} → f ≡ is_empty identifier → Adds x y (list_if f Rules.empty_footnote_definition span (path_of x)) → Adds y z (blank_line_at (path_of y) 0 (trees k y.level)) → Adds x z (validate_footnote_definition (path_of x) span identifier (trees k x.level))
-unfolding validate_footnote_definition
-footnote-law span identifier k e l m = adds-from (λ path level. blank_line_at path 0 (trees k level)) (rw e at l) m
+      paced-turn v (passing-tree v.loop.passing reads behind) (rw (reads-tree reads behind) (blank-later (path_of p) k r _ _ e)) adds-none (omega (arith, v.few))

@@ -4,8 +4,9 @@ use mathlib.Core.List.{List, [], ◌∷◌, ◌++◌}
 use Prim.Native.Nat.{ℕ, ◌+◌, ◌<◌, ◌≤◌}
 use native.Mathlib.Omega.{arith}
 use native.Mathlib.Numerals.{add-one}
-use borrow.Author.Tests.{ltb-true, ltb-false, eq-eqb, ne_eqb}
+use borrow.Author.Tests.{ltb-true, ltb-false, ne_eqb}
 use lib.Dec.{eqb, ltb}
+use Rattle.leaves.specs.Text.Lists.{when◌then◌else◌}
 use Rattle.leaves.specs.Sheet.Kinds.{paragraph, definition, blank_line}
 use Rattle.leaves.specs.declared.sheet.records.Rec.{Rec}
 use Rattle.leaves.specs.declared.sheet.records.Span.{Span}
@@ -15,23 +16,19 @@ use Rattle.leaves.specs.Sheet.Records.{record_at}
 use Rattle.leaves.proofs.sheet.TreeLaws.{count-end, count-in, count-out, suc-some}
 use Rattle.leaves.proofs.sheet.ForestLaws.{behind_kids}
 use Rattle.leaves.proofs.sheet.ForestLaws.{size-end, size-out}
-use Rattle.leaves.proofs.sheet.DecideLaws.{Deciding, deciding-end, deciding-turn}
 use Rattle.blocks.specs.WalkAt.{is_last}
 use mathlib.Core.Path.{◌≡◌, refl, sym, ◌∙◌}
 use Rattle.leaves.specs.Sheet.Forest.{Forest, none, tree, under, count, size}
-use Rattle.leaves.specs.Sheet.Trees.{trees, Moved, Reads, Ends}
+use Rattle.leaves.specs.Sheet.Trees.{trees, Moved, Reads}
 use Rattle.leaves.specs.Report.Entries.{Entry, list_if, ◌⊕◌}
 use Rattle.leaves.specs.Report.Listed.{path_of, Adds, Enters, Leaves}
 use Rattle.leaves.specs.declared.sheet.trees.Records.{Records}
 use Rattle.leaves.specs.declared.report.entries.Report.{Report}
-use Rattle.leaves.proofs.report.ListedLaws.{adds-none, adds-then}
-use Rattle.leaves.proofs.sheet.TreesLaws.{Passing, passing-tree, reads-tree, reads-first, behind-next, trees-moved}
+use Rattle.leaves.proofs.report.ListedLaws.{adds-none}
+use Rattle.leaves.proofs.sheet.TreesLaws.{Passing, passing-tree, reads-tree, behind-next, trees-moved}
 use Rattle.inlines.proofs.PathLaws.{Paced, paced-path, paced-visit, paced-turn}
 
 -- ---- its blank lines
-pub blank-law : (span : Span) (blank tight first last : Bool) {x y z o : Report} → Adds x y (list_if (blank && tight) Rules.blank_line_in_tight_list span (path_of x)) → Adds y z (list_if (blank && not tight && first) Rules.blank_line_first span (path_of y)) → Adds z o (list_if (blank && not tight && not first && last) Rules.blank_line_last span (path_of z)) → Adds x o (validate_blank_line (path_of x) span blank tight first last)
-unfolding validate_blank_line
-blank-law span blank tight first last a b c = adds-then a (adds-then (rw a.path at b) (rw (b.path, a.path) at c))
 
 -- nothing deeper than `outer` stands at record j: the item has ended, and nothing deeper than `outer` stands behind it
 last-at : (w : List ℕ) (n level outer j : ℕ) → outer ≤ level → eqb (count (under w n j outer)) 0 ≡ (eqb (count (under w n (j + size (under w n j level)) outer)) 0 && eqb (count (under w n j level)) 0)
@@ -73,19 +70,13 @@ lines-turn {u = u} {p = p} {k = k} {r} tight v l reads behind g n d c =
     paced-turn v s (rw (reads-tree reads behind) (lines-tree (path_of p) tight _ k r _ _)) (paced-visit v n (rw (paced-path v n, g, last-is s l) at d) c) (omega arith)
 
 -- ---- its paragraph
-module _ {level : ℕ} {x y z : Records} (v : Deciding opens_with_paragraph level x y) where
-  pub opening-end : Ends y z level → false ≡ opens_with_paragraph (trees x level)
-  unfolding opens_with_paragraph
-  opening-end e = deciding-end opens_with_paragraph v e
-
-  module _ {r : Rec} (reads : Reads y z level r) where
-    pub opening-turn : {u : Records} → r.kind ≡ definition → Moved z u (z.next + size (trees z r.level)) → Deciding opens_with_paragraph level x u
-    unfolding opens_with_paragraph
-    opening-turn k m = let k' : eqb r.kind definition ≡ true = eq-eqb _ _ k in deciding-turn opens_with_paragraph v reads m (rw k')
-
-    pub opening-found : {f : Bool} → (r.kind ≡ definition → ⊥) → f ≡ eqb (count (trees z r.level)) 0 → (eqb r.kind paragraph && not f) ≡ opens_with_paragraph (trees x level)
-    unfolding opens_with_paragraph
-    opening-found k q = let k' : eqb r.kind definition ≡ false = ne_eqb _ _ k in rw q (rw (reads-first reads, k') at v.same)
+pub opens-tree : (r : Rec) (kids rest : Forest) → opens_with_paragraph (tree r kids rest) ≡ (when not (eqb r.kind definition) then eqb r.kind paragraph && not (eqb (count kids) 0) else opens_with_paragraph rest)
+unfolding opens_with_paragraph
+opens-tree r kids rest = go (eqb r.kind definition)
+  where
+    go : (b : Bool) → (when b then opens_with_paragraph rest else eqb r.kind paragraph && not (eqb (count kids) 0)) ≡ (when not b then eqb r.kind paragraph && not (eqb (count kids) 0) else opens_with_paragraph rest)
+    go true = refl
+    go false = refl
 
 module _ (path : List ℕ) (span : Span) (checked : ℕ) (kids : Forest) {x : Report} where
   pub task-none : checked ≡ 0 → Adds x x (validate_task_item path span checked kids)

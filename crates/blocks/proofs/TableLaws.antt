@@ -5,23 +5,26 @@ use Prim.Native.Nat.{ℕ, ◌+◌}
 use native.Mathlib.Omega.{arith}
 use native.Mathlib.Numerals.{add-one}
 use lib.Dec.{eqb}
+use lib.ListN.{length}
 use Rattle.leaves.specs.declared.sheet.records.Rec.{Rec}
 use Rattle.leaves.specs.declared.sheet.records.Span.{Span}
 use Rattle.leaves.specs.Report.Rules
 use Rattle.inlines.specs.Depth.{validate_cell_values, validate_one_line}
 use Rattle.inlines.specs.Nodes.{validate_inlines}
 use Rattle.blocks.specs.Table.{header_width, validate_cell, validate_cells, validate_rows, validate_table}
-use mathlib.Core.Path.{◌≡◌, refl, sym, subst, ◌∙◌}
+use mathlib.Core.Path.{◌≡◌, refl, sym, ap, subst, ◌∙◌}
 use Rattle.leaves.proofs.sheet.TreeLaws.{suc-some}
 use Rattle.leaves.specs.Sheet.Forest.{Forest, none, tree, count}
-use Rattle.leaves.specs.Sheet.Trees.{trees, Reads, Ends}
+use Rattle.leaves.specs.Sheet.Trees.{trees, Reads}
+use Rattle.leaves.specs.Sheet.Roots.{roots}
 use Rattle.leaves.specs.Report.Entries.{Entry, list_if, ◌⊕◌}
 use Rattle.leaves.specs.Report.Listed.{path_of, Adds, Enters, Leaves}
 use Rattle.leaves.specs.declared.sheet.trees.Records.{Records}
 use Rattle.leaves.specs.declared.report.entries.Report.{Report}
 use Rattle.leaves.proofs.report.EntryLaws.{join-assoc}
 use Rattle.leaves.proofs.report.ListedLaws.{adds-then, adds-from}
-use Rattle.leaves.proofs.sheet.TreesLaws.{passing-tree, reads-tree, reads-first, behind-next}
+use Rattle.leaves.proofs.sheet.TreesLaws.{passing-tree, reads-tree, behind-next}
+use Rattle.leaves.proofs.sheet.RootLaws.{length-roots}
 use Rattle.inlines.specs.Walk.{Done}
 use Rattle.inlines.proofs.WalkLaws.{loop-bytes}
 use Rattle.inlines.proofs.PathLaws.{Paced, paced-path, paced-visit, paced-turn}
@@ -66,16 +69,25 @@ pub rows_none : (bytes path : List ℕ) (width k : ℕ) → validate_rows bytes 
 unfolding validate_rows
 rows_none bytes path width k = refl
 
--- ---- the table
-module _ (span : Span) (a : ℕ) {k j : Records} {x y : Report} where
-  pub table_empty : (bytes path : List ℕ) → Ends k j x.level → Adds x y (list_if true Rules.table_without_row span path) → Adds x y (validate_table bytes path span a (trees k x.level))
-  unfolding validate_table count
-  table_empty bytes path e l = rw e.none l
+-- ---- the table, by the rows that an iterator gives
+abbrev width-of : List (Rec × Forest) → ℕ
+width-of [] = 0
+width-of (t ∷ ts) = count t.1
 
-  pub table_done : {m : ℕ} {r : Rec} {i : Records} {z o : Report} → Reads k j x.level r → m ≡ count (trees j r.level) → Adds x y (list_if (eqb m 0) Rules.table_without_cell span (path_of x)) → Adds y z (list_if (not (eqb a m)) Rules.alignment_count span (path_of y)) → Done k i z.level z o (validate_rows k.bytes.now (path_of z) m 0 (trees k z.level)) → Adds x o (validate_table k.bytes.now (path_of x) span a (trees k x.level))
-  unfolding validate_table header_width count
-  table_done {m} {r} {z = z} {o} reads e l b f =
-      let h : eqb (count (trees k x.level)) 0 ≡ false = rw (reads-first reads) (sym (suc-some _)) in
-      let w : header_width (trees k x.level) ≡ m = rw (reads-first reads) (sym e) in
+width-roots : (f : Forest) → width-of (roots f) ≡ header_width f
+unfolding roots header_width
+width-roots none = refl
+width-roots (tree r kids rest) = refl
+
+module _ (span : Span) (a : ℕ) {x y : Report} where
+  pub table_empty : (bytes path : List ℕ) (f : Forest) → roots f ≡ [] → Adds x y (list_if true Rules.table_without_row span path) → Adds x y (validate_table bytes path span a f)
+  unfolding validate_table
+  table_empty bytes path f e l = let h : count f ≡ 0 = sym (length-roots f) ∙ ap length e in rw h l
+
+  pub table_done : {k i : Records} {m : ℕ} {r : Rec} {kids : Forest} {ts : List (Rec × Forest)} {z o : Report} → roots (trees k x.level) ≡ (r, kids) ∷ ts → m ≡ count kids → Adds x y (list_if (eqb m 0) Rules.table_without_cell span (path_of x)) → Adds y z (list_if (not (eqb a m)) Rules.alignment_count span (path_of y)) → Done k i z.level z o (validate_rows k.bytes.now (path_of z) m 0 (trees k z.level)) → Adds x o (validate_table k.bytes.now (path_of x) span a (trees k x.level))
+  unfolding validate_table
+  table_done {k} {m = m} {z = z} {o} e q l b f =
+      let h : eqb (count (trees k x.level)) 0 ≡ false = rw (sym (length-roots (trees k x.level)) ∙ ap length e) (sym (suc-some _)) in
+      let w : header_width (trees k x.level) ≡ m = sym (width-roots (trees k x.level)) ∙ ap width-of e ∙ sym q in
       let two = adds-then l (rw l.path at b) in
       rw (h, w) (rw join-assoc at (adds-from (λ path level. validate_rows k.bytes.now path m 0 (trees k level)) two f.adds))

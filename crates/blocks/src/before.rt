@@ -32,11 +32,13 @@ pub(crate) fn validate_taken_block(report: &mut Report, before: Before, r: Rec)
     ensures { Adds report.old report.new
         (validate_taken_block (path_of report.old) r.span before r.kind r.a r.b) }
 {
-    let same = written_marker(before.a, before.b) == written_marker(r.a, r.b);
-    let lists = (before.kind == kinds::LIST) & (r.kind == kinds::LIST) & same;
+    let lists = before.kind == kinds::LIST
+        && r.kind == kinds::LIST
+        && written_marker(before.a, before.b) == written_marker(r.a, r.b);
     report.list_if(lists, Rule::AdjacentLists, r.span);
-    let indented = (r.kind == kinds::CODE_BLOCK) & (r.a == 1);
-    let taken = indented & takes_indented_code(before.kind, before.a);
+    let taken = r.kind == kinds::CODE_BLOCK
+        && r.a == 1
+        && takes_indented_code(before.kind, before.a);
     report.list_if(taken, Rule::IndentedCodeTaken, r.span);
 }
 

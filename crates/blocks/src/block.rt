@@ -35,6 +35,7 @@ fn validate_heading(records: &Records, report: &mut Report, r: Rec)
 }
 
 // Paragraphs, headings, code blocks, definitions, frontmatter and leaf directives. Every other kind lists nothing here.
+#[tactic(auto, unfolding(crate::specs::Block::validate_leaf))]
 fn validate_leaf(records: &Records, report: &mut Report, r: Rec)
     ensures { Adds report.old report.new
         (validate_leaf records.now.bytes.now (path_of report.old) r
@@ -67,6 +68,7 @@ fn validate_html(records: &Records, report: &mut Report, r: Rec)
 }
 
 // Alerts, lists, HTML containers and container directives. `validate_leaf` takes the rest.
+#[tactic(auto, unfolding(crate::specs::Block::validate_container))]
 fn validate_container(records: &Records, report: &mut Report, r: Rec)
     ensures { Adds report.old report.new
         (validate_container records.now.bytes.now (path_of report.old) r
@@ -84,6 +86,7 @@ fn validate_container(records: &Records, report: &mut Report, r: Rec)
 }
 
 // Footnote definitions and tables, which report at the paths of what they hold. `validate_container` takes the rest.
+#[tactic(auto, unfolding(crate::specs::Block::validate_own))]
 pub(crate) fn validate_own(records: &Records, report: &mut Report, r: Rec)
     ensures { Adds report.old report.new
         (validate_own records.now.bytes.now (path_of report.old) r

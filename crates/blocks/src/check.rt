@@ -11,7 +11,7 @@ use crate::walk::validate_document;
 use leaves::refusal::judge::accept;
 use leaves::report::entries::Tally;
 
-// How many words and entries the list has: a walk with an empty report.
+// How many words and entries the list has: a walk with an empty report, which writes nothing.
 fn measure(sheet: &[u32], text: &[u8]) -> Tally
     requires { Sound sheet.now text.now }
     ensures { result ≡ after start (validate_document sheet.now text.now) }

@@ -17,12 +17,11 @@ fn blank_line_at(records: &Records, report: &mut Report)
 {
     let level = report.level;
     let mut records = *records;
-    // the index that goes into the path; `records` is no Iterator that could be enumerated
+    // the index that goes into the path; the loop asks what stands behind each tree, which `roots` does not tell
     let mut k: u32 = 0;
     while let Some(r) = records.next_under(level) {
         records.skip(r.level);
-        let end = (k == 0) | records.end(level);
-        if (r.kind == kinds::BLANK_LINE) & end {
+        if r.kind == kinds::BLANK_LINE && (k == 0 || records.end(level)) {
             report.enter(k, r.level);
             report.list_if(true, Rule::BlankLineInFootnote, r.span);
             report.leave(level);

@@ -36,9 +36,9 @@ pub(crate) fn validate_code_block(bytes: &[u8], report: &mut Report, r: Rec)
     ensures { Adds report.old report.new
         (validate_code_block bytes.now (path_of report.old) r.span r.a r.b r.first r.second) }
 {
-    let empty = (r.b == 1) & is_empty(r.second);
+    let empty = r.b == 1 && is_empty(r.second);
     report.list_if(empty, Rule::EmptyInfo, r.span);
-    let blank = (r.a == 1) & has_blank_edge_line(text_of(bytes, r.first));
+    let blank = r.a == 1 && has_blank_edge_line(text_of(bytes, r.first));
     report.list_if(blank, Rule::BlankEdgeInCode, r.span);
 }
 

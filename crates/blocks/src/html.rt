@@ -46,13 +46,12 @@ pub(crate) fn validate_html_container(records: &Records, report: &mut Report, sp
         (validate_html_container records.now.bytes.now (path_of report.old) span
         (trees records.now report.old.level)) }
 {
-    let mut records = *records;
-    let Some(opening) = records.next_under(report.level) else {
+    let mut tags = records.roots(report.level);
+    let Some(opening) = tags.next() else {
         return;
     };
-    records.skip(opening.level);
-    let Some(closing) = records.next_under(report.level) else {
+    let Some(closing) = tags.next() else {
         return;
     };
-    validate_tags(records.bytes, report, span, opening, closing);
+    validate_tags(records.bytes, report, span, opening.root, closing.root);
 }

@@ -23,10 +23,10 @@ fn validate_blank_line(report: &mut Report, r: Rec, tight: bool, first: bool, la
         (validate_blank_line (path_of report.old) r.span (eqb r.kind blank_line) tight first last) }
 {
     let blank = r.kind == kinds::BLANK_LINE;
-    report.list_if(blank & tight, Rule::BlankLineInTightList, r.span);
-    let opens = blank & !tight & first;
+    report.list_if(blank && tight, Rule::BlankLineInTightList, r.span);
+    let opens = blank && !tight && first;
     report.list_if(opens, Rule::BlankLineFirst, r.span);
-    let closes = blank & !tight & !first & last;
+    let closes = blank && !tight && !first && last;
     report.list_if(closes, Rule::BlankLineLast, r.span);
 }
 
@@ -46,7 +46,7 @@ pub(crate) fn validate_item_blank_lines(
 {
     let level = report.level;
     let mut records = *records;
-    // the index that goes into the path; `records` is no Iterator that could be enumerated
+    // the index that goes into the path; the loop asks what stands behind each tree, which `roots` does not tell
     let mut k: u32 = 0;
     while let Some(r) = records.next_under(level) {
         records.skip(r.level);
@@ -62,14 +62,10 @@ pub(crate) fn validate_item_blank_lines(
 fn opens_with_paragraph(records: &Records, level: u32) -> bool
     ensures { result ≡ opens_with_paragraph (trees records.now level) }
 {
-    let mut records = *records;
-    while let Some(r) = records.next_under(level) {
-        if r.kind != kinds::DEFINITION {
-            return (r.kind == kinds::PARAGRAPH) & !records.end(r.level);
-        }
-        records.skip(r.level);
-    }
-    false
+    records
+        .roots(level)
+        .find(|t| t.root.kind != kinds::DEFINITION)
+        .is_some_and(|t| t.root.kind == kinds::PARAGRAPH && !t.kids.end(t.root.level))
 }
 
 // Rule 14, where the item has a checkbox (A is not 0).

@@ -31,6 +31,6 @@ pub(crate) fn validate_item_number(
         return;
     };
     report.list_if(ordered != 1, Rule::BulletNumber, span);
-    let long = (ordered == 1) & (MOST_NUMBER < value);
+    let long = ordered == 1 && MOST_NUMBER < value;
     report.list_if(long, Rule::LongNumber, span);
 }

@@ -16,15 +16,7 @@ use leaves::sheet::{empty, kinds};
 fn all_empty(records: &Records, level: u32) -> bool
     ensures { result ≡ all_empty (trees records.now level) }
 {
-    let mut records = *records;
-    while let Some(r) = records.next_under(level) {
-        let passed = !kinds::is_inline(r.kind) | empty::is_empty_text(r);
-        if !passed {
-            return false;
-        }
-        records.skip(r.level);
-    }
-    true
+    records.roots(level).all(|t| !kinds::is_inline(t.root.kind) || empty::is_empty_text(t.root))
 }
 
 // Rule 2, then the inlines.

@@ -32,7 +32,7 @@ fn validate_cells(records: &mut Records, report: &mut Report)
         (trees records.old report.old.level)) }
 {
     let level = report.level;
-    // the index that goes into the path; `records` is no Iterator that could be enumerated
+    // the index that goes into the path; `roots` would go over each tree once more than the walk of it does
     let mut k: u32 = 0;
     while let Some(cell) = records.next_under(level) {
         report.enter(k, cell.level);
@@ -49,7 +49,7 @@ fn validate_rows(records: &mut Records, report: &mut Report, width: usize)
         (trees records.old report.old.level)) }
 {
     let level = report.level;
-    // the index that goes into the path; `records` is no Iterator that could be enumerated
+    // the index that goes into the path; `roots` would go over each tree once more than the walk of it does
     let mut k: u32 = 0;
     while let Some(row) = records.next_under(level) {
         report.enter(k, row.level);
@@ -67,14 +67,13 @@ pub(crate) fn validate_table(records: &Records, report: &mut Report, r: Rec)
         (validate_table records.now.bytes.now (path_of report.old) r.span r.a
         (trees records.now report.old.level)) }
 {
-    let mut rows = *records;
-    let mut cells = *records;
-    let Some(header) = cells.next_under(report.level) else {
+    let Some(header) = records.roots(report.level).next() else {
         report.list_if(true, Rule::TableWithoutRow, r.span);
         return;
     };
-    let width = cells.count(header.level);
+    let width = header.kids.count(header.root.level);
     report.list_if(width == 0, Rule::TableWithoutCell, r.span);
     report.list_if(r.a as usize != width, Rule::AlignmentCount, r.span);
+    let mut rows = *records;
     validate_rows(&mut rows, report, width);
 }

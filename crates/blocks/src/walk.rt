@@ -20,7 +20,7 @@ use leaves::sheet::records::Rec;
 use leaves::sheet::trees::Records;
 
 // The block walk (`validate_blocks`, `validate_block`), the list walk (`validate_list_items`) and the item walk
-// (`validate_item`) call each other. They end because the levels left below 64 fall:
+// (`validate_item`) call each other. They end because the levels left below 64 (`levels_left`) fall:
 // - A loop over children (`validate_blocks`, `validate_list_items`) enters each child, which is deeper, and calls
 //   `validate_block` or `validate_item` for it.
 // - A record (`validate_block`, `validate_item`) calls the loop over its children at its own level: nothing is deeper
@@ -40,7 +40,7 @@ fn validate_blocks(records: &mut Records, report: &mut Report)
         a: 0,
         b: 0,
     };
-    // the index that goes into the path; `records` is no Iterator that could be enumerated
+    // the index that goes into the path; `roots` would go over each tree once more than the walk of it does
     let mut k: u32 = 0;
     while let Some(r) = records.next_under(level) {
         report.enter(k, r.level);
@@ -84,7 +84,7 @@ fn validate_list_items(records: &mut Records, report: &mut Report, list: Rec)
         (trees records.old report.old.level)) }
 {
     let level = report.level;
-    // the index that goes into the path; `records` is no Iterator that could be enumerated
+    // the index that goes into the path; `roots` would go over each tree once more than the walk of it does
     let mut k: u32 = 0;
     while let Some(r) = records.next_under(level) {
         report.enter(k, r.level);

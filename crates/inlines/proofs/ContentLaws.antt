@@ -8,9 +8,7 @@ use Rattle.leaves.specs.Text.Lists.{when◌then◌else◌}
 use Rattle.leaves.specs.Sheet.Kinds.{is_inline, line_break}
 use Rattle.leaves.specs.Sheet.Forest.{Forest, none, tree}
 use Rattle.leaves.specs.Report.Entries.{list_if}
-use Rattle.leaves.specs.Report.Listed.{Adds}
-use Rattle.leaves.specs.declared.report.entries.Report.{Report}
-use Rattle.inlines.specs.ContentGathered.{no_content, with_inline, content_after, content_of}
+use Rattle.inlines.specs.ContentGathered.{no_content, with_inline, content_after, content_of, break_entry}
 use Rattle.inlines.specs.Content.{no_inline, all_empty, starts_with_whitespace, ends_with_whitespace_after, ends_with_whitespace, holds_joined, final_break_after, final_break}
 use Rattle.leaves.specs.Report.Rules
 use Rattle.leaves.specs.Sheet.Empty.{is_empty_text}
@@ -71,14 +69,15 @@ module _ (bytes : List ℕ) (outer a : ℕ) where
       go true e = rw (e, and-false c.joined) (or-false _ ∙ and_assoc (not c.some) (is_joined outer a r.kind r.a) (no_inline rest))
       go false e = rw e
 
-  after_last : (path : List ℕ) (c : Content) (f : Forest) → list_if (content_after bytes outer a c f).breaks Rules.final_hard_break (content_after bytes outer a c f).last path ≡ final_break_after path (list_if c.breaks Rules.final_hard_break c.last path) f
-  unfolding content_after final_break_after with_inline
+  after_last : (path : List ℕ) (c : Content) (f : Forest) → break_entry path (content_after bytes outer a c f).last_break ≡ final_break_after path (break_entry path c.last_break) f
+  unfolding content_after final_break_after with_inline break_entry list_if
   after_last path c none = refl
-  after_last path c (tree r kids rest) = after_last path (with_inline bytes outer a c r) rest ∙ ap (λ es. final_break_after path es rest) (go (is_inline r.kind) refl)
+  after_last path c (tree r kids rest) = after_last path (with_inline bytes outer a c r) rest ∙ ap (λ es. final_break_after path es rest) (go (is_inline r.kind) refl (eqb r.kind line_break) refl)
     where
-      go : (t : Bool) → is_inline r.kind ≡ t → list_if (with_inline bytes outer a c r).breaks Rules.final_hard_break (with_inline bytes outer a c r).last path ≡ (when is_inline r.kind then list_if (eqb r.kind line_break) Rules.final_hard_break r.span path else list_if c.breaks Rules.final_hard_break c.last path)
-      go true e = rw e
-      go false e = rw e
+      go : (t : Bool) → is_inline r.kind ≡ t → (m : Bool) → eqb r.kind line_break ≡ m → break_entry path (with_inline bytes outer a c r).last_break ≡ (when is_inline r.kind then list_if (eqb r.kind line_break) Rules.final_hard_break r.span path else break_entry path c.last_break)
+      go true e true m = rw (e, m)
+      go true e false m = rw (e, m)
+      go false e _ m = rw e
 
   module _ (f : Forest) {c : Content} (is : c ≡ content_of bytes outer a f) where
     pub says_none : not c.some ≡ no_inline f
@@ -101,10 +100,6 @@ module _ (bytes : List ℕ) (outer a : ℕ) where
     unfolding content_of
     says-joined = rw is (after-joined no_content f)
 
-    pub says_last : (path : List ℕ) → list_if c.breaks Rules.final_hard_break c.last path ≡ final_break path f
-    unfolding content_of final_break list_if
+    pub says_last : (path : List ℕ) → break_entry path c.last_break ≡ final_break path f
+    unfolding content_of final_break break_entry
     says_last path = rw is (after_last path no_content f)
-
--- ---- rule 30, by what was gathered
-pub break-law : (bytes path : List ℕ) (outer a : ℕ) (f : Forest) {x y : Report} {c : Content} → c ≡ content_of bytes outer a f → Adds x y (list_if c.breaks Rules.final_hard_break c.last path) → Adds x y (final_break path f)
-break-law bytes path outer a f is l = rw (says_last bytes outer a f is path) at l

@@ -2,13 +2,8 @@ pub mod AttributeLaws
 pub mod ContentLaws
 pub mod CountLaws
 pub mod DepthLaws
-pub mod GatherLaws
 pub mod InlineExamples
 pub mod LinkLaws
-pub mod LiteralLaws
-pub mod NodeLaws
 pub mod NodesLaws
-pub mod OwnLaws
 pub mod PathLaws
-pub mod SingleLaws
 pub mod WalkLaws

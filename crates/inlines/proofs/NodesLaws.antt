@@ -22,7 +22,7 @@ use Rattle.leaves.specs.declared.report.entries.Report.{Report}
 
 -- ---- one record: what its children list, by a call
 abbrev pub under_of : List ℕ → List ℕ → Forest → List Entry
-under_of bytes path kids = validate_inline_nodes_after bytes path 0 kids
+under_of bytes path kids = validate_inline_nodes bytes path kids
 
 module _ {k j : Records} {x : Report} (r : Rec) (before : ℕ) {f : Bool} (g : f ≡ is_inline r.kind) where
   pub node-other : not f ≡ true → Moved k j (k.next + size (trees k r.level)) → Done k j r.level x x (validate_node k.bytes.now (path_of x) before r (trees k r.level) (under_of k.bytes.now (path_of x) (trees k r.level)))
@@ -44,7 +44,7 @@ abbrev kind_after : ℕ → Rec → ℕ
 kind_after before r = when is_inline r.kind then r.kind else before
 
 nodes-tree : (bytes path : List ℕ) (before : ℕ) (r : Rec) (kids rest : Forest) → validate_inline_nodes_after bytes path before (tree r kids rest) ≡ validate_node bytes path before r kids (under_of bytes path kids) ⊕ validate_inline_nodes_after bytes path (kind_after before r) rest
-unfolding validate_inline_nodes_after
+unfolding validate_inline_nodes_after validate_inline_nodes
 nodes-tree bytes path before r kids rest = refl
 
 module _ (before : ℕ) (r : Rec) {f : Bool} (g : f ≡ is_inline r.kind) where
@@ -59,6 +59,6 @@ nodes-turn before {x = x} {p = p} {r = r} v reads d l =
     rw l (loop-turn v (passing-tree v.passing reads d.moved) (rw (reads-tree reads d.moved) (nodes-tree x.bytes.now (path_of p) before r _ _)) (rw (loop-path v, loop-bytes v reads) at d.adds))
 
 -- `validate_inlines`
-pub inlines-done : {k j : Records} {level : ℕ} {x y z : Report} → Adds x y (final_break (path_of x) (trees k level)) → Done k j level y z (validate_inline_nodes_after k.bytes.now (path_of y) 0 (trees k level)) → Done k j level x z (validate_inlines k.bytes.now (path_of x) (trees k level))
-unfolding validate_inlines validate_inline_nodes
+pub inlines-done : {k j : Records} {level : ℕ} {x y z : Report} → Adds x y (final_break (path_of x) (trees k level)) → Done k j level y z (validate_inline_nodes k.bytes.now (path_of y) (trees k level)) → Done k j level x z (validate_inlines k.bytes.now (path_of x) (trees k level))
+unfolding validate_inlines
 inlines-done a d = record { moved = d.moved; adds = adds-then a (rw a.path at d.adds) }

@@ -1,10 +1,13 @@
 -- What the code gathers in one pass over inlines side by side. No contract of a public function cites these
 -- definitions: `ContentLaws` proves that they agree with those of `Content`.
-use Rattle.std.specs.Prelude.{ℕ, true, false, not, ◌&&◌, ◌||◌, List, eqb}
+use Rattle.std.specs.Prelude.{Option, Some, None, ℕ, true, false, not, ◌&&◌, ◌||◌, List, [], eqb}
 use Rattle.leaves.specs.Text.Lists.{when◌then◌else◌}
 use Rattle.leaves.specs.Sheet.Kinds.{is_inline, line_break}
 use Rattle.leaves.specs.Sheet.Forest.{Forest, none, tree}
+use Rattle.leaves.specs.Report.Entries.{Entry, list_if}
+use Rattle.leaves.specs.Report.Rules
 use Rattle.leaves.specs.declared.sheet.records.Rec.{Rec}
+use Rattle.leaves.specs.declared.sheet.records.Span.{Span}
 use Rattle.leaves.specs.Sheet.Empty.{is_empty_text}
 use Rattle.inlines.specs.Values.{starts_white, ends_white}
 use Rattle.leaves.specs.Sheet.Classes.{is_joined}
@@ -18,8 +21,7 @@ no_content = record {
   starts = false;
   ends = false;
   joined = false;
-  breaks = false;
-  last = record { flag = 0; start = 0; end = 0 };
+  last_break = None;
 }
 
 -- `c` with the record r added, in a container of the kind `outer` whose A is `a`. A record that is not an inline
@@ -33,8 +35,7 @@ with_inline bytes outer a c r =
       starts = c.starts || c.empty && not (is_empty_text r) && starts_white bytes r;
       ends = when is_empty_text r then c.ends else ends_white bytes r;
       joined = not c.some && is_joined outer a r.kind r.a;
-      breaks = eqb r.kind line_break;
-      last = r.span;
+      last_break = when eqb r.kind line_break then Some r.span else None;
     }
     else c
 
@@ -45,3 +46,8 @@ content_after bytes outer a c (tree r kids rest) = content_after bytes outer a (
 
 unfoldable pub content_of : List ℕ → ℕ → ℕ → Forest → Content
 content_of bytes outer a f = content_after bytes outer a no_content f
+
+-- 30, by the span of the last inline where that is a line break
+unfoldable pub break_entry : List ℕ → Option Span → List Entry
+break_entry path None = []
+break_entry path (Some span) = list_if true Rules.final_hard_break span path

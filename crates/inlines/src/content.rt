@@ -3,7 +3,7 @@ ghost use Rattle.std.specs.Prelude.{◌≡◌};
 ghost use Rattle.leaves.specs.Sheet.Trees.{trees};
 ghost use Rattle.leaves.specs.Report.Listed.{path_of, Adds};
 ghost use Rattle.inlines.specs.Content.{final_break};
-ghost use Rattle.inlines.specs.ContentGathered.{no_content, with_inline, content_of};
+ghost use Rattle.inlines.specs.ContentGathered.{no_content, with_inline, content_of, break_entry};
 
 use crate::values;
 use leaves::report::entries::Report;
@@ -24,10 +24,8 @@ pub(crate) struct Content {
     pub ends: bool,
     // there is one alone, and it is written with the container's delimiter
     pub joined: bool,
-    // the last is a line break
-    pub breaks: bool,
-    // the span of the last, which is asked for only where `breaks`: an Option would be taken apart there
-    pub last: Span,
+    // the span of the last, where that is a line break
+    pub last_break: Option<Span>,
 }
 
 fn no_content() -> Content
@@ -39,16 +37,12 @@ fn no_content() -> Content
         starts: false,
         ends: false,
         joined: false,
-        breaks: false,
-        last: Span {
-            flag: 0,
-            start: 0,
-            end: 0,
-        },
+        last_break: None,
     }
 }
 
 // `c` with record `r` added. A record that is not an inline changes nothing.
+#[tactic(auto, unfolding(crate::specs::ContentGathered::with_inline))]
 fn with_inline(bytes: &[u8], outer: u32, a: u32, c: Content, r: Rec) -> Content
     ensures { result ≡ with_inline bytes.now outer a c r }
 {
@@ -58,16 +52,19 @@ fn with_inline(bytes: &[u8], outer: u32, a: u32, c: Content, r: Rec) -> Content
     let empty = empty::is_empty_text(r);
     Content {
         some: true,
-        empty: c.empty & empty,
-        starts: c.starts | (c.empty & !empty & values::starts_white(bytes, r)),
+        empty: c.empty && empty,
+        starts: c.starts || (c.empty && !empty && values::starts_white(bytes, r)),
         ends: if empty {
             c.ends
         } else {
             values::ends_white(bytes, r)
         },
-        joined: !c.some & classes::is_joined(outer, a, r.kind, r.a),
-        breaks: r.kind == kinds::LINE_BREAK,
-        last: r.span,
+        joined: !c.some && classes::is_joined(outer, a, r.kind, r.a),
+        last_break: if r.kind == kinds::LINE_BREAK {
+            Some(r.span)
+        } else {
+            None
+        },
     }
 }
 
@@ -76,13 +73,20 @@ fn with_inline(bytes: &[u8], outer: u32, a: u32, c: Content, r: Rec) -> Content
 pub(crate) fn gather(records: &Records, level: u32, outer: u32, a: u32) -> Content
     ensures { result ≡ content_of records.now.bytes.now outer a (trees records.now level) }
 {
-    let mut records = *records;
-    let mut c = no_content();
-    while let Some(r) = records.next_under(level) {
-        c = with_inline(records.bytes, outer, a, c, r);
-        records.skip(r.level);
+    records.roots(level).fold(
+        no_content(),
+        |c, t| with_inline(records.bytes, outer, a, c, t.root),
+    )
+}
+
+// Rule 30, by what was gathered: a hard break is not the last inline.
+#[tactic(auto, unfolding(crate::specs::ContentGathered::break_entry))]
+pub(crate) fn validate_last_break(report: &mut Report, last_break: Option<Span>)
+    ensures { Adds report.old report.new (break_entry (path_of report.old) last_break) }
+{
+    if let Some(span) = last_break {
+        report.list_if(true, Rule::FinalHardBreak, span);
     }
-    c
 }
 
 // Rule 30: a hard break is not the last inline. Nothing calls this for a link, image, link or image reference, inline
@@ -91,5 +95,5 @@ pub(crate) fn final_break(records: &Records, report: &mut Report, level: u32)
     ensures { Adds report.old report.new (final_break (path_of report.old) (trees records.now level)) }
 {
     let c = gather(records, level, 0, 0);
-    report.list_if(c.breaks, Rule::FinalHardBreak, c.last);
+    validate_last_break(report, c.last_break);
 }

@@ -37,8 +37,8 @@ pub(crate) fn validate_math_inline(bytes: &[u8], report: &mut Report, r: Rec)
 {
     let empty = empty::is_empty(r.first);
     report.list_if(empty, Rule::EmptyMath, r.span);
-    let bare = (r.a == 0) & (r.b == 0);
+    let bare = r.a == 0 && r.b == 0;
     report.list_if(bare, Rule::MathWithoutFence, r.span);
-    let closes = (r.a == 1) & holds_backtick_dollar(text_of(bytes, r.first));
+    let closes = r.a == 1 && holds_backtick_dollar(text_of(bytes, r.first));
     report.list_if(closes, Rule::BacktickDollarInMath, r.span);
 }

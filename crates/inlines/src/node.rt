@@ -9,7 +9,7 @@ ghost use Rattle.inlines.specs.Link.{validate_link_text};
 ghost use Rattle.inlines.specs.Node.{validate_text_directive, validate_emphasis_container, validate_inline};
 
 use crate::attribute::validate_directive_attributes;
-use crate::content::gather;
+use crate::content::{gather, validate_last_break};
 use crate::link::validate_link_text;
 use crate::own::validate_inline_values;
 use crate::single;
@@ -27,10 +27,10 @@ fn validate_emphasis_container(records: &Records, report: &mut Report, r: Rec)
 {
     let c = gather(records, r.level, r.kind, r.a);
     report.list_if(c.empty, Rule::EmptyEmphasis, r.span);
-    let white = !c.empty & (c.starts | c.ends);
+    let white = !c.empty && (c.starts || c.ends);
     report.list_if(white, Rule::WhiteEmphasis, r.span);
     report.list_if(c.joined, Rule::JoinedEmphasis, r.span);
-    report.list_if(c.breaks, Rule::FinalHardBreak, c.last);
+    validate_last_break(report, c.last_break);
 }
 
 // Rule 25 of the link, then 42 of all that it holds.
@@ -79,6 +79,7 @@ fn validate_inline_footnote(records: &Records, report: &mut Report, r: Rec)
 // What one inline reports, up to the walk of its children, which are next. It answers the kinds whose rules look at
 // what they hold: emphasis, strong, delete, mark, link, link reference, text directive and inline footnote.
 // `validate_inline_values` takes the rest.
+#[tactic(auto, unfolding(crate::specs::Node::validate_inline))]
 pub(crate) fn validate_inline(records: &Records, report: &mut Report, r: Rec)
     ensures { Adds report.old report.new
         (validate_inline records.now.bytes.now (path_of report.old) r

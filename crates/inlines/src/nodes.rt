@@ -1,8 +1,9 @@
 // The walk of inlines: for each the rules of it and the one before it, its own rules, and its children.
+ghost use Rattle.std.specs.Prelude.{unwrap_or};
 ghost use Rattle.leaves.specs.Sheet.Trees.{trees};
 ghost use Rattle.leaves.specs.Report.Listed.{path_of};
 ghost use Rattle.inlines.specs.Walk.{Done};
-ghost use Rattle.inlines.specs.Nodes.{validate_node, validate_inline_nodes_after, validate_inlines};
+ghost use Rattle.inlines.specs.Nodes.{validate_node, validate_inline_nodes, validate_inlines};
 
 use crate::content::final_break;
 use crate::node::validate_inline;
@@ -12,18 +13,18 @@ use leaves::sheet::kinds;
 use leaves::sheet::records::Rec;
 use leaves::sheet::trees::Records;
 
-// `validate_node` and `validate_inline_nodes` call each other, and end because the levels left below 64 fall: the loop
-// over inlines calls for each of them, which is deeper. An inline calls the loop over its children with its own level,
-// and only the loop goes deeper.
+// `validate_node` and `validate_inline_nodes` call each other, and end because the levels left below 64 (`levels_left`)
+// fall: the loop over inlines calls for each of them, which is deeper. An inline calls the loop over its children with
+// its own level, and only the loop goes deeper.
 
 // The record `r`, whose children are next: the rules of it and the inline before it, whose kind is `before`; then its
 // own rules; then its children. A record that is not an inline is passed over.
 #[cycle(nodes)]
-fn validate_node(records: &mut Records, report: &mut Report, r: Rec, before: u32)
+fn validate_node(records: &mut Records, report: &mut Report, r: Rec, before: Option<u32>)
     ensures { Done records.old records.new r.level report.old report.new
-        (validate_node records.old.bytes.now (path_of report.old) before r
+        (validate_node records.old.bytes.now (path_of report.old) (unwrap_or before 0) r
         (trees records.old r.level)
-        (validate_inline_nodes_after records.old.bytes.now (path_of report.old) 0
+        (validate_inline_nodes records.old.bytes.now (path_of report.old)
         (trees records.old r.level))) }
 {
     if !kinds::is_inline(r.kind) {
@@ -32,22 +33,22 @@ fn validate_node(records: &mut Records, report: &mut Report, r: Rec, before: u32
     }
     single::validate_siblings(report, before, r);
     validate_inline(records, report, r);
-    validate_inline_nodes(records, report, r.level, 0);
+    validate_inline_nodes(records, report, r.level);
 }
 
-// The inlines that are next and deeper than `level`. `before` is the kind of the inline before them, 0, which is no kind,
-// where there is none.
+// The inlines that are next and deeper than `level`.
 #[cycle(nodes)]
-fn validate_inline_nodes(records: &mut Records, report: &mut Report, level: u32, before: u32)
+fn validate_inline_nodes(records: &mut Records, report: &mut Report, level: u32)
     ensures { Done records.old records.new level report.old report.new
-        (validate_inline_nodes_after records.old.bytes.now (path_of report.old) before
+        (validate_inline_nodes records.old.bytes.now (path_of report.old)
         (trees records.old level)) }
 {
-    let mut last = before;
+    // the kind of the inline before the next
+    let mut before = None;
     while let Some(r) = records.next_under(level) {
-        validate_node(records, report, r, last);
+        validate_node(records, report, r, before);
         if kinds::is_inline(r.kind) {
-            last = r.kind;
+            before = Some(r.kind);
         }
     }
 }
@@ -58,5 +59,5 @@ pub fn validate_inlines(records: &mut Records, report: &mut Report, level: u32)
         (validate_inlines records.old.bytes.now (path_of report.old) (trees records.old level)) }
 {
     final_break(records, report, level);
-    validate_inline_nodes(records, report, level, 0);
+    validate_inline_nodes(records, report, level);
 }

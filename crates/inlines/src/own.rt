@@ -10,6 +10,7 @@ use leaves::sheet::records::Rec;
 
 // What a text, image, image reference, escape, footnote reference, wikilink, code or math reports: its rules look at
 // nothing but its own values. Every other kind lists nothing here.
+#[tactic(auto, unfolding(crate::specs::Own::validate_inline_values))]
 pub(crate) fn validate_inline_values(bytes: &[u8], report: &mut Report, r: Rec)
     ensures { Adds report.old report.new (validate_inline_values bytes.now (path_of report.old) r) }
 {

@@ -1,4 +1,5 @@
 // The rules of one inline and its own values, and of two side by side.
+ghost use Rattle.std.specs.Prelude.{unwrap_or};
 ghost use Rattle.leaves.specs.Report.Listed.{path_of, Adds};
 ghost use Rattle.leaves.specs.Report.RuleNumbers.{rule_number};
 ghost use Rattle.inlines.specs.Single.{
@@ -55,14 +56,16 @@ pub fn validate_directive_name(bytes: &[u8], report: &mut Report, span: Span, na
 }
 
 // Rules 37, 38: a break after a break would leave an empty line, and two strikethroughs join their delimiters.
-// `before` is the kind of the inline before, 0 where there is none. 0 is no kind: each test asks for one kind, and of an
-// Option it would ask that and that there is one.
-pub(crate) fn validate_siblings(report: &mut Report, before: u32, r: Rec)
+// `before` is the kind of the inline before.
+pub(crate) fn validate_siblings(report: &mut Report, before: Option<u32>, r: Rec)
     ensures { Adds report.old report.new
-        (validate_siblings (path_of report.old) r.span before r.kind r.a) }
+        (validate_siblings (path_of report.old) r.span (unwrap_or before 0) r.kind r.a) }
 {
-    let blank_line = classes::is_break(before) & classes::is_plain_break(r.kind, r.a);
+    let Some(before) = before else {
+        return;
+    };
+    let blank_line = classes::is_break(before) && classes::is_plain_break(r.kind, r.a);
     report.list_if(blank_line, Rule::BreakAfterBreak, r.span);
-    let joined = (before == kinds::DELETE) & (r.kind == kinds::DELETE);
+    let joined = before == kinds::DELETE && r.kind == kinds::DELETE;
     report.list_if(joined, Rule::AdjacentStrikethroughs, r.span);
 }

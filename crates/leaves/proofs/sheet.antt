@@ -1,7 +1,7 @@
-pub mod DecideLaws
 pub mod ForestLaws
 pub mod KindLaws
 pub mod RecordLaws
+pub mod RootLaws
 pub mod SiblingLaws
 pub mod TextLaws
 pub mod TreeLaws

@@ -17,7 +17,6 @@ pub mod NameLaws
 pub mod OverLaws
 pub mod PairLaws
 pub mod PartExamples
-pub mod PartLaws
 pub mod PipeExamples
 pub mod PipeLaws
 pub mod PunctuationExamples

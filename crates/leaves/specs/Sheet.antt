@@ -3,6 +3,7 @@ pub mod Empty
 pub mod Forest
 pub mod Kinds
 pub mod Records
+pub mod Roots
 pub mod Siblings
 pub mod Texts
 pub mod Trees

@@ -2,20 +2,15 @@
 use mathlib.Core.Path.{◌≡◌, refl, sym, ap, ◌∙◌}
 use mathlib.Core.Bool.{Bool, true, ◌&&◌, and_assoc}
 use mathlib.Core.List.{List, [], ◌∷◌}
-use Prim.Native.Nat.{ℕ, zero, suc, min, ◌+◌}
+use Prim.Native.Nat.{ℕ, zero, suc, min}
 use native.Mathlib.Omega.{arith}
 use lib.Dec.{eqb}
 use lib.ListN.{length, get_or, take, drop}
 use lib.Pointwise.{pointwise}
 use Rattle.std.specs.Bool.{◌==◌}
 use Rattle.std.specs.List.{list_all, starts_with}
-use Rattle.leaves.specs.Text.Part.{part_of}
-use Rattle.setter.specs.Listing.Program.{listing, Page}
-use Rattle.replay.specs.declared.tally.Tally.{Tally}
-use Rattle.replay.specs.Bytes.{number_at}
-use Rattle.replay.specs.Tally.{recorded, comparing}
 use Rattle.replay.specs.Words.{agrees}
-use Rattle.replay.specs.Films.{before, untouched, same_printed, film_in, wanted_in, printed_over, film_replayed}
+use Rattle.replay.specs.Films.{before, same_printed}
 
 -- numbers compared from place k + 1 on are compared with those of one place on
 agrees-on : (f : ℕ → ℕ) (k : ℕ) (xs : List ℕ) → agrees f (suc k) xs ≡ agrees (λ j. f (suc j)) k xs
@@ -46,10 +41,3 @@ starts-same (x ∷ xs) (y ∷ ys) (suc m) e = and_assoc (eqb x y) (pointwise eqb
 
 pub same-start : (bytes wanted a b : List ℕ) (n : ℕ) (s : Bool) → n ≡ min (length wanted) (length bytes) → a ≡ take n bytes → b ≡ drop n bytes → s ≡ starts_with eqb wanted a → (s && list_all (λ x. x == before) b) ≡ same_printed bytes wanted
 same-start bytes wanted a b n s m e f g = rw (g, e, f) (starts-same bytes wanted n m ∙ printed-same bytes wanted)
-
-pub film-record : (r film wanted output new : List ℕ) (n m printed : ℕ) (same : Bool) (t t₁ t₂ t₃ : Tally) → t₃ ≡ comparing same t₂ → t₂ ≡ comparing (eqb printed m) t₁ → t₁ ≡ recorded t → same ≡ same_printed new wanted → Page film output new printed → output ≡ untouched → film ≡ part_of r 8 n → wanted ≡ part_of r (8 + n) m → n ≡ number_at r 0 → m ≡ number_at r 4 → t₃ ≡ film_replayed r t
-unfolding film_replayed film_in wanted_in printed_over
-film-record r film wanted output new n m printed same t t₁ t₂ t₃ p q e s g o a b x y =
-    let f : printed ≡ length (listing film) = g.prints.count in
-    let l = g.prints.printed in
-    cc

@@ -1,10 +1,5 @@
-pub mod CheckLaws
 pub mod FilmLaws
-pub mod FrontLaws
 pub mod ListLaws
 pub mod LongLaws
-pub mod SheetLaws
-pub mod TallyLaws
 pub mod TextLaws
-pub mod ValueLaws
 pub mod WordLaws

@@ -1,17 +1,14 @@
 -- Answers compared with their bits.
 use mathlib.Core.Path.{◌≡◌, refl, sym, ap, ◌∙◌}
-use mathlib.Core.Bool.{Bool, true, false, beq}
+use mathlib.Core.Bool.{Bool}
 use mathlib.Core.List.{List}
-use Prim.Native.Nat.{ℕ, suc, ◌+◌, ◌/◌, ◌%◌, ◌<◌, ◌≤◌}
+use Prim.Native.Nat.{ℕ, suc, ◌+◌, ◌<◌, ◌≤◌}
 use native.Mathlib.Numerals.{add-one}
 use borrow.Author.Rules.{rules}
 use lib.ListN.{length, get_or, drop, drop_of_length-le}
 use lib.Seq.{drop-cons}
-use Rattle.leaves.specs.Text.Part.{part_of}
 use Rattle.replay.specs.declared.tally.Tally.{Tally}
-use Rattle.replay.specs.Bytes.{byte_at, number_at}
-use Rattle.replay.specs.Tally.{recorded, comparing}
-use Rattle.replay.specs.Texts.{is_bit_set, compared_with_bit, compared_bits, answers_for, text_replayed}
+use Rattle.replay.specs.Texts.{compared_with_bit, compared_bits}
 
 -- the answers before k are compared, and those from k on decide the whole
 pub record Comparing (answers : List Bool) (mask bits : ℕ) (t : Tally) (k : ℕ) (u : Tally) : Type 0 where
@@ -30,21 +27,8 @@ bits-turn {answers} {mask} {bits} {t} {u} {k} inv h d v e =
           ∙ rw (add-one k) (ap (λ (w : Tally). compared_bits (drop (suc k) answers) (suc k) mask bits w) (sym e));
     }
 
-module _ (mask bits k : ℕ) (answer : Bool) (t : Tally) (b : Bool) (set : b ≡ is_bit_set mask k) where
-  pub bit-compared : b ≡ true → (d : Bool) → d ≡ is_bit_set bits k → (u : Tally) → u ≡ comparing (beq answer d) t → u ≡ compared_with_bit mask bits k answer t
-  unfolding compared_with_bit
-  bit-compared e d p u q = rw (← set, e) (cc)
-
-  pub bit-passed : b ≡ false → t ≡ compared_with_bit mask bits k answer t
-  unfolding compared_with_bit
-  bit-passed e = rw (← set, e)
-
 pub bits-end : {answers : List Bool} {mask bits : ℕ} {t u : Tally} {k : ℕ} → Comparing answers mask bits t k u → length answers ≤ k → u ≡ compared_bits answers 0 mask bits t
 unfolding compared_bits
 bits-end {answers} {mask} {bits} {t} {u} {k} inv h = sym (inv.same ∙ rw (drop_of_length-le answers {i = k} h))
 
-pub text-record : (r s : List ℕ) (answers : List Bool) (both n : ℕ) (t t₁ t₂ : Tally) → t₂ ≡ compared_bits answers 0 (both % 0x10000) (both / 0x10000) t₁ → t₁ ≡ recorded t → answers ≡ answers_for s → s ≡ part_of r 5 n → n ≡ byte_at r 0 → both ≡ number_at r 1 → t₂ ≡ text_replayed r t
-unfolding text_replayed
-text-record r s answers both n t t₁ t₂ p q a d k b = cc
-
-pub ruleset texts = (bits-start, bits-turn, bit-compared, bit-passed, bits-end, text-record, rules)
+pub ruleset texts = (bits-start, bits-turn, bits-end, rules)

@@ -1,17 +1,16 @@
 -- Loops over words: one that fills them, and one that compares them.
 use mathlib.Core.Path.{◌≡◌, refl, sym, ap, ◌∙◌}
 use mathlib.Core.Bool.{true, false}
-use mathlib.Core.List.{List, []}
+use mathlib.Core.List.{List}
 use Prim.Native.Nat.{ℕ, ◌+◌, ◌<◌, ◌≤◌}
 use native.Mathlib.Numerals.{add-one}
 use native.Mathlib.Omega.{arith}
 use borrow.Author.Rules.{rules}
-use borrow.Author.Tests.{eq-eqb, ne_eqb, lt-ltb, le-ltb, le-leb, lt-leb}
+use borrow.Author.Tests.{eq-eqb, ne_eqb}
 use lib.ListN.{length, take, drop, get_or, set, length-set, drop_of_length-le}
 use lib.Seq.{take-suc-set, take_all}
 use Rattle.leaves.proofs.text.ScanLaws.{next}
-use Rattle.replay.specs.Bytes.{number_at}
-use Rattle.replay.specs.Words.{up_to, agrees, first_of, word_or}
+use Rattle.replay.specs.Words.{up_to, agrees}
 
 -- the first k words are what `f` gives at their places
 pub record Filling (f : ℕ → ℕ) (old new : List ℕ) (k : ℕ) : Type 0 where
@@ -62,21 +61,4 @@ pub agree-end : (f : ℕ → ℕ) (l : List ℕ) (i : ℕ) → Agreeing f l i �
 unfolding agrees
 agree-end f l i inv h = sym (inv.same ∙ ap (agrees f i) (drop_of_length-le l {i = i} h))
 
--- the first n words, and the word at a place, by their tests
-pub first-none : (w : List ℕ) (n : ℕ) → length w < n → [] ≡ first_of w n
-unfolding first_of
-first-none w n h = rw (lt-leb n (length w) h)
-
-pub first_some : (w : List ℕ) (n : ℕ) → n ≤ length w → take n w ≡ first_of w n
-unfolding first_of
-first_some w n h = rw (le-leb n (length w) h)
-
-pub word-inside : (s : List ℕ) (rest at v : ℕ) → at < length s → v ≡ number_at s at → v ≡ word_or s rest at
-unfolding word_or
-word-inside s rest at v h e = rw (lt-ltb at (length s) h) e
-
-pub word-behind : (s : List ℕ) (rest at : ℕ) → length s ≤ at → rest ≡ word_or s rest at
-unfolding word_or
-word-behind s rest at h = rw (le-ltb at (length s) h)
-
-pub ruleset words = (fill_start, fill-turn, fill_end, agree-start, agree-turn, agree-stop, agree-end, first-none, first_some, word-inside, word-behind, rules)
+pub ruleset words = (fill_start, fill-turn, fill_end, agree-start, agree-turn, agree-stop, agree-end, rules)

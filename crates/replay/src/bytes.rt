@@ -15,6 +15,7 @@ pub fn small(s: &[u8], at: usize) -> usize
     usize::from(byte(s, at))
 }
 
+#[tactic(auto, unfolding(crate::specs::Bytes::pair_at))]
 pub fn pair(s: &[u8], at: usize) -> usize
     requires { at < 256 }
     ensures { (result ≡ pair_at s.now at) × (result ≤ 65535) }
@@ -22,6 +23,7 @@ pub fn pair(s: &[u8], at: usize) -> usize
     usize::from(u16::from_le_bytes([byte(s, at), byte(s, at + 1)]))
 }
 
+#[tactic(auto, unfolding(crate::specs::Bytes::number_at))]
 pub fn number(s: &[u8], at: usize) -> u32
     requires { at < 2 ^ 63 }
     ensures { result ≡ number_at s.now at }
@@ -43,6 +45,7 @@ pub fn large(s: &[u8], at: usize) -> usize
 }
 
 // A number of eight bytes.
+#[tactic(auto, unfolding(crate::specs::Bytes::long_at))]
 pub fn long_number(s: &[u8], at: usize) -> u64
     requires { at < 128 }
     ensures { result ≡ long_at s.now at }

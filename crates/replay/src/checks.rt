@@ -25,16 +25,17 @@ const MARKS: usize = 72;
 
 // Whether the sheet, the report and the marks are within their limits, the list is no longer than the report, and no
 // more marks are written than there are.
+#[tactic(auto, unfolding(crate::specs::Checks::fits_of))]
 fn fits(r: &[u8]) -> bool
     ensures { result ≡ fits_of r.now }
 {
     let report = bytes::pair(r, 6);
     let marks = bytes::pair(r, 10);
-    (bytes::pair(r, 0) <= SHEET)
-        & (bytes::pair(r, 4) <= report)
-        & (report <= REPORT)
-        & (bytes::pair(r, 8) <= marks)
-        & (marks <= MARKS)
+    bytes::pair(r, 0) <= SHEET
+        && bytes::pair(r, 4) <= report
+        && report <= REPORT
+        && bytes::pair(r, 8) <= marks
+        && marks <= MARKS
 }
 
 #[derive(Clone, Copy)]
@@ -59,6 +60,7 @@ impl Format for Checks {
     }
 
     // Replays both calls with the same sheet and text.
+    #[tactic(auto, unfolding(crate::specs::Checks::checks_replayed, crate::specs::Checks::check_replayed, crate::specs::Checks::set_replayed, crate::specs::Checks::sheet_of, crate::specs::Checks::text_of, crate::specs::Checks::list_of, crate::specs::Checks::written_of, crate::specs::Sheets::sheet_in))]
     fn replay(&self, r: &[u8], tally: Tally) -> Tally {
         let mut sheet = [0u32; SHEET];
         let n = bytes::pair(r, 0);

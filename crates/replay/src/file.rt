@@ -69,6 +69,7 @@ fn replay_opened<R: Read, F: Format>(file: &mut R, format: &F) -> Tally
 {
     let mut buffer = room();
     let mut tally = Tally::none();
+    // a `for` and no `loop`: each run ends, and a file does not say how many records it has
     for _ in 0..RECORDS {
         match read_record(file, format, &mut buffer) {
             Ok(Some(n)) => tally = format.replay(&buffer[..n], tally),

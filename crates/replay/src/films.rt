@@ -23,6 +23,7 @@ const BEFORE: u8 = 0xA5;
 
 // The output before a film is listed. The proofs of callers do not unfold `untouched`, and so do not compute so long a
 // list.
+#[tactic(auto, unfolding(crate::specs::Films::untouched))]
 fn output() -> [u8; OUTPUT_BYTES]
     ensures { result ≡ untouched }
 {
@@ -70,6 +71,7 @@ impl Format for Films {
     }
 
     // Compares how many bytes are printed, and each byte of the output. Behind what is printed it must be as it was.
+    #[tactic(auto, unfolding(crate::specs::Films::film_replayed, crate::specs::Films::film_in, crate::specs::Films::wanted_in, crate::specs::Films::printed_over))]
     fn replay(&self, r: &[u8], tally: Tally) -> Tally {
         let n = bytes::large(r, 0);
         let m = bytes::large(r, 4);

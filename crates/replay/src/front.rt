@@ -23,6 +23,7 @@ const NONE: u64 = 0xFFFF_FFFF_FFFF_FFFF;
 impl Function {
     // The function that has this number, if there is one. As TryFrom it would be no plainer: the one caller wants an
     // Option, and would throw the error away.
+    #[tactic(auto, unfolding(crate::specs::Front::function_of))]
     pub fn numbered(number: usize) -> Option<Function>
         ensures { result ≡ function_of number }
     {
@@ -33,6 +34,7 @@ impl Function {
         }
     }
 
+    #[tactic(auto, unfolding(crate::specs::Front::called_of))]
     fn call(self, sheet: &[u32], text: &[u8], lent: &mut [u32]) -> u64
         ensures { Gives (called_of self sheet.now text.now lent.old) result lent.new }
     {
@@ -54,6 +56,7 @@ pub struct Call<'a> {
 
 impl Call<'_> {
     // The answer of the function that is lent the front of the words. NONE where there are fewer words, or no function.
+    #[tactic(auto, unfolding(crate::specs::Front::answered_of))]
     fn answer(&self, words: &mut [u32]) -> u64
         ensures { Gives (answered_of self.now.function self.now.sheet.now self.now.text.now words.old self.now.lent)
             result words.new }
@@ -69,6 +72,7 @@ impl Call<'_> {
 
     // Compares the answer, where the call `fits`, and each of the words: it is the one that is stored, and BEFORE behind
     // those, also where it was not lent. A struct of what is stored would be made only to be taken apart here.
+    #[tactic(auto, unfolding(crate::specs::Front::call_compared))]
     pub fn compare(
         &self,
         words: &mut [u32],
@@ -82,7 +86,7 @@ impl Call<'_> {
     {
         let found = self.answer(words);
         tally
-            .compare(fits & (found == answer))
+            .compare(fits && found == answer)
             .compare(words::same(words, stored, BEFORE))
     }
 }

@@ -23,6 +23,7 @@ const MOST: usize = 800;
 
 // Writes the list of the first block's inlines into the report, and answers how many words it has. Where the sheet has
 // no record or is refused, it writes nothing and answers 0.
+#[tactic(auto, using(crate::proofs::ListLaws::lists), unfolding(crate::specs::Lists::listed_of))]
 fn listed(sheet: &[u32], text: &[u8], report: &mut [u32]) -> usize
     ensures { Gives (listed_of sheet.now text.now report.old)
         result report.new }
@@ -73,7 +74,7 @@ impl Format for Lists {
         let found = listed(words::first(&sheet, n), text, &mut report);
         tally
             .record()
-            .compare((n <= MOST) & (m <= MOST) & (found == m))
+            .compare(n <= MOST && m <= MOST && found == m)
             .compare(words::same(&report, expected, 0))
     }
 }

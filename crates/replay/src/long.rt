@@ -39,6 +39,7 @@ pub fn text(alloc: Global) -> Result<Vec<u8>, AllocError>
     vec![in alloc; 0u8; TEXT]
 }
 
+#[tactic(auto, unfolding(crate::specs::Long::untouched))]
 fn lent() -> [u32; LENT]
     ensures { result ≡ untouched }
 {
@@ -46,6 +47,7 @@ fn lent() -> [u32; LENT]
 }
 
 // A word of a thematic break at level 1, by its field: the kind, the level, and 0 for each field behind them.
+#[tactic(auto, unfolding(crate::specs::Long::break_word))]
 fn word(field: usize) -> u32
     ensures { result ≡ break_word field }
 {
@@ -57,6 +59,7 @@ fn word(field: usize) -> u32
 }
 
 // Fills the words with thematic breaks at level 1, one after another.
+#[tactic(auto, using(crate::proofs::WordLaws::words), unfolding(crate::specs::Long::breaks_of))]
 pub fn breaks(words: &mut [u32])
     ensures { words.new ≡ breaks_of (length words.old) }
 {
@@ -88,6 +91,7 @@ impl Format for Calls<'_> {
     }
 
     // Compares the answer, and each word of what is lent: also those behind the front, which the function does not see.
+    #[tactic(auto, unfolding(crate::specs::Long::call_replayed))]
     fn replay(&self, r: &[u8], tally: Tally) -> Tally {
         let n = bytes::large(r, 4);
         let call = Call {

@@ -18,6 +18,7 @@ const HEAD: usize = 7;
 const MOST: usize = 800;
 
 // The answer for a stored sheet. A sheet of over MOST words is judged as a sheet of no words.
+#[tactic(auto, unfolding(crate::specs::Sheets::judged_of, crate::specs::Sheets::sheet_in))]
 fn judged(r: &[u8]) -> Result<(), Malformed>
     ensures { result ≡ judged_of r.now }
 {
@@ -47,6 +48,7 @@ impl Format for Sheets {
     }
 
     // Compares the number and the record of the answer.
+    #[tactic(auto, unfolding(crate::specs::Sheets::sheet_replayed))]
     fn replay(&self, r: &[u8], tally: Tally) -> Tally {
         let fits = bytes::pair(r, 0) <= MOST;
         let answer = judged(r);
@@ -54,7 +56,7 @@ impl Format for Sheets {
         let record = record_of(answer);
         tally
             .record()
-            .compare(fits & (number == bytes::small(r, 4)))
-            .compare(fits & (record == bytes::pair(r, 5)))
+            .compare(fits && number == bytes::small(r, 4))
+            .compare(fits && record == bytes::pair(r, 5))
     }
 }

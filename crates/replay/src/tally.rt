@@ -15,6 +15,7 @@ pub struct Tally {
 }
 
 // A sum of two counts, and MOST where one of them is MOST or more: so no sum wraps. No file comes near MOST.
+#[tactic(auto, unfolding(crate::specs::Tally::sum_of))]
 fn sum(a: u64, b: u64) -> u64
     ensures { result ≡ sum_of a b }
 {
@@ -22,6 +23,7 @@ fn sum(a: u64, b: u64) -> u64
 }
 
 // How many differences a comparison adds.
+#[tactic(auto, unfolding(crate::specs::Tally::differences_of))]
 fn differences(same: bool) -> u64
     ensures { result ≡ differences_of same }
 {
@@ -39,6 +41,7 @@ impl Tally {
         }
     }
 
+    #[tactic(auto, unfolding(crate::specs::Tally::recorded))]
     pub fn record(self) -> Self
         ensures { result ≡ recorded self }
     {
@@ -48,6 +51,7 @@ impl Tally {
         }
     }
 
+    #[tactic(auto, unfolding(crate::specs::Tally::differing))]
     pub fn differs(self) -> Self
         ensures { result ≡ differing self }
     {
@@ -57,6 +61,7 @@ impl Tally {
         }
     }
 
+    #[tactic(auto, unfolding(crate::specs::Tally::comparing))]
     pub fn compare(self, same: bool) -> Self
         ensures { result ≡ comparing same self }
     {
@@ -67,6 +72,7 @@ impl Tally {
         }
     }
 
+    #[tactic(auto, unfolding(crate::specs::Tally::together))]
     pub fn with(self, other: Tally) -> Self
         ensures { result ≡ together self other }
     {

@@ -21,6 +21,7 @@ use leaves::text::white::{ends_with_white, starts_with_white};
 const ANSWERS: usize = 14;
 
 // Whether bit k is set.
+#[tactic(auto, unfolding(crate::specs::Texts::is_bit_set))]
 fn bit(bits: u32, k: usize) -> bool
     requires { k < 32 }
     ensures { result ≡ is_bit_set bits k }
@@ -29,6 +30,7 @@ fn bit(bits: u32, k: usize) -> bool
 }
 
 // The answers of the functions that take a text, that of the lowest bit first.
+#[tactic(auto, unfolding(crate::specs::Texts::answers_for))]
 fn answers(s: &[u8]) -> [bool; ANSWERS]
     ensures { result ≡ answers_for s.now }
 {
@@ -51,6 +53,7 @@ fn answers(s: &[u8]) -> [bool; ANSWERS]
 }
 
 // Compares an answer with bit k of `bits`, where that bit is set in `mask`.
+#[tactic(auto, unfolding(crate::specs::Texts::compared_with_bit))]
 fn compare_bit(mask: u32, bits: u32, k: usize, answer: bool, tally: Tally) -> Tally
     requires { k < 32 }
     ensures { result ≡ compared_with_bit mask bits k answer tally }
@@ -63,6 +66,7 @@ fn compare_bit(mask: u32, bits: u32, k: usize, answer: bool, tally: Tally) -> Ta
 }
 
 // Compares each answer with its bit.
+#[tactic(auto, using(crate::proofs::TextLaws::texts))]
 fn compare_answers(answers: &[bool; ANSWERS], mask: u32, bits: u32, tally: Tally) -> Tally
     ensures { result ≡ compared_bits answers.now 0 mask bits tally }
 {
@@ -95,6 +99,7 @@ impl Format for Texts {
     }
 
     // Compares the answers whose bits are set in the mask.
+    #[tactic(auto, unfolding(crate::specs::Texts::text_replayed))]
     fn replay(&self, r: &[u8], tally: Tally) -> Tally {
         let both = bytes::number(r, 1);
         let mask = both % 0x1_0000;

@@ -32,6 +32,7 @@ impl Format for Pairs {
     }
 
     // Compares whether the two texts are the same.
+    #[tactic(auto, unfolding(crate::specs::Values::pair_replayed))]
     fn replay(&self, r: &[u8], tally: Tally) -> Tally {
         let n = bytes::small(r, 0);
         let m = bytes::small(r, 1);
@@ -60,6 +61,7 @@ impl Format for Punctuation {
     }
 
     // Compares whether the scalar value is ASCII punctuation.
+    #[tactic(auto, unfolding(crate::specs::Values::punctuation_replayed))]
     fn replay(&self, r: &[u8], tally: Tally) -> Tally {
         let found = is_ascii_punctuation(bytes::number(r, 0));
         tally.record().compare(found == (bytes::byte(r, 4) == 1))
@@ -88,6 +90,7 @@ impl Format for Parts {
     }
 
     // Compares a part of the text of the bytes 0 to 15 with the bytes that are stored for it.
+    #[tactic(auto, unfolding(crate::specs::Values::part_replayed))]
     fn replay(&self, r: &[u8], tally: Tally) -> Tally {
         let text = [0u8, 1, 2, 3, 4, 5, 6, 7, 8, 9, 10, 11, 12, 13, 14, 15];
         let start = bytes::long_number(r, 0) as usize;

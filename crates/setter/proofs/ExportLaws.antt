@@ -30,9 +30,6 @@ module _ (w bytes x : List ℕ) {c : Answer} {y : List ℕ} (e : (c, y) ≡ outc
   pub check-fits : v < 2 ^ 32
   check-fits = rw (ap (λ (p : Answer). p.value) of-check) (value-word w bytes x)
 
-  pub check-promise : {r : ℕ} → Halves r (answer n v) → CheckPromise w bytes x r y
-  check-promise {r} h = record { answer = rw of-check at h; words = ap (λ (p : Answer × List ℕ). p.1) e }
-
 -- ---- the machine: its value is one of the sheet's records, or their number
 set_word : (w bytes x : List ℕ) → (setting_of w bytes x).0.value < 2 ^ 32
 unfolding setting_of after_run
@@ -49,9 +46,6 @@ module _ (w bytes x : List ℕ) {s : Set} {y : List ℕ} (e : Answers (setting_o
 
   pub set-fits : v < 2 ^ 32
   set-fits = rw (ap (λ (p : Answer). p.value) of-set) (set_word w bytes x)
-
-  pub set-promise : {r : ℕ} → Halves r (answer n v) → SetPromise w bytes x r y
-  set-promise {r} h = record { answer = rw of-set at h; words = ap (λ (p : Answer × List ℕ). p.1) e.answer }
 
 -- ---- demand 3 of what a C caller holds
 

@@ -126,9 +126,6 @@ run-start w bytes marks n e ok all room =
       marked = rw (sub-zero, all);
     }
 
-pub run-whole : (w bytes old : List ℕ) (n : ℕ) (new : List ℕ) (os : List Kept) (depth i : ℕ) → Running w bytes old n new os depth i → n * record_words ≤ length w
-run-whole w bytes old n new os depth i v = omega (arith, (accepted w bytes v.ok).whole, v.all)
-
 -- the records that are left
 left-more : (w : List ℕ) (n i : ℕ) → i < n → records_from w (n - i) i ≡ record_at w i ∷ records_from w (n - (i + 1)) (i + 1)
 unfolding records_from
@@ -329,9 +326,6 @@ module _ {w bytes old : List ℕ} {n : ℕ} {new : List ℕ} {os : List Kept} {d
   steps-are =
       let l : (record_at w i).level ≡ suc top.of.level = omega (arith, z.level, z.running.held.0.level, z.running.deep) in
       rw (left-more w n i z.inside, open-one top around i (record_at w i) (records_from w (n - (i + 1)) (i + 1)) l, add-one i)
-
-  pub open-inside : i * record_words + record_words ≤ length w
-  open-inside = omega (arith, z.inside, (accepted w bytes z.running.ok).whole, z.running.all)
 
   pub open-fits : ((get_or os depth unkept).kids ≤ most_kids) × ((get_or os depth unkept).number ≤ most_item_mark)
   unfolding Held kept_of

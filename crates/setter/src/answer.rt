@@ -113,7 +113,8 @@ impl SetError {
     }
 }
 
-// The stop, and 0 at the end; or the number of a refusal, with 256 added.
+// The stop, and 0 at the end; or the number of a refusal, with 256 added. A function and no `From`: the type is the
+// library's, and the number alone is not the answer.
 pub(crate) fn setting_number(setting: Result<Setting, SetError>) -> u32
     ensures { result ≡ (setting_answer setting).number }
 {

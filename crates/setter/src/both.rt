@@ -7,7 +7,7 @@ use blocks::answer::CheckError;
 use blocks::check::check;
 
 // What each of the two answers.
-#[derive(Clone, Copy)]
+#[derive(Clone, Copy, PartialEq, Eq, Debug)]
 pub struct Both {
     pub checked: Result<usize, CheckError>,
     pub set: Result<Setting, SetError>,

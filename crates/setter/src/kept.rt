@@ -49,6 +49,7 @@ fn next_marker(r: Rec, before: u32) -> u32
 
 impl Kept {
     // What is kept of the sheet itself, before anything opens.
+    #[tactic(auto, unfolding(crate::specs::Kept::kept_of, crate::specs::Kept::marker_behind, crate::specs::Seen::columns, crate::specs::Seen::nearest, crate::specs::Seen::in_link, crate::specs::Seen::only_empty, crate::specs::Seen::last_mark))]
     pub(crate) fn the_sheet() -> Kept
         ensures { result ≡ kept_of the_sheet [] }
     {

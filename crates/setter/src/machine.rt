@@ -18,7 +18,7 @@ use leaves::sheet::records::{RECORD_WORDS, level_at, record_at};
 const LEVELS: usize = 65;
 
 // Open records of this level or deeper close next. It is the level of record `i`; after the last record it is 1, so
-// that all close.
+// that all close. No Option: both cases are asked the same question, whether a record of that level closes.
 fn next_level(sheet: &[u32], n: usize, i: usize) -> u32
     requires { n * record_words ≤ length sheet.now }
     ensures { result ≡ next_level sheet.now n i }

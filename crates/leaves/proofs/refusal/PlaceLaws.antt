@@ -74,3 +74,5 @@ few-tags o kind h e =
     let first : (eqb place 0 || ltb place o.stage || third) ≡ false = or_left _ ((eqb o.group holds_tags_and_blocks || eqb o.group holds_tags_and_inlines) && not (eqb kind html_tag) && ltb o.tags 2) h in
     let none : third ≡ false = or_right (eqb place 0 || ltb place o.stage) third first in
     leb-false 2 o.tags (rw e at none)
+
+pub ruleset at_place = (place_inside, place-outside)

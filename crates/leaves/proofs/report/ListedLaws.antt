@@ -56,6 +56,17 @@ adds-from {x} {y} {z} fs a b =
     let c : Adds y z (fs (path_of x) y.level) = subst (λ (p : List ℕ). Adds y z (fs p y.level)) a.path b in
     adds-then a (subst (λ (n : ℕ). Adds y z (fs (path_of x) n)) a.level c)
 
+-- ---- what a function lists by no call, by two or by three
+pub adds_nothing : {x : Report} {all : List Entry} → all ≡ [] → Adds x x all
+adds_nothing e = rw e adds-none
+
+module _ {x y z : Report} {es fs all : List Entry} where
+  pub adds_both : Adds x y es → Adds y z fs → all ≡ (es ⊕ fs) → Adds x z all
+  adds_both a b e = rw e (adds-then a b)
+
+  pub adds_three : {o : Report} {gs : List Entry} → Adds x y es → Adds y z fs → Adds z o gs → all ≡ (es ⊕ fs ⊕ gs) → Adds x o all
+  adds_three a b c e = rw e (adds-then a (adds-then b c))
+
 -- ---- what is listed at a child, between `enter` and `leave`
 module _ {x y : Report} {index level : ℕ} (a : Enters x y index level) where
   module _ {z : Report} {es : List Entry} (b : Adds y z es) where

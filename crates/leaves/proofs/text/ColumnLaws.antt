@@ -7,7 +7,7 @@ use native.Mathlib.Nat.{sub-zero}
 use native.Mathlib.Numerals.{add-one}
 use native.Mathlib.Omega.{arith}
 use lib.Dec.{eqb, leb}
-use lib.ListN.{length, get_or, set, take, drop, length-set, length-append, length-take, length-drop, get_or-eq_default}
+use lib.ListN.{length, get_or, set, take, drop, length-set, length-append, length-take, length-drop}
 use lib.Seq.{append_snoc, get_or-take, take-nil, take-take, take_all, take-length, take-suc, take-suc-set, drop-drop, set_split}
 use borrow.Author.Rules.{rules}
 use borrow.Author.Tests.{ne_eqb, leb-false}
@@ -20,12 +20,6 @@ use Rattle.leaves.specs.Text.Columns.{fields, line, line_bytes, are_fields, is_l
 use Rattle.leaves.proofs.text.FieldLaws.{field-long}
 use Rattle.std.proofs.Common.{Option}
 use Rattle.std.specs.Option.{is_some, unwrap_or}
-
--- ---- `ends_at`
-pub ends-past : (s : List ℕ) (at : ℕ) → length s ≤ at → false ≡ eqb (get_or s at 0) lf
-ends-past s at h = rw (get_or-eq_default s 0 {n = at} h)
-
-pub ruleset endings = (ends-past, rules)
 
 -- ---- `read_line`
 
@@ -46,9 +40,6 @@ pub record Reading (s old words : List ℕ) (good : Bool) (k : ℕ) : Type 0 whe
   pub long : length words ≡ length old
   pub fine : are_fields (length old) s ≡ good && are_fields (length old - k) (drop (k * places) s)
   pub is : numbers (length old) s ≡ take k words ++ numbers (length old - k) (drop (k * places) s)
-
-pub line-start : (s old : List ℕ) → Reading s old old true 0
-line-start s old = record { inside = omega arith; long = refl; fine = rw sub-zero; is = rw sub-zero }
 
 module _ {s old words t : List ℕ} {good g : Bool} {k v : ℕ} {c : Option ℕ} (r : Reading s old words good k) (h : k < length words) where
   pub line-next : t ≡ part_of s (k * places) places → c ≡ read_field t → v ≡ unwrap_or c 0 → g ≡ is_some c → Reading s old (set words k v) (good && g) (k + 1)

@@ -16,7 +16,6 @@ use Rattle.leaves.specs.Text.FenceScans.{fence_left, is_whole, fence_from}
 use Rattle.leaves.specs.Text.Trim.{trim_cons, trim_end}
 use Rattle.leaves.specs.declared.text.fence.FrontmatterKind.{FrontmatterKind}
 use Rattle.leaves.specs.declared.text.fence.FrontmatterKind.TheVariants.{Yaml, Toml}
-use Rattle.leaves.proofs.text.ScanLaws.{scan}
 use Rattle.std.proofs.Common.{Option, Some, None}
 
 -- ---- one line
@@ -153,5 +152,3 @@ module _ (c : ℕ) (left : Option ℕ) (b : ℕ) (s : List ℕ) where
 pub fence-end : (c : ℕ) (left : Option ℕ) → is_whole left ≡ fence_from c left []
 unfolding fence_from
 fence-end c left = refl
-
-pub ruleset fence-laws = (fence-skip, fence-in, fence-whole, fence-ends, fence-end, fences, scan)

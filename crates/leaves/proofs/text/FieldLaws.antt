@@ -10,13 +10,13 @@ use lib.ListN.{length, get_or, set, take, drop, length-set, length-append, lengt
 use lib.Seq.{drop-cons, drop-drop, drop-length, set_at, drop-set-lt, get_or-set_same}
 use borrow.Author.Rules.{rules}
 use borrow.Rule.Slice.PartMut.{put_mid}
-use borrow.Author.Tests.{eq-eqb, ne_eqb, le-leb, lt-leb}
+use borrow.Author.Tests.{le-leb, lt-leb}
 use Rattle.std.specs.List.{position_or_len}
 use Rattle.leaves.specs.Text.Bytes.{space, is_digit}
 use Rattle.leaves.proofs.text.ScanLaws.{At, turn, stop, end}
 use Rattle.leaves.specs.Text.Lists.{over}
 use Rattle.leaves.proofs.text.OverLaws.{over-fits}
-use Rattle.leaves.specs.Text.Field.{places, most_number, digit_zero, digit, last_place, front, field, past_spaces, read_digits, read_number, read_field}
+use Rattle.leaves.specs.Text.Field.{places, most_number, digit_zero, digit, last_place, front, field, past_spaces, read_digits}
 use Rattle.std.proofs.Common.{None, Option, Some}
 
 -- ---- `past_spaces`: what stands from the first byte on that is no space
@@ -60,24 +60,7 @@ digits-end d h = end h d.at refl
 
 pub ruleset digits = (digits-start, digits-bad, digits-end, rules)
 
--- ---- `read_field`
-module _ (s : List ℕ) where
-  pub field-short : (length s ≡ places → ⊥) → None ≡ read_field s
-  unfolding read_field
-  field-short h = rw (ne_eqb _ _ h)
-
-  pub field_is : {t : List ℕ} {r : Option ℕ} → length s ≡ places → t ≡ past_spaces s → r ≡ read_number t → r ≡ read_field s
-  unfolding read_field
-  field_is h p e = rw (eq-eqb _ _ h, ← p) e
-
-pub ruleset reading = (field-short, field_is, rules)
-
--- ---- `last_place`, `put_front`
-pub last_none : {n : ℕ} → n ≡ 0 → space ≡ last_place n
-last_none e = rw (eq-eqb _ _ e)
-
-pub last_some : {n : ℕ} → (n ≡ 0 → ⊥) → digit_zero + n % 10 ≡ last_place n
-last_some e = rw (ne_eqb _ _ e)
+-- ---- `put_front`
 
 -- the places from i on have been filled, and `rest` is left of the number n
 pub record Filling (old : List ℕ) (n : ℕ) (cells : List ℕ) (rest i : ℕ) : Type 0 where
@@ -106,7 +89,7 @@ pub fill_end : {old cells : List ℕ} {n rest i : ℕ} → Filling old n cells r
 unfolding front
 fill_end {old} {cells} {n} {rest} {i} f h = let z : i ≡ 0 = omega arith in sym (rw z at f.is)
 
-pub ruleset writing = (last_none, last_some, fill_start, fill-next, fill_end, rules)
+pub ruleset writing = (fill_start, fill-next, fill_end, rules)
 
 -- ---- `write_field`: what stands before the last place, and the last digit
 
@@ -132,5 +115,3 @@ field_put x y at n room e =
     rw (ten, y-is, behind, ← append_assoc (take at x) (front 10 (n / 10)) (get_or x (at + 10) 0 ∷ drop (suc (at + 10)) x)) (set_at (take at x ++ front 10 (n / 10)) _ _ (digit (n % 10)) (at + 10) p-long) in
     let long : at + length (field n) ≡ suc (at + 10) = omega (arith, field-long n) in
     back ∙ sym (over-fits x at (field n) (omega (arith, field-long n)) ∙ rw long (simp append_assoc))
-
-pub ruleset placing = (field_put, rules)

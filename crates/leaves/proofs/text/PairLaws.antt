@@ -13,3 +13,5 @@ pointwise-same [] [] = refl
 pointwise-same [] (y ∷ b) = refl
 pointwise-same (x ∷ a) [] = refl
 pointwise-same (x ∷ a) (y ∷ b) = ap (λ t. eqb x y && t) (pointwise-same a b)
+
+pub ruleset pairs = (pointwise-same)

@@ -1,5 +1,5 @@
 -- The definition of `Pipe`, a byte at a time: where the byte decides, and where what is left does.
-use mathlib.Core.Path.{◌≡◌, refl, sym}
+use mathlib.Core.Path.{◌≡◌, sym}
 use mathlib.Core.Bool.{Bool, true, false, not, ◌&&◌, and-false, false≢true}
 use mathlib.Core.List.{List}
 use Prim.Native.Nat.{ℕ, ◌<◌, ◌≤◌}
@@ -32,7 +32,3 @@ pub pipe-leap : (odd : Bool) {s rest : List ℕ} → odd ≡ false → Past (is_
 unfolding odd_pipe_after
 pipe-leap false e p = leap (is_other backslash) (odd_pipe_after false) (λ b t q. rw (and-false, not-true (eqb b backslash) q)) p
 pipe-leap true e p = absurd (false≢true (sym e))
-
-pub not-and : (odd t : Bool) → (not odd && t) ≡ true → odd ≡ false
-not-and false t e = refl
-not-and true t e = absurd (false≢true e)

@@ -266,3 +266,5 @@ end-open d zero low high v z e = absurd (true≢false z)
 end-open d (suc n) low high v z e = e ∙ sym no-white
 
 pub ruleset white-laws = (room_kept, start-broken, start_none, scan)
+
+pub ruleset white_ends = (ends-part)

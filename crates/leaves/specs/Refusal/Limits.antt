@@ -1,5 +1,5 @@
 -- Document 01's limits: a sheet or a text that is over one is refused.
-use Rattle.std.specs.Prelude.{ℕ}
+use Rattle.std.specs.Prelude.{ℕ, ◌-◌}
 
 -- 2: "over 65,535 records"; 3: "over 16,777,216 bytes"; 5: a level "over 64"
 abbrev pub most_records : ℕ
@@ -10,3 +10,8 @@ most_bytes = 16777216
 
 abbrev pub most_level : ℕ
 most_level = 64
+
+-- how many levels are left below a level. The walks call each other, and "remaining levels, at most 64, are the falling
+-- number": twice this number for a loop over children, and one more for a record.
+abbrev pub levels_left : ℕ → ℕ
+levels_left level = most_level - level

@@ -1,6 +1,5 @@
 -- Texts of no bytes.
 use Rattle.std.specs.Prelude.{Bool, ◌&&◌, eqb}
-use Rattle.leaves.specs.Text.Lists.{when◌then◌else◌}
 use Rattle.leaves.specs.Sheet.Kinds.{text}
 use Rattle.leaves.specs.declared.sheet.records.Rec.{Rec}
 use Rattle.leaves.specs.declared.sheet.records.Text.{Text}
@@ -12,7 +11,3 @@ is_empty t = eqb t.len 0
 -- `is_empty_text` of validate.rs
 abbrev pub is_empty_text : Rec → Bool
 is_empty_text r = eqb r.kind text && is_empty r.first
-
--- the text where `counts` holds, else a text of no bytes
-abbrev pub only_if : Bool → Text → Text
-only_if counts t = when counts then t else record { start = 0; len = 0 }

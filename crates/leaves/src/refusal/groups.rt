@@ -72,6 +72,7 @@ const GROUPS: [[u32; 2]; 54] = [
 
 // The table of groups. A constant array is copied at each mention, so `judge_records` makes it once and lends it to the
 // functions that read it. All that they ask of their parameter `groups` is that it is this table.
+#[tactic(auto, unfolding(crate::specs::Refusal::KindGroups::kind_groups))]
 pub(crate) fn groups() -> [[u32; 2]; 54]
     ensures { result ≡ kind_groups }
 {
@@ -90,6 +91,7 @@ pub(crate) fn parent_group(groups: &[[u32; 2]; 54], kind: u32, a: u32) -> u32
     }
 }
 
+#[tactic(auto, using(crate::proofs::refusal::GroupLaws::group_laws))]
 pub(crate) fn child_group(groups: &[[u32; 2]; 54], kind: u32) -> u32
     requires { (groups.now ≡ kind_groups) × (is_kind kind ≡ true) }
     ensures { result ≡ child_group kind }

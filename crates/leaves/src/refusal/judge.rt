@@ -30,7 +30,8 @@ fn slot_of(level: u32) -> usize
 }
 
 // Makes the tests 4 to 9, record by record, and answers the first refusal. `open` has, for each level that the next
-// record could have, what stands before it under its parent.
+// record could have, what stands before it under its parent. By number and not by `Records`, whose records are known to
+// be no deeper than `MOST_LEVEL`: that is tested here.
 fn judge_records(sheet: &[u32], bytes: &[u8], n: usize) -> Result<(), Malformed>
     requires { (n * record_words ≤ length sheet.now) × (n ≤ most_records) }
     ensures { result ≡ judge_from sheet.now bytes.now n 0 }
@@ -51,7 +52,7 @@ fn judge_records(sheet: &[u32], bytes: &[u8], n: usize) -> Result<(), Malformed>
 }
 
 // The answer for a sheet and its text: refused by 1 to 10, or accepted.
-#[tactic(auto, unfolding(crate::specs::Refusal::Judge::judge_sheet, crate::specs::Refusal::Verdict::or_else))]
+#[tactic(auto, using(crate::proofs::refusal::AcceptLaws::containers), unfolding(crate::specs::Refusal::Judge::judge_sheet, crate::specs::Refusal::Verdict::or_else))]
 pub fn accept(sheet: &[u32], text: &[u8]) -> Result<(), Malformed>
     ensures { Judges sheet.now text.now result }
 {

@@ -45,6 +45,7 @@ pub(crate) struct Tables {
 }
 
 impl Tables {
+    #[tactic(auto, unfolding(crate::specs::Refusal::PlaceTable::place_table))]
     pub(crate) fn new() -> Tables {
         Tables {
             places: PLACES,
@@ -52,6 +53,7 @@ impl Tables {
         }
     }
 
+    #[tactic(auto, using(crate::proofs::refusal::PlaceLaws::at_place))]
     fn place_at(&self, group: u32, column: u32) -> u32
         ensures { result ≡ place_in 1 (holds group) column }
     {

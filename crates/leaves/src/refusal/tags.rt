@@ -27,7 +27,7 @@ fn lacks_tags(sheet: &[u32], n: usize, i: usize) -> bool
         && !(tag_under(sheet, n, i + 1, level) && tag_under(sheet, n, i + 2, level))
 }
 
-// Makes test 10, and answers the first container that lacks a tag.
+// Makes test 10, and answers the first container that lacks a tag. By number, since a refusal names its record.
 #[tactic(auto, using(crate::proofs::refusal::TagLaws::tagging))]
 pub(crate) fn judge_tags(sheet: &[u32], n: usize) -> Result<(), Malformed>
     requires { Containers sheet.now n }

@@ -15,7 +15,7 @@ const CAP: usize = 4611686018427387904;
 const HEAD: usize = 5;
 
 // How many words and entries the list has so far.
-#[derive(Clone, Copy)]
+#[derive(Clone, Copy, PartialEq, Eq, Debug)]
 pub struct Tally {
     pub words: usize,
     pub entries: usize,
@@ -52,6 +52,7 @@ fn sum(a: usize, b: usize) -> usize
 }
 
 // Writes an entry at the front of the tail, if the whole entry fits.
+#[tactic(auto, using(crate::proofs::report::EntryLaws::reports), unfolding(crate::specs::Text::Lists::over))]
 fn write_entry(tail: &mut [u32], rule: u32, span: Span, path: &[u32])
     requires { length path.now ≤ most_level }
     ensures { tail.new
@@ -67,6 +68,7 @@ fn write_entry(tail: &mut [u32], rule: u32, span: Span, path: &[u32])
 }
 
 // The same from word `at` on.
+#[tactic(auto, using(crate::proofs::report::EntryLaws::reports))]
 fn write_at(report: &mut [u32], at: usize, rule: u32, span: Span, path: &[u32])
     requires { length path.now ≤ most_level }
     ensures { report.new

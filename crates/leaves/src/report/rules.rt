@@ -3,7 +3,7 @@ ghost use Rattle.std.specs.Prelude.{◌≡◌};
 ghost use Rattle.leaves.specs.Report.RuleNumbers.{rule_number};
 
 // A rule, by what it asks.
-#[derive(Clone, Copy)]
+#[derive(Clone, Copy, PartialEq, Eq, Debug)]
 pub enum Rule {
     // "adjacent lists cannot use the same marker"
     AdjacentLists = 1,

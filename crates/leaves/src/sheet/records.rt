@@ -6,7 +6,7 @@ ghost use Rattle.leaves.specs.Sheet.Records.{record_words, word_at, text_at, rec
 pub const RECORD_WORDS: usize = 12;
 
 // A span, in the words of the C interface: entries have the same three, so `flag` is no Option of the other two.
-#[derive(Clone, Copy)]
+#[derive(Clone, Copy, PartialEq, Eq, Debug)]
 pub struct Span {
     pub flag: u32,
     pub start: u32,
@@ -14,13 +14,13 @@ pub struct Span {
 }
 
 // A text that a record names: a part of the sheet's text.
-#[derive(Clone, Copy)]
+#[derive(Clone, Copy, PartialEq, Eq, Debug)]
 pub struct Text {
     pub start: u32,
     pub len: u32,
 }
 
-#[derive(Clone, Copy)]
+#[derive(Clone, Copy, PartialEq, Eq, Debug)]
 pub struct Rec {
     pub kind: u32,
     pub level: u32,

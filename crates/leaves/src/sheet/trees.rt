@@ -24,6 +24,7 @@ impl<'a> Records<'a> {
     ghost use Rattle.std.specs.Prelude.{◌≡◌, ◌+◌, eqb, IfSome, IfNone};
     ghost use Rattle.leaves.specs.Sheet.Records.{records_of};
     ghost use Rattle.leaves.specs.Sheet.Forest.{count, size};
+    ghost use Rattle.leaves.specs.Sheet.Roots.{roots, roots_left};
     ghost use Rattle.leaves.specs.Sheet.Trees.{trees, Whole, Until, Moved, Reads, Ends};
     ghost use Rattle.leaves.specs.Refusal.Formed.{Sound};
 
@@ -53,9 +54,9 @@ impl<'a> Records<'a> {
         }
     }
 
-    // Reads the next record where it is deeper than `level`, and goes on behind it. So a loop over this goes through all
-    // records of the trees side by side, and one that skips what stands under each goes from tree to tree. It is
-    // no Iterator: a walk lends the records to other walks inside its loop, and a `for` would hold them.
+    // Reads the next record where it is deeper than `level`, and goes on behind it. So a loop over this goes through
+    // all records of the trees side by side, and one that skips what stands under each goes from tree to tree. A loop
+    // that enters each tree lends the records to its walk, which moves them on: `roots` would go over each once more.
     pub fn next_under(&mut self, level: u32) -> Option<Rec>
         ensures some { IfSome result (λ r. Reads self.old self.new level r) }
         ensures none { IfNone result (Ends self.old self.new level) }
@@ -85,10 +86,61 @@ impl<'a> Records<'a> {
         self.next = forest::skip(self.sheet, self.n, self.next, level);
     }
 
+    // The trees deeper than `level` that stand side by side.
+    pub fn roots(&self, level: u32) -> Roots<'a>
+        ensures { roots_left result ≡ roots (trees self.now level) }
+    {
+        Roots {
+            records: *self,
+            level,
+            given: None,
+        }
+    }
+
     // How many trees deeper than `level` stand side by side.
     pub fn count(&self, level: u32) -> usize
         ensures { result ≡ count (trees self.now level) }
     {
         forest::count(self.sheet, self.n, self.next, level)
+    }
+}
+
+// A tree: the record at its top, and the records from the one behind that on, so those under it are next.
+#[derive(Clone, Copy)]
+pub struct Tree<'a> {
+    pub root: Rec,
+    pub kids: Records<'a>,
+}
+
+// The trees deeper than a level that stand side by side, one after another.
+#[derive(Drop)]
+pub struct Roots<'a> {
+    records: Records<'a>,
+    level: u32,
+    // The level of the tree that was given last. The records under it are passed over once the next tree is asked for,
+    // so that nobody reads them who has heard enough.
+    given: Option<u32>,
+}
+
+impl<'a> Iterator for Roots<'a> {
+    ghost use Rattle.std.specs.Iterator.{item_count};
+    ghost use Rattle.leaves.specs.Sheet.Roots.{roots_left, Passes};
+
+    type Item = Tree<'a>;
+
+    ghost next_gives = { Passes };
+
+    ghost remaining = { item_count roots_left };
+
+    fn next(&mut self) -> Option<Tree<'a>> {
+        if let Some(level) = self.given.take() {
+            self.records.skip(level);
+        }
+        let root = self.records.next_under(self.level)?;
+        self.given = Some(root.level);
+        Some(Tree {
+            root,
+            kids: self.records,
+        })
     }
 }

@@ -54,6 +54,8 @@ impl ByteTest for Other {
     }
 }
 
+// The tests are joined by `&`: with `&&` each would be a branch, and not one test of four bytes at once.
+#[tactic(auto, using(crate::proofs::text::ChunkLaws::four))]
 fn four<T: ByteTest>(test: &T, s: &[u8], i: usize) -> bool
     requires { i + 4 ≤ length s.now }
     ensures { result ≡ passes (T.passing test.now) 4 (drop i s.now) }

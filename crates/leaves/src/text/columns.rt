@@ -15,7 +15,7 @@ fn ends_at(s: &[u8], at: usize) -> bool
 }
 
 // Reads a line from the front of the slice, a field for each of the words, and answers whether it is well-formed.
-// The word of a malformed field is 0.
+// The word of a malformed field is 0, and those behind it are read all the same: all words are promised.
 pub fn read_line(s: &[u8], words: &mut [u32]) -> bool
     requires { length words.old ≤ 12 }
     ensures { (result ≡ is_line (length words.old) s.now)
@@ -27,7 +27,7 @@ pub fn read_line(s: &[u8], words: &mut [u32]) -> bool
         *word = field.unwrap_or(0);
         good &= field.is_some();
     }
-    good & ends_at(s, words.len() * PLACES)
+    good && ends_at(s, words.len() * PLACES)
 }
 
 // Writes a line of these numbers from `at` on, and answers where it ends.

@@ -6,7 +6,7 @@ ghost use Rattle.leaves.specs.Text.FenceScans.{fence_from, fence_left};
 use crate::text::bytes::{HYPHEN, PLUS};
 use crate::text::{bytes, lines};
 
-#[derive(Clone, Copy)]
+#[derive(Clone, Copy, PartialEq, Eq, Debug)]
 pub enum FrontmatterKind {
     Yaml,
     Toml,
@@ -56,6 +56,7 @@ fn holds_fence_of(s: &[u8], c: u8) -> bool
 }
 
 // Whether some line is the fence of the kind; spaces and tabs may follow it.
+#[tactic(auto, using(crate::proofs::text::FenceLaws::fences))]
 pub fn holds_fence_line(s: &[u8], kind: FrontmatterKind) -> bool
     ensures { result ≡ holds_fence_line kind s.now }
 {

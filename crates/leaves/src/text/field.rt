@@ -45,6 +45,7 @@ fn read_number(s: &[u8]) -> Option<u32>
 }
 
 // The number of a field that fills the slice.
+#[tactic(auto, unfolding(crate::specs::Text::Field::read_field))]
 pub(crate) fn read_field(s: &[u8]) -> Option<u32>
     ensures { result ≡ read_field s.now }
 {
@@ -62,6 +63,7 @@ fn last_place(n: u32) -> u8
 }
 
 // Fills the slice with what is left of a number, from the last place to the first.
+#[tactic(auto, using(crate::proofs::text::FieldLaws::writing))]
 fn put_front(cells: &mut [u8], n: u32)
     ensures { cells.new ≡ front (length cells.old) n }
 {
@@ -74,6 +76,7 @@ fn put_front(cells: &mut [u8], n: u32)
 }
 
 // Writes a number into the 11 places from `at` on.
+#[tactic(auto, using(crate::proofs::text::FieldLaws::field_put))]
 pub(crate) fn write_field(out: &mut [u8], at: usize, n: u32)
     requires { at + places ≤ length out.old }
     ensures { out.new ≡ over out.old at (field n) }

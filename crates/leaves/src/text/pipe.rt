@@ -14,12 +14,12 @@ pub fn has_odd_escaped_pipe(s: &[u8]) -> bool
     let mut odd = false;
     let mut rest = chunk::past(s, &plain);
     while let [b, behind @ ..] = rest {
-        if (*b == PIPE) & odd {
+        if odd && *b == PIPE {
             return true;
         }
-        odd = (*b == BACKSLASH) & !odd;
+        odd = !odd && *b == BACKSLASH;
         rest = behind;
-        if !odd & (rest.len() % CHUNK == 0) {
+        if !odd && rest.len() % CHUNK == 0 {
             rest = chunk::past(rest, &plain);
         }
     }

@@ -28,6 +28,7 @@ impl Expected {
     }
 
     // So many more bytes, each of them from 0x80 to 0xBF.
+    #[tactic(auto, using(crate::proofs::text::Utf8Laws::trailing))]
     pub(crate) fn trails(more: u8) -> Expected
         ensures { Expects (trails more) result }
     {
@@ -72,7 +73,7 @@ impl Expected {
     pub(crate) fn breaks(self, b: u8) -> bool
         ensures { result ≡ breaks (expected_of self) b }
     {
-        self.more != 0 && ((b < self.low) | (self.high < b))
+        self.more != 0 && (b < self.low || self.high < b)
     }
 
     // What is expected after `b`.

@@ -138,6 +138,7 @@ fn last_is_white(s: &[u8]) -> bool
 }
 
 // Reads the bytes of the last character only.
+#[tactic(auto, using(crate::proofs::text::WhiteLaws::white_ends))]
 pub fn ends_with_white(s: &[u8]) -> bool
     ensures { result ≡ ends_with_white s.now }
 {

@@ -111,13 +111,6 @@ prints-list {old} {mid} {new} {end} {r} w n stop at f g few long room =
 pub last-room : {old mid : List ℕ} {end : ℕ} (w : List ℕ) (n : ℕ) → Writes old 0 (lines_in n w) mid end → n ≤ report_words → length w ≡ report_words → length old ≡ output_bytes → length mid ≡ length old → end + line_bytes 3 ≤ length mid
 last-room w n f few long room same = omega (arith, f.ends, lines-most n w)
 
--- what is printed is inside the output
-pub prints-within : {old bytes new : List ℕ} {n : ℕ} → Prints old bytes new n → n ≤ length new
-prints-within {old} {bytes} {new} p = omega (arith, p.count, ap length p.printed ∙ length-append bytes (drop (length bytes) old))
-
-pub prints-taken : {old bytes new : List ℕ} {n : ℕ} → Prints old bytes new n → n ≡ length (take n new)
-prints-taken {new = new} {n = n} p = let h = prints-within p in omega (arith, length-take n new)
-
 -- ---- the lines of a report that holds a list
 entry-front : (e : Entry) (rest : List ℕ) → entry_words (words e ++ rest) ≡ length (words e)
 unfolding words

@@ -3,8 +3,7 @@ use Rattle.std.specs.Prelude.{Ok, is_ok}
 use mathlib.Core.Path.{◌≡◌, refl, sym, ap, ◌∙◌}
 use mathlib.Core.Bool.{Bool, true, false}
 use mathlib.Core.List.{List, [], ◌∷◌, ◌++◌}
-use Prim.Native.Nat.{ℕ, suc, ◌*◌, ◌/◌, ◌≤◌}
-use native.Mathlib.Nat.{div-eq_of_eq-mul_left}
+use Prim.Native.Nat.{ℕ, suc, ◌*◌, ◌≤◌}
 use native.Mathlib.Omega.{arith}
 use borrow.Author.Tests.{le-ltb, ltb-true, ltb-false, eq-eqb, ne_eqb}
 use mir.Syntax.{w32}
@@ -147,12 +146,6 @@ module _ {s old sheet : List ℕ} {n : ℕ} (r : Reads s old sheet (Ok n)) where
 
   pub ready-room : n * record_words ≤ length sheet
   ready-room = omega (arith, ready-long, length-take (n * record_words) sheet)
-
-  pub ready-records : records_of (take (n * record_words) sheet) ≤ most_film_records
-  unfolding film_sheet
-  ready-records =
-      let k : length (film_sheet s) / record_words ≡ record_count s = div-eq_of_eq-mul_left (omega arith) (sheet-long (record_count s) (behind_counts s)) in
-      rw sheet-is (omega (arith, ready.few))
 
   pub ready-printed : {out new text : List ℕ} {k : ℕ} → text ≡ text_behind n s → Prints out (sheet_lines (take (n * record_words) sheet) text) new k → Prints out (listing s) new k
   unfolding listing

@@ -25,6 +25,7 @@ pub(crate) const MOST_BYTES: usize = COUNT_BYTES
     + MOST_FILM_BYTES;
 
 // The text of a film of `n` records: all that stands behind them.
+#[tactic(auto, unfolding(crate::specs::Listing::Film::text_behind))]
 pub(crate) fn text_behind(s: &[u8], n: usize) -> &[u8]
     requires { n ≤ most_film_records }
     ensures { result.now ≡ text_behind n s.now }
@@ -33,6 +34,7 @@ pub(crate) fn text_behind(s: &[u8], n: usize) -> &[u8]
 }
 
 // The two counts of the first line: records, and bytes of the text.
+#[tactic(auto, unfolding(crate::specs::Listing::Film::film_of))]
 fn read_counts(s: &[u8]) -> Result<(usize, usize), FilmError>
     ensures { ReadsCounts s.now result }
 {
@@ -53,6 +55,7 @@ fn read_counts(s: &[u8]) -> Result<(usize, usize), FilmError>
 
 // Reads a film's sheet into the words where the counts are good. Answers how many records the film has, or why it is
 // refused.
+#[tactic(auto, unfolding(crate::specs::Listing::Film::film_of, crate::specs::Listing::Film::filled_sheet, crate::specs::Listing::Film::film_sheet))]
 pub(crate) fn read_film(s: &[u8], sheet: &mut [u32; SHEET_WORDS]) -> Result<usize, FilmError>
     ensures { Reads s.now sheet.old sheet.new result }
 {

@@ -19,6 +19,7 @@ pub fn read_full<R: Read>(from: &mut R, buffer: &mut [u8]) -> io::Result<usize>
     ensures end { IfOk result (λ n. n < length buffer.new → IsAtEnd (R.remaining from.new)) }
 {
     let mut at = 0;
+    // a `for` and no `loop`: each run ends, and nothing says how often a reading is interrupted
     for _ in 0..u64::MAX {
         if at == buffer.len() {
             return Ok(at);

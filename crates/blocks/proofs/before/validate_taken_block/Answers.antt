@@ -1,6 +1,9 @@
 -- `blocks::before::validate_taken_block` meets its contract.
-use Rattle.blocks.proofs.BeforeLaws.{taken-law}
+use borrow.Author.Rules.{rules}
+use Rattle.leaves.proofs.report.ListedLaws.{adds_both}
+use Rattle.blocks.specs.Before.{validate_taken_block}
 use Rattle.blocks.proofs.before.validate_taken_block.Goals as goal
 
 pub returns : goal.returns
-returns c = taken-law _ _ _ _ _ c.written_marker.ensures c.written_marker-2.ensures c.takes_indented_code.ensures c.list_if.ensures c.list_if-2.ensures
+unfolding validate_taken_block
+returns c = adds_both c.list_if.ensures c.list_if-2.ensures (search rules)

@@ -1,6 +1,9 @@
 -- `blocks::footnote::validate_footnote_definition` meets its contract.
-use Rattle.blocks.proofs.FootnoteLaws.{footnote-law}
+use borrow.Author.Rules.{rules}
+use Rattle.leaves.proofs.report.ListedLaws.{adds_both}
+use Rattle.blocks.specs.Footnote.{validate_footnote_definition}
 use Rattle.blocks.proofs.footnote.validate_footnote_definition.Goals as goal
 
 pub returns : goal.returns
-returns c = footnote-law _ _ c.args.records.now c.is_empty.ensures c.list_if.ensures c.blank_line_at.ensures
+unfolding validate_footnote_definition
+returns c = adds_both c.list_if.ensures c.blank_line_at.ensures (search rules)

@@ -1,6 +1,9 @@
 -- `blocks::frontmatter::validate_frontmatter` meets its contract.
-use Rattle.blocks.proofs.FrontmatterLaws.{frontmatter-law}
+use borrow.Author.Rules.{rules}
+use Rattle.leaves.proofs.report.ListedLaws.{adds_both}
+use Rattle.blocks.specs.Frontmatter.{validate_frontmatter}
 use Rattle.blocks.proofs.frontmatter.validate_frontmatter.Goals as goal
 
 pub returns : goal.returns
-returns c = frontmatter-law _ _ _ _ _ c.text_of.ensures c.frontmatter_kind.ensures c.holds_fence_line-fenced.ensures c.list_if.ensures c.list_if-2.ensures
+unfolding validate_frontmatter
+returns c = adds_both c.list_if.ensures c.list_if-2.ensures (search rules)

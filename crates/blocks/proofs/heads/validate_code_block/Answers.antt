@@ -1,6 +1,9 @@
 -- `blocks::heads::validate_code_block` meets its contract.
-use Rattle.blocks.proofs.HeadLaws.{code-block-law}
+use borrow.Author.Rules.{rules}
+use Rattle.leaves.proofs.report.ListedLaws.{adds_both}
+use Rattle.blocks.specs.Heads.{validate_code_block}
 use Rattle.blocks.proofs.heads.validate_code_block.Goals as goal
 
 pub returns : goal.returns
-returns c = code-block-law _ _ _ _ _ _ c.text_of.ensures c.is_empty.ensures c.has_blank_edge_line.ensures c.list_if.ensures c.list_if-2.ensures
+unfolding validate_code_block
+returns c = adds_both c.list_if.ensures c.list_if-2.ensures (search rules)

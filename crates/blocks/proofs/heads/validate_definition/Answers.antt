@@ -1,6 +1,9 @@
 -- `blocks::heads::validate_definition` meets its contract.
-use Rattle.blocks.proofs.HeadLaws.{definition-law}
+use borrow.Author.Rules.{rules}
+use Rattle.leaves.proofs.report.ListedLaws.{adds_both}
+use Rattle.blocks.specs.Heads.{validate_definition}
 use Rattle.blocks.proofs.heads.validate_definition.Goals as goal
 
 pub returns : goal.returns
-returns c = definition-law _ _ _ _ _ c.text_of.ensures c.is_blank_identifier-blank.ensures c.list_if.ensures c.validate_destination.ensures
+unfolding validate_definition
+returns c = adds_both c.list_if.ensures c.validate_destination.ensures (search rules)

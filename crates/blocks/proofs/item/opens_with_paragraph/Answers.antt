@@ -1,16 +1,16 @@
 -- `blocks::item::opens_with_paragraph` meets its contract.
-use Rattle.leaves.proofs.sheet.DecideLaws.{deciding-start}
-use Rattle.blocks.proofs.ItemLaws.{opening-end, opening-turn, opening-found}
+use mathlib.Core.Path.{refl}
+use mathlib.Core.Bool.{not, ◌&&◌}
+use lib.Dec.{eqb}
+use borrow.Author.Rules.{rules}
+use borrow.Author.Tests.{tests}
+use Rattle.leaves.specs.Sheet.Forest.{count}
+use Rattle.leaves.specs.Sheet.Kinds.{paragraph, definition}
+use Rattle.leaves.proofs.sheet.RootLaws.{find-of}
+use Rattle.blocks.specs.Item.{opens_with_paragraph}
+use Rattle.blocks.proofs.ItemLaws.{opens-tree}
 use Rattle.blocks.proofs.item.opens_with_paragraph.Goals as goal
 
-pub loop-r-init : goal.loop-r-init
-loop-r-init c = deciding-start _
-
-pub returns-then-r-ne-DEFINITION : goal.returns-then-r-ne-DEFINITION
-returns-then-r-ne-DEFINITION c = opening-found c.loop-r.invariant c.in-Some.ensures.some c.if-r-ne-DEFINITION.true c.end.ensures
-
-pub loop-r-preserved : goal.loop-r-preserved
-loop-r-preserved c = opening-turn c.loop-r.invariant c.in-Some.ensures.some c.if-r-ne-DEFINITION.false c.skip.ensures
-
 pub returns : goal.returns
-returns c = opening-end c.loop-r.invariant c.in_default.ensures.none
+unfolding opens_with_paragraph
+returns c = find-of (λ r _. not (eqb r.kind definition)) (λ r kids. eqb r.kind paragraph && not (eqb (count kids) 0)) opens_with_paragraph c.find.new.self c.find.result _ c.find.ensures.ran c.roots.ensures (λ t b q k. search (rules, tests)) c.is_some_and.ensures (λ t k. search (rules, tests)) refl opens-tree

@@ -1,6 +1,9 @@
 -- `blocks::item::validate_blank_line` meets its contract.
-use Rattle.blocks.proofs.ItemLaws.{blank-law}
+use borrow.Author.Rules.{rules}
+use Rattle.leaves.proofs.report.ListedLaws.{adds_three}
+use Rattle.blocks.specs.Item.{validate_blank_line}
 use Rattle.blocks.proofs.item.validate_blank_line.Goals as goal
 
 pub returns : goal.returns
-returns c = blank-law _ _ _ _ _ c.list_if.ensures c.list_if-2.ensures c.list_if-3.ensures
+unfolding validate_blank_line
+returns c = adds_three c.list_if.ensures c.list_if-2.ensures c.list_if-3.ensures (search rules)

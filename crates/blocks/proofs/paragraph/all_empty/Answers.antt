@@ -1,18 +1,14 @@
 -- `blocks::paragraph::all_empty` meets its contract.
-use mathlib.Core.Path.{ap}
-use mathlib.Core.Bool.{not}
-use Rattle.leaves.proofs.sheet.DecideLaws.{deciding-start}
-use Rattle.blocks.proofs.ParagraphLaws.{emptying-end, emptying-stop, emptying-turn}
+use mathlib.Core.Path.{refl}
+use mathlib.Core.Bool.{not, ◌||◌}
+use borrow.Author.Rules.{rules}
+use borrow.Author.Tests.{tests}
+use Rattle.leaves.specs.Sheet.Kinds.{is_inline}
+use Rattle.leaves.specs.Sheet.Empty.{is_empty_text}
+use Rattle.leaves.proofs.sheet.RootLaws.{all-of}
+use Rattle.inlines.specs.Nodes.{all_empty}
 use Rattle.blocks.proofs.paragraph.all_empty.Goals as goal
 
-pub loop-r-init : goal.loop-r-init
-loop-r-init c = deciding-start _
-
-pub returns-then-not-passed : goal.returns-then-not-passed
-returns-then-not-passed c = emptying-stop c.loop-r.invariant c.in-Some.ensures.some c.is_inline.ensures c.is_empty_text.ensures (ap not c.if-not-passed.true)
-
-pub loop-r-preserved : goal.loop-r-preserved
-loop-r-preserved c = emptying-turn c.loop-r.invariant c.in-Some.ensures.some c.is_inline.ensures c.is_empty_text.ensures (ap not c.if-not-passed.false) c.skip.ensures
-
 pub returns : goal.returns
-returns c = emptying-end c.loop-r.invariant c.in_default.ensures.none
+unfolding all_empty
+returns c = all-of (λ r _. not (is_inline r.kind) || is_empty_text r) all_empty c.all.new.self _ c.all.ensures.ran c.roots.ensures (λ t b q k. search (rules, tests)) refl (λ r kids rest. refl)

@@ -1,6 +1,6 @@
 -- The cycle of calls of the block walk: loops from block to block and from item to item, and the walk of each one.
 use Prim.Native.Nat.{◌+◌, ◌-◌, ◌*◌}
-use Rattle.leaves.specs.Refusal.Limits.{most_level}
+use Rattle.leaves.specs.Refusal.Limits.{levels_left}
 use Rattle.leaves.specs.Sheet.Trees.{trees}
 use Rattle.leaves.specs.Report.Listed.{path_of}
 use Rattle.inlines.proofs.PathLaws.{Paced}
@@ -9,16 +9,16 @@ use Rattle.blocks.proofs.walk.+walk.Given as goal
 
 -- the levels left fall from a loop to the records in it, and a record stands just above the loop over its children
 abbrev pub decreases-validate_blocks : goal.decreases-validate_blocks
-decreases-validate_blocks l = 2 * (most_level - l.report.now.level)
+decreases-validate_blocks l = 2 * levels_left l.report.now.level
 
 abbrev pub decreases-validate_block : goal.decreases-validate_block
-decreases-validate_block l = 2 * (most_level - l.report.now.level) + 1
+decreases-validate_block l = 2 * levels_left l.report.now.level + 1
 
 abbrev pub decreases-validate_list_items : goal.decreases-validate_list_items
-decreases-validate_list_items l = 2 * (most_level - l.report.now.level)
+decreases-validate_list_items l = 2 * levels_left l.report.now.level
 
 abbrev pub decreases-validate_item : goal.decreases-validate_item
-decreases-validate_item l = 2 * (most_level - l.report.now.level) + 1
+decreases-validate_item l = 2 * levels_left l.report.now.level + 1
 
 -- the loops: what holds at their heads, and what falls
 abbrev pub invariant-validate_blocks-loop-r : goal.invariant-validate_blocks-loop-r

@@ -1,6 +1,7 @@
 -- `inlines::node::validate_link` meets its contract.
-use Rattle.inlines.proofs.NodeLaws.{link-law}
+use borrow.Author.Rules.{rules}
+use Rattle.leaves.proofs.report.ListedLaws.{adds_both}
 use Rattle.inlines.proofs.node.validate_link.Goals as goal
 
 pub returns : goal.returns
-returns c = link-law c.validate_destination.ensures c.validate_link_text.ensures
+returns c = adds_both c.validate_destination.ensures c.validate_link_text.ensures.adds (search rules)

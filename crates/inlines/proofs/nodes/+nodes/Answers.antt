@@ -2,10 +2,12 @@
 use mathlib.Core.Path.{ap}
 use mathlib.Core.Bool.{not}
 use Rattle.inlines.proofs.NodesLaws.{node_done, node-other, kind-inline, kind-other, nodes-none, nodes-turn}
+use Rattle.inlines.specs.Nodes.{validate_inline_nodes}
 use Rattle.inlines.proofs.WalkLaws.{loop-start, loop-end}
 use Rattle.inlines.proofs.nodes.+nodes.Goals as goal
 
 pub validate_inline_nodes-loop-r-init : goal.validate_inline_nodes-loop-r-init
+unfolding validate_inline_nodes
 validate_inline_nodes-loop-r-init t c = loop-start _
 
 pub validate_inline_nodes-returns : goal.validate_inline_nodes-returns

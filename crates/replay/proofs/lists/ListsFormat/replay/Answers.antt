@@ -1,6 +1,15 @@
 -- `replay::lists::ListsFormat::replay` meets its contract.
-use Rattle.replay.proofs.ListLaws.{list-record}
+use mathlib.Core.Path.{◌≡◌}
+use mathlib.Core.Bool.{◌&&◌}
+use lib.Dec.{eqb, leb}
+use Rattle.std.proofs.Common.{arith}
+use Rattle.std.proofs.lemmas.Grind.{common_steps}
+use Rattle.replay.specs.Lists.{list_of, list_replayed}
+use Rattle.replay.specs.Sheets.{sheet_in}
 use Rattle.replay.proofs.lists.ListsFormat.replay.Goals as goal
 
 pub returns : goal.returns
-returns c = list-record _ _ _ _ _ _ _ _ _ _ _ _ _ _ _ _ c.compare-2.ensures c.compare.ensures c.«record».ensures c.same.ensures c.part-expected.ensures c.listed-found.ensures c.first.ensures c.fill.ensures c.part.ensures c.part-text.ensures c.pair-n.ensures.0 c.pair-bytes.ensures.0 c.pair-m.ensures.0
+unfolding list_replayed list_of sheet_in
+returns c =
+    let met : c.if-m-le-MOST.compare ≡ (leb c.pair-n.result 800 && leb c.pair-m.result 800 && eqb c.listed-found.result c.pair-m.result) = grind (arith, common_steps) in
+    cc

@@ -1,6 +1,0 @@
--- `replay::values::PairsFormat::replay` meets its contract.
-use Rattle.replay.proofs.ValueLaws.{values}
-use Rattle.replay.proofs.values.PairsFormat.replay.Goals as goal
-
-pub returns : goal.returns
-returns c = search values
