@@ -5,7 +5,7 @@ use Prim.Native.Nat.{ℕ, ◌+◌}
 use Rattle.leaves.specs.Text.Fence.{holds_fence_line, is_fence}
 use Rattle.leaves.specs.Text.Edges.{has_blank_edge_line}
 use Rattle.leaves.specs.Text.Lines.{holds_line_ending, is_blank, is_cr_of_crlf, lines, longer, starts_with}
-use Rattle.leaves.specs.Text.Lists.{all, any, none, first_or, last_or}
+use Rattle.leaves.specs.Text.Lists.{all, any, is_empty_list, first_or, last_or}
 use Rattle.leaves.specs.Text.Marker.{written_marker}
 use Rattle.leaves.specs.Text.Name.{is_attribute_name, is_blank_identifier, is_directive_name, is_run, runs}
 use Rattle.leaves.specs.Text.Part.{part_of}
@@ -33,17 +33,17 @@ use Rattle.inlines.specs.Attribute.{validate_directive_attributes}
 use Rattle.inlines.specs.Depth.{each_record, validate_cell_values, validate_one_line}
 use Rattle.inlines.specs.Link.{validate_link_text}
 use Rattle.inlines.specs.Literal.{validate_code_inline, validate_text}
-use Rattle.inlines.specs.Nodes.{all_empty, ends_with_whitespace, ends_with_whitespace_after, final_break, final_break_after, holds_joined, no_inline, starts_with_whitespace, validate_emphasis_container, validate_inline, validate_inline_nodes, validate_inline_nodes_after, validate_inline_values, validate_inlines, validate_node}
+use Rattle.inlines.specs.Nodes.{all_empty, break_entries, ends_with_whitespace, final_break, holds_joined, inlines_of, is_one_joined, no_inline, starts_with_whitespace, without_empty_texts, validate_emphasis_container, validate_inline, validate_inline_nodes, validate_inline_nodes_after, validate_inline_values, validate_inlines, validate_node}
 use Rattle.inlines.specs.Single.{validate_destination, validate_directive_name, validate_siblings}
 use Rattle.inlines.specs.Values.{ends_white, is_bad_attribute, is_unwritable, starts_white}
 use Rattle.blocks.specs.Before.{takes_indented_code, validate_taken_block, before_next}
-use Rattle.blocks.specs.Block.{validate_container, validate_html, validate_leaf, validate_own}
+use Rattle.blocks.specs.Block.{validate_own}
 use Rattle.blocks.specs.Check.{outcome}
 use Rattle.blocks.specs.Footnote.{blank_line_at, validate_footnote_definition}
 use Rattle.blocks.specs.Frontmatter.{frontmatter_kind, validate_frontmatter}
 use Rattle.blocks.specs.Heads.{validate_alert, validate_code_block, validate_definition, validate_heading}
 use Rattle.blocks.specs.Holds.{holds_blocks}
-use Rattle.blocks.specs.Html.{validate_html_container, validate_tags}
+use Rattle.blocks.specs.Html.{validate_tags, validate_tag_pair, validate_html_container}
 use Rattle.blocks.specs.Item.{opens_with_paragraph, validate_blank_line, validate_item_blank_lines, validate_task_item}
 use Rattle.blocks.specs.Label.{before_blocks, validate_directive}
 use Rattle.blocks.specs.List.{count_full, holds_one_block, validate_list}
@@ -54,7 +54,7 @@ use Rattle.blocks.specs.Walk.{validate_block, validate_blocks, validate_document
 
 -- the check; a declaration that unfolds this unfolds all that the answer and the report compute with
 unfoldable pub checks : List ℕ → List ℕ → List ℕ → Answer × List ℕ
-unfolding outcome flat words judge_sheet or_else judge_from judge_at judge judge_texts level_before bad_level tags_from lacks_tags count_kind misplaced open_at gather opened joined parent_group other_group child_group holds place_in place_of bad_field bad_number most_a most_b most_c is_surrogate bad_span has_first has_second bad_text text_outside text_ill_formed is_utf8 well_formed follow Rattle.leaves.specs.Text.Utf8.table none trim trim_cons trim_end trim_start holds_fence_line is_fence has_blank_edge_line holds_line_ending is_blank is_cr_of_crlf lines longer starts_with all any first_or last_or is_attribute_name is_blank_identifier is_directive_name is_run runs part_of has_odd_escaped_pipe odd_pipe_after same_bytes is_alert_title text_of count deeper forest_at forest_of grow past list_if ◌⊕◌ record_at validate_code_inline validate_destination validate_directive_name validate_link_text validate_siblings validate_text is_bad_attribute is_unwritable each_record validate_cell_values validate_directive_attributes validate_one_line validate_emphasis_container all_empty starts_with_whitespace ends_with_whitespace ends_with_whitespace_after starts_white ends_white holds_joined starts_with_white ends_with_white is_white scalars decode emit lead_bits trail_bits final_break final_break_after no_inline validate_inline validate_inline_values validate_inline_nodes validate_inline_nodes_after validate_inlines validate_node blank_line_at count_full frontmatter_kind holds_one_block opens_with_paragraph takes_indented_code validate_alert validate_code_block validate_definition validate_footnote_definition validate_frontmatter validate_heading validate_html_container validate_item_blank_lines validate_item_number validate_list validate_taken_block validate_task_item written_marker header_width validate_cell validate_cells validate_rows validate_table before_next validate_tags item_number validate_blank_line before_blocks validate_paragraph holds_blocks validate_container validate_html validate_leaf validate_own validate_block validate_blocks validate_directive validate_document validate_item validate_list_items
+unfolding outcome flat words judge_sheet or_else judge_from judge_at judge judge_texts level_before bad_level tags_from lacks_tags count_kind misplaced open_at gather opened joined parent_group other_group child_group holds place_in place_of bad_field bad_number most_a most_b most_c is_surrogate bad_span has_first has_second bad_text text_outside text_ill_formed is_utf8 well_formed follow Rattle.leaves.specs.Text.Utf8.table_3_7 is_empty_list trim trim_cons trim_end trim_start holds_fence_line is_fence has_blank_edge_line holds_line_ending is_blank is_cr_of_crlf lines longer starts_with all any first_or last_or is_attribute_name is_blank_identifier is_directive_name is_run runs part_of has_odd_escaped_pipe odd_pipe_after same_bytes is_alert_title text_of count deeper forest_at forest_of grow past list_if ◌⊕◌ record_at validate_code_inline validate_destination validate_directive_name validate_link_text validate_siblings validate_text is_bad_attribute is_unwritable each_record validate_cell_values validate_directive_attributes validate_one_line validate_emphasis_container all_empty starts_with_whitespace ends_with_whitespace without_empty_texts starts_white ends_white holds_joined is_one_joined starts_with_white ends_with_white is_white scalars decode emit lead_bits trail_bits final_break break_entries inlines_of no_inline validate_inline validate_inline_values validate_inline_nodes validate_inline_nodes_after validate_inlines validate_node blank_line_at count_full frontmatter_kind holds_one_block opens_with_paragraph takes_indented_code validate_alert validate_code_block validate_definition validate_footnote_definition validate_frontmatter validate_heading validate_tags validate_item_blank_lines validate_item_number validate_list validate_taken_block validate_task_item written_marker header_width validate_cell validate_cells validate_rows validate_table before_next validate_tag_pair item_number validate_blank_line before_blocks validate_paragraph holds_blocks validate_html_container validate_own validate_block validate_blocks validate_directive validate_document validate_item validate_list_items
 checks w bytes report = outcome w bytes report
 
 -- ---- sheets over the text `a \ | \ \ |`, and a report of nine words, each 77

@@ -6,7 +6,7 @@ use mathlib.Core.List.{List, [], ◌∷◌, ◌++◌}
 use Prim.Native.Nat.{ℕ, suc, ◌+◌, ◌*◌, ◌≤◌}
 use native.Mathlib.Omega.{arith}
 use borrow.Author.Tests.{eqb-true}
-use lib.Dec.{eqb}
+use lib.Dec.{eqb, ltb}
 use lib.ListN.{length}
 use Rattle.leaves.specs.Text.Lists.{when◌then◌else◌}
 use Rattle.leaves.specs.Text.Same.{same_bytes}
@@ -36,10 +36,10 @@ use Rattle.inlines.specs.Depth.{validate_cell_values, validate_one_line}
 use Rattle.inlines.specs.Nodes.{all_empty, validate_inlines}
 use Rattle.inlines.proofs.CountLaws.{bit, sum_roots, spent, spent-none, spent-step, spent-most, inlines-spent, EachInline, tag_most, inline-most, Few, no-entry, one_entry, test-entry, both_entry, few-then, few-either}
 use Rattle.blocks.specs.declared.before.Before.{Before}
-use Rattle.blocks.specs.Before.{first, before_next, validate_taken_block}
+use Rattle.blocks.specs.Before.{no_block, before_next, validate_taken_block}
 use Rattle.blocks.specs.Heads.{validate_heading, validate_alert, validate_code_block, validate_definition}
 use Rattle.blocks.specs.Frontmatter.{validate_frontmatter}
-use Rattle.blocks.specs.Html.{validate_tags, validate_html_container}
+use Rattle.blocks.specs.Html.{validate_tag_pair, validate_tags, validate_html_container}
 use Rattle.blocks.specs.Footnote.{blank_line_at, validate_footnote_definition}
 use Rattle.blocks.specs.List.{validate_list}
 use Rattle.blocks.specs.Item.{validate_blank_line, validate_item_blank_lines, validate_task_item}
@@ -47,7 +47,7 @@ use Rattle.blocks.specs.Number.{item_number, validate_item_number}
 use Rattle.blocks.specs.Table.{validate_cell, validate_cells, validate_rows, header_width, validate_table}
 use Rattle.blocks.specs.Paragraph.{validate_paragraph}
 use Rattle.blocks.specs.Label.{before_blocks, validate_directive}
-use Rattle.blocks.specs.Block.{validate_leaf, validate_html, validate_container, validate_own}
+use Rattle.blocks.specs.Block.{validate_own}
 use Rattle.blocks.specs.Holds.{holds_blocks}
 use Rattle.blocks.specs.Walk.{validate_block, validate_item, validate_blocks, validate_list_items, validate_document}
 
@@ -104,7 +104,7 @@ own_entries bytes path r kids =
     else when eqb r.kind paragraph
     then list_if (all_empty kids) Rules.empty_paragraph r.span path
     else when eqb r.kind heading
-    then validate_heading path r.span r.a
+    then list_if (eqb r.a 0 || ltb 6 r.a) Rules.heading_depth r.span path
     else when eqb r.kind code_block
     then validate_code_block bytes path r.span r.a r.b r.first r.second
     else when eqb r.kind definition
@@ -149,8 +149,8 @@ parts-split r = go (eqb r.kind html_tag) refl
     go true e = rw e (omega arith)
     go false e = rw e (omega arith)
 
-tags-few : (bytes path : List ℕ) (span : Span) (kids : Forest) → length (validate_html_container bytes path span kids) ≤ length (names_entries bytes path span kids) + strays kids + sum_roots tag_faults kids
-unfolding validate_html_container validate_tags names_entries strays empty_parts
+tags-few : (bytes path : List ℕ) (span : Span) (kids : Forest) → length (validate_tags bytes path span kids) ≤ length (names_entries bytes path span kids) + strays kids + sum_roots tag_faults kids
+unfolding validate_tags validate_tag_pair names_entries strays empty_parts
 tags-few bytes path span none = omega arith
 tags-few bytes path span (tree opening _ none) = omega arith
 tags-few bytes path span (tree opening under (tree closing under' rest)) =
@@ -240,7 +240,7 @@ module _ (bytes : List ℕ) (most : ℕ) (inline : EachInline bytes tag_faults m
       Counts k = length (validate_block bytes path (of k) kids items blocks) ≤ length (own_entries bytes path (of k) kids) + strays_of (of k) kids + most * size kids
 
       html-few : Counts html_container
-      unfolding validate_block validate_own validate_container validate_html holds_blocks own_entries
+      unfolding validate_block validate_own validate_html_container holds_blocks own_entries
       html-few = go (eqb a 0) refl
         where
           go : (b : Bool) → eqb a 0 ≡ b → Counts html_container
@@ -248,7 +248,7 @@ module _ (bytes : List ℕ) (most : ℕ) (inline : EachInline bytes tag_faults m
           go false e = rw e (simp length-join (omega (arith, tags-few bytes path span kids, under-most path 0 kids)))
 
       block-few : (k : ℕ) → Counts k
-      unfolding validate_block validate_own validate_container validate_leaf validate_footnote_definition validate_directive validate_paragraph holds_blocks own_entries
+      unfolding validate_block validate_own validate_footnote_definition validate_directive validate_paragraph validate_heading holds_blocks own_entries
       block-few k =
           kind-cases Counts k footnote_definition (simp length-join (omega (arith, blank-few path 0 kids)))
           (λ e0. kind-cases Counts k table (simp length-join (omega (arith, table-few path span a kids)))
@@ -276,7 +276,7 @@ module _ (bytes : List ℕ) (most : ℕ) (inline : EachInline bytes tag_faults m
 
     -- a tree, from the forests inside and beside it
     module _ (r : Rec) (kids rest : Forest) (block : (path : List ℕ) (before : Before) → block_charge bytes path before r kids ≤ most) (item : (path : List ℕ) (ordered : ℕ) → length (item_entries path ordered r kids) ≤ most) (inside : Counted bytes most kids) (beside : Counted bytes most rest) where
-      of-block : (path : List ℕ) (k : ℕ) (before : Before) → is_block r.kind ≡ true → validate_blocks bytes path k before (tree r kids rest) ≡ validate_taken_block (path ++ k ∷ []) r.span before r.kind r.a r.b ⊕ validate_block bytes (path ++ k ∷ []) r kids (validate_list_items bytes (path ++ k ∷ []) 0 r.a r.c kids) (validate_blocks bytes (path ++ k ∷ []) 0 first kids) ⊕ validate_blocks bytes path (suc k) (before_next before r.kind r.a r.b) rest
+      of-block : (path : List ℕ) (k : ℕ) (before : Before) → is_block r.kind ≡ true → validate_blocks bytes path k before (tree r kids rest) ≡ validate_taken_block (path ++ k ∷ []) r.span before r.kind r.a r.b ⊕ validate_block bytes (path ++ k ∷ []) r kids (validate_list_items bytes (path ++ k ∷ []) 0 r.a r.c kids) (validate_blocks bytes (path ++ k ∷ []) 0 no_block kids) ⊕ validate_blocks bytes path (suc k) (before_next before r.kind r.a r.b) rest
       unfolding validate_blocks
       of-block path k before e = rw e
 
@@ -284,14 +284,14 @@ module _ (bytes : List ℕ) (most : ℕ) (inline : EachInline bytes tag_faults m
       unfolding validate_blocks
       of_other path k before e = rw e
 
-      under-label : (path : List ℕ) (rule : ℕ) → length (validate_directive_attributes bytes path (before_blocks kids)) + length (validate_inlines bytes path (before_blocks kids)) + length (validate_one_line rule path (before_blocks kids)) + length (validate_blocks bytes path 0 first kids) ≤ most * size kids
-      under-label path rule = omega (arith, inlines-spent bytes path rule tag_faults (before_blocks kids), inside.label path path rule 0 0 first)
+      under-label : (path : List ℕ) (rule : ℕ) → length (validate_directive_attributes bytes path (before_blocks kids)) + length (validate_inlines bytes path (before_blocks kids)) + length (validate_one_line rule path (before_blocks kids)) + length (validate_blocks bytes path 0 no_block kids) ≤ most * size kids
+      under-label path rule = omega (arith, inlines-spent bytes path rule tag_faults (before_blocks kids), inside.label path path rule 0 0 no_block)
 
-      own-few : (path : List ℕ) → length (validate_block bytes path r kids (validate_list_items bytes path 0 r.a r.c kids) (validate_blocks bytes path 0 first kids)) ≤ length (own_entries bytes path r kids) + strays_of r kids + most * size kids
+      own-few : (path : List ℕ) → length (validate_block bytes path r kids (validate_list_items bytes path 0 r.a r.c kids) (validate_blocks bytes path 0 no_block kids)) ≤ length (own_entries bytes path r kids) + strays_of r kids + most * size kids
       own-few path =
           block-few path r.level r.span r.a r.b r.c r.first r.second kids
-          (validate_list_items bytes path 0 r.a r.c kids) (validate_blocks bytes path 0 first kids)
-          (inside.items path 0 r.a r.c) (inside.blocks path 0 first) (under-label path) r.kind
+          (validate_list_items bytes path 0 r.a r.c kids) (validate_blocks bytes path 0 no_block kids)
+          (inside.items path 0 r.a r.c) (inside.blocks path 0 no_block) (under-label path) r.kind
 
       tree-blocks : (path : List ℕ) (k : ℕ) (before : Before) → length (validate_blocks bytes path k before (tree r kids rest)) + sum_roots blank_of (tree r kids rest) + sum_roots tag_faults (tree r kids rest) ≤ most * size (tree r kids rest)
       unfolding size block_charge
@@ -337,7 +337,7 @@ module _ (bytes : List ℕ) (most : ℕ) (inline : EachInline bytes tag_faults m
             arith,
             simp length-join at (item (path ++ k ∷ []) ordered),
             item-blanks (path ++ k ∷ []) (eqb tight 1) (eqb (count rest) 0) 0 kids,
-            inside.blocks (path ++ k ∷ []) 0 first,
+            inside.blocks (path ++ k ∷ []) 0 no_block,
             beside.items path (suc k) ordered tight,
           ))
 
@@ -351,8 +351,8 @@ module _ (bytes : List ℕ) (most : ℕ) (inline : EachInline bytes tag_faults m
       counted (tree r kids rest) fine =
           counted-tree r kids rest (λ path before. block path before r kids rest fine) (λ path ordered. item path ordered r kids) (counted kids (inside r kids rest fine)) (counted rest (beside r kids rest fine))
 
-      pub walk-few : (f : Forest) → Fine f → length (validate_blocks bytes [] 0 first f) ≤ most * size f
-      walk-few f fine = omega (arith, (counted f fine).blocks [] 0 first)
+      pub walk-few : (f : Forest) → Fine f → length (validate_blocks bytes [] 0 no_block f) ≤ most * size f
+      walk-few f fine = omega (arith, (counted f fine).blocks [] 0 no_block)
 
 -- ---- the bound for one record, by its kind
 
@@ -430,7 +430,7 @@ own_most k =
     else 0
 
 own-most : (bytes path : List ℕ) (r : Rec) (kids : Forest) → Few (own_entries bytes path r kids) (own_most r.kind)
-unfolding own_entries own_most validate_alert validate_list validate_directive_name validate_heading validate_code_block validate_definition validate_destination validate_frontmatter
+unfolding own_entries own_most validate_alert validate_list validate_directive_name validate_code_block validate_definition validate_destination validate_frontmatter
 own-most bytes path r kids =
     let one : (b : Bool) (rule : ℕ) → Few (list_if b rule r.span path) 1 = λ b rule. one_entry b rule r.span path in
     few-either (eqb r.kind footnote_definition) (one _ _)

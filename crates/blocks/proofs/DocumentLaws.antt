@@ -11,7 +11,7 @@ use Rattle.leaves.specs.Sheet.Forest.{Forest, none, tree, deeper, forest_of, und
 use Rattle.leaves.specs.Refusal.Places.{joined}
 use Rattle.leaves.specs.declared.refusal.places.Open.{Open}
 use Rattle.leaves.specs.Refusal.Formed.{Formed, Sound}
-use Rattle.leaves.specs.Sheet.Trees.{trees, Whole}
+use Rattle.leaves.specs.Sheet.Trees.{trees, OfSheet}
 use Rattle.leaves.specs.Report.Entries.{Entry, Lists, start}
 use Rattle.leaves.specs.declared.report.entries.Tally.{Tally}
 use Rattle.leaves.specs.Report.Listed.{path_of}
@@ -21,7 +21,7 @@ use lib.ListN.{length, take}
 use Rattle.leaves.specs.Refusal.Limits.{most_level}
 use Rattle.inlines.specs.Walk.{Done}
 use Rattle.inlines.proofs.WalkLaws.{Start, start_of}
-use Rattle.blocks.specs.Before.{first}
+use Rattle.blocks.specs.Before.{no_block}
 use Rattle.blocks.specs.Walk.{validate_blocks, validate_document}
 
 formed-deeper : (bytes : List ℕ) (l : ℕ) (o : Open) (f : Forest) → Formed bytes l o f → deeper l f ≡ f
@@ -35,10 +35,10 @@ whole-sheet : (w bytes : List ℕ) → Sound w bytes → under w (records_of w) 
 unfolding forest_of
 whole-sheet w bytes s = rw sub-zero (formed-deeper bytes 0 _ (forest_of w) s.tree)
 
-document-trees : {w bytes : List ℕ} → Sound w bytes → {k : Records} → Whole w bytes k → trees k 0 ≡ forest_of w
+document-trees : {w bytes : List ℕ} → Sound w bytes → {k : Records} → OfSheet w bytes k → trees k 0 ≡ forest_of w
 document-trees {w} {bytes} s a = rw (a.sheet, a.n, a.next) (whole-sheet w bytes s)
 
-document-is : (w : List ℕ) {bytes b path : List ℕ} {f : Forest} → b ≡ bytes → path ≡ [] → f ≡ forest_of w → validate_blocks b path 0 first f ≡ validate_document w bytes
+document-is : (w : List ℕ) {bytes b path : List ℕ} {f : Forest} → b ≡ bytes → path ≡ [] → f ≡ forest_of w → validate_blocks b path 0 no_block f ≡ validate_document w bytes
 unfolding validate_document
 document-is w b p f = rw (b, p, f)
 
@@ -46,7 +46,7 @@ lists-as : {s s' t : Tally} {x x' y y' : List ℕ} {es fs : List Entry} → s �
 lists-as s x y e l = rw (y, ← e, ← s, ← x) l
 
 -- the walk of all records of the sheet, by a report of no entries that stands before the first record
-pub document-done : (w : List ℕ) {bytes : List ℕ} → Sound w bytes → {k j : Records} {x y : Report} → Whole w bytes k → {before after : List ℕ} → x.words.now ≡ before → x.tally ≡ start → (x.depth ≡ 0) × (x.level ≡ 0) → Done k j x.level x y (validate_blocks k.bytes.now (path_of x) 0 first (trees k x.level)) → after ≡ y.words.now → Lists start y.tally before after (validate_document w bytes)
+pub document-done : (w : List ℕ) {bytes : List ℕ} → Sound w bytes → {k j : Records} {x y : Report} → OfSheet w bytes k → {before after : List ℕ} → x.words.now ≡ before → x.tally ≡ start → (x.depth ≡ 0) × (x.level ≡ 0) → Done k j x.level x y (validate_blocks k.bytes.now (path_of x) 0 no_block (trees k x.level)) → after ≡ y.words.now → Lists start y.tally before after (validate_document w bytes)
 document-done w s {k} a v t top d f =
     lists-as t v f (document-is w a.bytes (rw top.0) (ap (trees k) top.1 ∙ document-trees s a)) d.adds.lists
 

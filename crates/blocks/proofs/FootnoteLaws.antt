@@ -11,7 +11,7 @@ use Rattle.leaves.specs.Report.Rules
 use Rattle.blocks.specs.Footnote.{blank_line_at}
 use mathlib.Core.Path.{◌≡◌, refl}
 use Rattle.leaves.specs.Sheet.Forest.{Forest, none, tree, count, size}
-use Rattle.leaves.specs.Sheet.Trees.{trees, Moved, Reads}
+use Rattle.leaves.specs.Sheet.Trees.{trees, Moved, ReadsNext}
 use Rattle.leaves.specs.Report.Entries.{Entry, list_if, ◌⊕◌}
 use Rattle.leaves.specs.Report.Listed.{path_of, Adds, Enters, Leaves}
 use Rattle.leaves.specs.declared.sheet.trees.Records.{Records}
@@ -38,7 +38,7 @@ module _ (path : List ℕ) (k : ℕ) (r : Rec) (kids rest : Forest) where
   unfolding blank_line_at
   blank-later e = rw (none-join, e, add-one k)
 
-module _ {es : List Entry} {x y z u : Records} {p q : Report} {k : ℕ} {r : Rec} (v : Paced es (blank_line_at (path_of p) k) x y p q k) (reads : Reads y z p.level r) (behind : Moved z u (z.next + size (trees z r.level))) where
+module _ {es : List Entry} {x y z u : Records} {p q : Report} {k : ℕ} {r : Rec} (v : Paced es (blank_line_at (path_of p) k) x y p q k) (reads : ReadsNext y z p.level r) (behind : Moved z u (z.next + size (trees z r.level))) where
   pub blank-listed : {a b o : Report} → Enters q a k r.level → Adds a b (list_if true Rules.blank_line_in_footnote r.span (path_of a)) → Leaves b o p.level → is_fault r.kind k (eqb (count (trees u p.level)) 0) ≡ true → Adds p o es
   blank-listed n l c e =
       paced-last v (rw (reads-tree reads behind) (blank-found (path_of p) k r _ _ e)) (paced-visit v n (rw (paced-path v n) at l) c)

@@ -19,7 +19,7 @@ use Rattle.leaves.proofs.sheet.ForestLaws.{size-end, size-out}
 use Rattle.blocks.specs.WalkAt.{is_last}
 use mathlib.Core.Path.{◌≡◌, refl, sym, ◌∙◌}
 use Rattle.leaves.specs.Sheet.Forest.{Forest, none, tree, under, count, size}
-use Rattle.leaves.specs.Sheet.Trees.{trees, Moved, Reads}
+use Rattle.leaves.specs.Sheet.Trees.{trees, Moved, ReadsNext}
 use Rattle.leaves.specs.Report.Entries.{Entry, list_if, ◌⊕◌}
 use Rattle.leaves.specs.Report.Listed.{path_of, Adds, Enters, Leaves}
 use Rattle.leaves.specs.declared.sheet.trees.Records.{Records}
@@ -62,7 +62,7 @@ lines-tree : (path : List ℕ) (tight last : Bool) (k : ℕ) (r : Rec) (kids res
 unfolding validate_item_blank_lines
 lines-tree path tight last k r kids rest = rw (add-one k)
 
-pub lines-turn : {es : List Entry} {x y z u : Records} {p q : Report} {k : ℕ} {r : Rec} {f : Bool} (tight : Bool) {outer : ℕ} → Paced es (validate_item_blank_lines (path_of p) tight (is_last x p.level outer) k) x y p q k → outer ≤ p.level → Reads y z p.level r → Moved z u (z.next + size (trees z r.level)) → f ≡ eqb (count (trees u outer)) 0 → {a b o : Report} → Enters q a k r.level → Adds a b (validate_blank_line (path_of a) r.span (eqb r.kind blank_line) tight (eqb k 0) f) → Leaves b o p.level → Paced es (validate_item_blank_lines (path_of p) tight (is_last x p.level outer) (k + 1)) x u p o (k + 1)
+pub lines-turn : {es : List Entry} {x y z u : Records} {p q : Report} {k : ℕ} {r : Rec} {f : Bool} (tight : Bool) {outer : ℕ} → Paced es (validate_item_blank_lines (path_of p) tight (is_last x p.level outer) k) x y p q k → outer ≤ p.level → ReadsNext y z p.level r → Moved z u (z.next + size (trees z r.level)) → f ≡ eqb (count (trees u outer)) 0 → {a b o : Report} → Enters q a k r.level → Adds a b (validate_blank_line (path_of a) r.span (eqb r.kind blank_line) tight (eqb k 0) f) → Leaves b o p.level → Paced es (validate_item_blank_lines (path_of p) tight (is_last x p.level outer) (k + 1)) x u p o (k + 1)
 lines-turn {u = u} {p = p} {k = k} {r} tight v l reads behind g n d c =
     let s = passing-tree v.loop.passing reads behind in
     let i : u.next ≡ _ = behind-next reads behind in

@@ -19,7 +19,7 @@ use Rattle.inlines.specs.Nodes.{validate_inlines}
 use Rattle.blocks.specs.Label.{before_blocks, validate_directive}
 use mathlib.Core.Path.{◌≡◌, refl, sym, ap, ◌∙◌}
 use Rattle.leaves.specs.Sheet.Forest.{Forest, none, tree, under, size}
-use Rattle.leaves.specs.Sheet.Trees.{trees, Until, Moved, Reads, Ends}
+use Rattle.leaves.specs.Sheet.Trees.{trees, Until, Moved, ReadsNext, Ends}
 use Rattle.leaves.specs.Report.Listed.{path_of, Adds}
 use Rattle.leaves.specs.declared.sheet.trees.Records.{Records}
 use Rattle.leaves.specs.declared.report.entries.Report.{Report}
@@ -137,7 +137,7 @@ module _ {level : ℕ} {x : Records} where
     pub labelling-end : {z : Records} → Ends y z level → y.next ≡ x.next + size (before_blocks (trees x level))
     labelling-end e = stop (rw e.none label-none)
 
-    module _ {z : Records} {r : Rec} {b : Bool} (reads : Reads y z level r) (g : b ≡ is_block r.kind) where
+    module _ {z : Records} {r : Rec} {b : Bool} (reads : ReadsNext y z level r) (g : b ≡ is_block r.kind) where
       pub labelling-block : b ≡ true → y.next ≡ x.next + size (before_blocks (trees x level))
       labelling-block t = stop (rw (reads-first reads) (label-block r _ _ (rw g at t)))
 

@@ -1,5 +1,6 @@
 pub mod AnswerExamples
 pub mod AnswerLaws
+pub mod BeforeLaws
 pub mod BlockExamples
 pub mod BlockWalkLaws
 pub mod CheckLaws

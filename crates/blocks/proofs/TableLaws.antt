@@ -15,7 +15,7 @@ use Rattle.blocks.specs.Table.{header_width, validate_cell, validate_cells, vali
 use mathlib.Core.Path.{◌≡◌, refl, sym, ap, subst, ◌∙◌}
 use Rattle.leaves.proofs.sheet.TreeLaws.{suc-some}
 use Rattle.leaves.specs.Sheet.Forest.{Forest, none, tree, count}
-use Rattle.leaves.specs.Sheet.Trees.{trees, Reads}
+use Rattle.leaves.specs.Sheet.Trees.{trees, ReadsNext}
 use Rattle.leaves.specs.Sheet.Roots.{roots}
 use Rattle.leaves.specs.Report.Entries.{Entry, list_if, ◌⊕◌}
 use Rattle.leaves.specs.Report.Listed.{path_of, Adds, Enters, Leaves}
@@ -48,7 +48,7 @@ unfolding validate_rows
 rows-tree bytes path width k r kids rest = rw (add-one k) (sym (join-assoc (list_if _ _ _ _) _ _))
 
 -- a turn: the tree that was read is entered and left
-module _ {es : List Entry} {x y z u : Records} {p q a b o : Report} {k : ℕ} {r : Rec} (reads : Reads y z p.level r) (n : Enters q a k r.level) (c : Leaves b o p.level) where
+module _ {es : List Entry} {x y z u : Records} {p q a b o : Report} {k : ℕ} {r : Rec} (reads : ReadsNext y z p.level r) (n : Enters q a k r.level) (c : Leaves b o p.level) where
   pub cells-turn : Paced es (validate_cells x.bytes.now (path_of p) k) x y p q k → Done z u a.level a b (validate_cell z.bytes.now (path_of a) (trees z a.level)) → Paced es (validate_cells x.bytes.now (path_of p) (k + 1)) x u p o (k + 1)
   cells-turn v d =
       let d' : Done z u r.level a b (validate_cell z.bytes.now (path_of a) (trees z r.level)) = subst (λ (m : ℕ). Done z u m a b (validate_cell z.bytes.now (path_of a) (trees z m))) n.level d in

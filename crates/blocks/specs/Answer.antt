@@ -10,9 +10,9 @@ short_report = 11
 
 -- Document 01's number and value of each refusal: "A refusal returns number and record (from 0; 0 for 1–3 and for 11
 -- and above)".
-abbrev pub error_answer : CheckError → Answer
-error_answer (Malformed malformed) = refusal_answer malformed
-error_answer ShortReport = answer short_report 0
+abbrev pub check_error_answer : CheckError → Answer
+check_error_answer (Malformed malformed) = refusal_answer malformed
+check_error_answer ShortReport = answer short_report 0
 
 -- the answer of the check: how many entries were listed, or why nothing was
 abbrev pub Checked : Type 0
@@ -21,4 +21,4 @@ Checked = Result ℕ CheckError
 -- Its number and value. "An accepted check answers 0 and the number of entries".
 abbrev pub checked_answer : Checked → Answer
 checked_answer (Ok entries) = answer 0 entries
-checked_answer (Err error) = error_answer error
+checked_answer (Err error) = check_error_answer error

@@ -1,20 +1,23 @@
--- The entries that a block reports by its own record. Each definition has the name of its function in validate.rs and
--- gives its entries in its order. `path` is the block's own.
+-- The entries that a block reports by its own record, and a heading's inlines. Each definition has the name of its
+-- function in validate.rs and gives its entries in its order. `path` is the block's own.
 use Rattle.std.specs.Prelude.{ℕ, not, ◌&&◌, ◌||◌, List, eqb, ltb}
 use Rattle.leaves.specs.Text.Edges.{has_blank_edge_line}
 use Rattle.leaves.specs.Text.Name.{is_blank_identifier}
 use Rattle.leaves.specs.Text.Title.{is_alert_title}
 use Rattle.leaves.specs.Sheet.Texts.{text_of}
+use Rattle.leaves.specs.Sheet.Forest.{Forest}
 use Rattle.leaves.specs.Report.Entries.{Entry, list_if, ◌⊕◌}
 use Rattle.leaves.specs.declared.sheet.records.Span.{Span}
 use Rattle.leaves.specs.declared.sheet.records.Text.{Text}
 use Rattle.leaves.specs.Report.Rules
 use Rattle.inlines.specs.Single.{validate_destination}
+use Rattle.inlines.specs.Nodes.{validate_inlines}
 use Rattle.leaves.specs.Sheet.Empty.{is_empty}
 
--- `validate_heading`: 10
-unfoldable pub validate_heading : List ℕ → Span → ℕ → List Entry
-validate_heading path span depth = list_if (eqb depth 0 || ltb 6 depth) Rules.heading_depth span path
+-- `validate_heading`: 10, then the inlines
+unfoldable pub validate_heading : List ℕ → List ℕ → Span → ℕ → Forest → List Entry
+validate_heading bytes path span depth kids =
+    list_if (eqb depth 0 || ltb 6 depth) Rules.heading_depth span path ⊕ validate_inlines bytes path kids
 
 -- `validate_alert`: 11, where there is a title (A is 1)
 unfoldable pub validate_alert : List ℕ → List ℕ → Span → ℕ → Text → List Entry

@@ -31,7 +31,8 @@ validate_directive bytes path rule span name kids =
 
 -- `validate_leaf_directive`: 22 for breaks
 abbrev pub validate_leaf_directive : List ℕ → List ℕ → Span → Text → Forest → List Entry
-validate_leaf_directive bytes path span name kids = validate_directive bytes path Rules.break_in_leaf_label span name kids
+validate_leaf_directive bytes path span name kids =
+    validate_directive bytes path Rules.break_in_leaf_label span name kids
 
 -- `validate_container_directive`, up to the walk of its blocks: 23 for breaks
 abbrev pub validate_container_directive : List ℕ → List ℕ → Span → Text → Forest → List Entry

@@ -1,6 +1,7 @@
 -- What an item reports because of its number: `validate_item_number` of validate.rs. `path` is the item's own.
 use Rattle.std.specs.Prelude.{Option, Some, None, ℕ, not, ◌&&◌, List, [], eqb, ltb}
 use Rattle.leaves.specs.Text.Lists.{when◌then◌else◌}
+use Rattle.leaves.specs.Refusal.Limits.{most_item_number}
 use Rattle.leaves.specs.Report.Entries.{Entry, list_if, ◌⊕◌}
 use Rattle.leaves.specs.declared.sheet.records.Span.{Span}
 use Rattle.leaves.specs.Report.Rules
@@ -15,4 +16,4 @@ unfoldable pub validate_item_number : List ℕ → Span → ℕ → Option ℕ �
 validate_item_number path span ordered None = []
 validate_item_number path span ordered (Some number) =
     list_if (not (eqb ordered 1)) Rules.bullet_number span path
-    ⊕ list_if (eqb ordered 1 && ltb 999999999 number) Rules.long_number span path
+    ⊕ list_if (eqb ordered 1 && ltb most_item_number number) Rules.long_number span path

@@ -9,7 +9,7 @@ use Rattle.leaves.specs.Sheet.Forest.{Forest, none, tree, count, forest_of}
 use Rattle.leaves.specs.Report.Entries.{Entry, ◌⊕◌}
 use Rattle.leaves.specs.declared.sheet.records.Rec.{Rec}
 use Rattle.blocks.specs.declared.before.Before.{Before}
-use Rattle.blocks.specs.Before.{first, before_next, validate_taken_block}
+use Rattle.blocks.specs.Before.{no_block, before_next, validate_taken_block}
 use Rattle.blocks.specs.Block.{validate_own}
 use Rattle.blocks.specs.Holds.{holds_blocks}
 use Rattle.blocks.specs.Item.{validate_item_blank_lines, validate_task_item}
@@ -38,7 +38,7 @@ unfoldable mutual
   validate_blocks bytes path k before none = []
   validate_blocks bytes path k before (tree r kids rest) =
       let items = validate_list_items bytes (path ++ k ∷ []) 0 r.a r.c kids in
-      let blocks = validate_blocks bytes (path ++ k ∷ []) 0 first kids in
+      let blocks = validate_blocks bytes (path ++ k ∷ []) 0 no_block kids in
       let later = validate_blocks bytes path (suc k) (before_next before r.kind r.a r.b) rest in
       let passed = validate_blocks bytes path k before rest in
       when is_block r.kind
@@ -51,10 +51,10 @@ unfoldable mutual
   pub validate_list_items : List ℕ → List ℕ → ℕ → ℕ → ℕ → Forest → List Entry
   validate_list_items bytes path k ordered tight none = []
   validate_list_items bytes path k ordered tight (tree r kids rest) =
-      let blocks = validate_blocks bytes (path ++ k ∷ []) 0 first kids in
+      let blocks = validate_blocks bytes (path ++ k ∷ []) 0 no_block kids in
       let later = validate_list_items bytes path (suc k) ordered tight rest in
       validate_item (path ++ k ∷ []) ordered tight (eqb (count rest) 0) r kids blocks ⊕ later
 
 -- `validate_document`: the whole list of a sheet and its text
 unfoldable pub validate_document : List ℕ → List ℕ → List Entry
-validate_document w bytes = validate_blocks bytes [] 0 first (forest_of w)
+validate_document w bytes = validate_blocks bytes [] 0 no_block (forest_of w)

@@ -1,6 +1,6 @@
 // The answer of the check, with its number and its record or count.
 ghost use Rattle.std.specs.Prelude.{◌≡◌};
-ghost use Rattle.blocks.specs.Answer.{error_answer, checked_answer};
+ghost use Rattle.blocks.specs.Answer.{check_error_answer, checked_answer};
 ghost use Rattle.blocks.specs.declared.answer.CheckError.TheVariants.{Malformed as IsMalformed};
 
 use leaves::refusal::verdict::Malformed;
@@ -25,7 +25,7 @@ impl From<Malformed> for CheckError {
 impl CheckError {
     // Document 01's number of the refusal.
     pub fn number(self) -> u32
-        ensures { result ≡ (error_answer self).number }
+        ensures { result ≡ (check_error_answer self).number }
     {
         match self {
             CheckError::Malformed(malformed) => malformed.number(),
@@ -33,9 +33,9 @@ impl CheckError {
         }
     }
 
-    // The record that the refusal names; 0 where it names none.
+    // The record that the refusal names; 0 where it names none, as the C interface has it.
     pub fn record(self) -> usize
-        ensures { result ≡ (error_answer self).value }
+        ensures { result ≡ (check_error_answer self).value }
     {
         match self {
             CheckError::Malformed(malformed) => malformed.record(),
@@ -44,8 +44,8 @@ impl CheckError {
     }
 }
 
-// Document 01's number of the answer; 0 where the sheet is accepted. A function and no `From`: the type is the library's,
-// and the number alone is not the answer.
+// Document 01's number of the answer; 0 where the sheet is accepted. A function and no `From`: the type is the
+// library's, and the number alone is not the answer.
 pub fn answer_number(checked: Result<usize, CheckError>) -> u32
     ensures { result ≡ (checked_answer checked).number }
 {

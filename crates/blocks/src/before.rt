@@ -1,8 +1,7 @@
 // What a block reports because of the block before it, and which block stands before the next one.
-ghost use Rattle.std.specs.Prelude.{◌≡◌, ◌≤◌};
-ghost use Rattle.leaves.specs.Refusal.Limits.{most_records};
+ghost use Rattle.std.specs.Prelude.{◌≡◌, unwrap_or};
 ghost use Rattle.leaves.specs.Report.Listed.{path_of, Adds};
-ghost use Rattle.blocks.specs.Before.{takes_indented_code, validate_taken_block, before_at, index_at};
+ghost use Rattle.blocks.specs.Before.{takes_indented_code, no_block, validate_taken_block, before_next};
 
 use leaves::report::entries::Report;
 use leaves::report::rules::Rule;
@@ -10,9 +9,8 @@ use leaves::sheet::kinds;
 use leaves::sheet::records::Rec;
 use leaves::text::marker::written_marker;
 
-// What the rules ask of the block before. `kind` is 0 where there is none, and 0 is no kind: each test
-// asks for one kind, and of an Option it would ask that and that there is one.
-#[derive(Clone, Copy)]
+// What the rules ask of the block before.
+#[derive(Clone, Copy, PartialEq, Eq, Debug)]
 pub struct Before {
     pub kind: u32,
     pub a: u32,
@@ -28,10 +26,13 @@ fn takes_indented_code(kind: u32, a: u32) -> bool
 }
 
 // Rule 1: two lists of one marker would read as one. Rule 15: indented code follows no block that takes its lines.
-pub(crate) fn validate_taken_block(report: &mut Report, before: Before, r: Rec)
+pub(crate) fn validate_taken_block(report: &mut Report, before: Option<Before>, r: Rec)
     ensures { Adds report.old report.new
-        (validate_taken_block (path_of report.old) r.span before r.kind r.a r.b) }
+        (validate_taken_block (path_of report.old) r.span (unwrap_or before no_block) r.kind r.a r.b) }
 {
+    let Some(before) = before else {
+        return;
+    };
     let lists = before.kind == kinds::LIST
         && r.kind == kinds::LIST
         && written_marker(before.a, before.b) == written_marker(r.a, r.b);
@@ -42,29 +43,17 @@ pub(crate) fn validate_taken_block(report: &mut Report, before: Before, r: Rec)
     report.list_if(taken, Rule::IndentedCodeTaken, r.span);
 }
 
-// The block before the next tree. Blank lines do not count, and trees that are not blocks do not either.
-#[tactic(auto, unfolding(crate::specs::Before::before_at, crate::specs::Before::before_next))]
-pub(crate) fn before_at(before: Before, r: Rec) -> Before
-    ensures { result ≡ before_at before r.kind r.a r.b }
+// The block before the next one. Blank lines do not count.
+#[tactic(auto, unfolding(crate::specs::Before::before_next))]
+pub(crate) fn before_next(before: Option<Before>, r: Rec) -> Option<Before>
+    ensures { unwrap_or result no_block ≡ before_next (unwrap_or before no_block) r.kind r.a r.b }
 {
-    if !kinds::is_block(r.kind) {
-        return before;
-    }
     if r.kind == kinds::BLANK_LINE {
         return before;
     }
-    Before {
+    Some(Before {
         kind: r.kind,
         a: r.a,
         b: r.b,
-    }
-}
-
-// The next tree's index: one more after a block.
-#[tactic(auto, unfolding(crate::specs::Before::index_at))]
-pub(crate) fn index_at(k: u32, kind: u32) -> u32
-    requires { k ≤ most_records }
-    ensures { result ≡ index_at k kind }
-{
-    if kinds::is_block(kind) { k + 1 } else { k }
+    })
 }

@@ -9,7 +9,8 @@ use leaves::sheet::records::Rec;
 use leaves::sheet::texts::text_of;
 use leaves::text::fence::{FrontmatterKind, holds_fence_line};
 
-// Every A but 1 is YAML: nothing can fail, so this is no TryFrom.
+// Every A but 1 is YAML: nothing can fail, so this is no TryFrom; and of other records A is no such kind, so it is no
+// `From<u32>`.
 #[tactic(auto, unfolding(crate::specs::Frontmatter::frontmatter_kind))]
 fn frontmatter_kind(a: u32) -> FrontmatterKind
     ensures { result ≡ frontmatter_kind a }

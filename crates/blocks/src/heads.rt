@@ -1,24 +1,31 @@
-// What a block reports by its own record.
+// What a block reports by its own record, and a heading's inlines.
+ghost use Rattle.leaves.specs.Sheet.Trees.{trees};
 ghost use Rattle.leaves.specs.Report.Listed.{path_of, Adds};
 ghost use Rattle.blocks.specs.Heads.{validate_heading, validate_alert, validate_code_block, validate_definition};
 
+use inlines::nodes::validate_inlines;
 use inlines::single;
 use leaves::report::entries::Report;
 use leaves::report::rules::Rule;
 use leaves::sheet::empty::is_empty;
 use leaves::sheet::records::Rec;
 use leaves::sheet::texts::text_of;
+use leaves::sheet::trees::Records;
 use leaves::text::edges::has_blank_edge_line;
 use leaves::text::name::is_blank_identifier;
 use leaves::text::title::is_alert_title;
 
-// Rule 10: a heading's depth is from 1 to 6.
-#[tactic(auto, unfolding(crate::specs::Heads::validate_heading))]
-pub(crate) fn validate_heading(report: &mut Report, r: Rec)
-    ensures { Adds report.old report.new (validate_heading (path_of report.old) r.span r.a) }
+// Rule 10: a heading's depth is from 1 to 6. Then its inlines.
+pub(crate) fn validate_heading(records: &Records, report: &mut Report, r: Rec)
+    ensures { Adds report.old report.new
+        (validate_heading records.now.bytes.now (path_of report.old) r.span r.a
+        (trees records.now report.old.level)) }
 {
+    let level = report.level;
+    let mut inlines = *records;
     let fault = r.a == 0 || 6 < r.a;
     report.list_if(fault, Rule::HeadingDepth, r.span);
+    validate_inlines(&mut inlines, report, level);
 }
 
 // Rule 11, where there is a title (A is 1).

@@ -1,8 +1,9 @@
-// The tags of an HTML container.
+// The tags of an HTML container, and its inlines.
 ghost use Rattle.leaves.specs.Sheet.Trees.{trees};
 ghost use Rattle.leaves.specs.Report.Listed.{path_of, Adds};
-ghost use Rattle.blocks.specs.Html.{validate_tags, validate_html_container};
+ghost use Rattle.blocks.specs.Html.{validate_tag_pair, validate_tags, validate_html_container};
 
+use inlines::nodes::validate_inlines;
 use leaves::report::entries::Report;
 use leaves::report::rules::Rule;
 use leaves::sheet::empty::is_empty;
@@ -12,9 +13,9 @@ use leaves::sheet::trees::Records;
 use leaves::text::same::same_bytes;
 
 // Rules 5 to 9: no tag has an empty name or source, and both have the same name. `span` is the container's.
-fn validate_tags(bytes: &[u8], report: &mut Report, span: Span, opening: Rec, closing: Rec)
+fn validate_tag_pair(bytes: &[u8], report: &mut Report, span: Span, opening: Rec, closing: Rec)
     ensures { Adds report.old report.new
-        (validate_tags bytes.now (path_of report.old) span opening closing) }
+        (validate_tag_pair bytes.now (path_of report.old) span opening closing) }
 {
     report.list_if(
         is_empty(opening.first),
@@ -41,9 +42,9 @@ fn validate_tags(bytes: &[u8], report: &mut Report, span: Span, opening: Rec, cl
 }
 
 // The rules of a container's tags, which are its first two children.
-pub(crate) fn validate_html_container(records: &Records, report: &mut Report, span: Span)
+fn validate_tags(records: &Records, report: &mut Report, span: Span)
     ensures { Adds report.old report.new
-        (validate_html_container records.now.bytes.now (path_of report.old) span
+        (validate_tags records.now.bytes.now (path_of report.old) span
         (trees records.now report.old.level)) }
 {
     let mut tags = records.roots(report.level);
@@ -53,5 +54,20 @@ pub(crate) fn validate_html_container(records: &Records, report: &mut Report, sp
     let Some(closing) = tags.next() else {
         return;
     };
-    validate_tags(records.bytes, report, span, opening.root, closing.root);
+    validate_tag_pair(records.bytes, report, span, opening.root, closing.root);
+}
+
+// The tags, and the inlines where the container holds inlines.
+pub(crate) fn validate_html_container(records: &Records, report: &mut Report, r: Rec)
+    ensures { Adds report.old report.new
+        (validate_html_container records.now.bytes.now (path_of report.old) r.span r.a
+        (trees records.now report.old.level)) }
+{
+    let level = report.level;
+    let mut inlines = *records;
+    validate_tags(records, report, r.span);
+    if r.a == 0 {
+        return;
+    }
+    validate_inlines(&mut inlines, report, level);
 }

@@ -3,11 +3,10 @@ ghost use Rattle.std.specs.Prelude.{◌≡◌};
 ghost use Rattle.leaves.specs.Report.Listed.{path_of, Adds};
 ghost use Rattle.blocks.specs.Number.{item_number, validate_item_number};
 
+use leaves::refusal::limits::MOST_ITEM_NUMBER;
 use leaves::report::entries::Report;
 use leaves::report::rules::Rule;
 use leaves::sheet::records::Span;
-
-const MOST_NUMBER: u32 = 999999999;
 
 // The number of an item, from its B and C.
 #[tactic(auto, unfolding(crate::specs::Number::item_number))]
@@ -17,7 +16,8 @@ pub(crate) fn item_number(b: u32, c: u32) -> Option<u32>
     if b == 1 { Some(c) } else { None }
 }
 
-// Rule 49: an item of a bullet list has no number. Rule 50: a number has at most nine digits.
+// Rule 49: an item of a bullet list has no number. Rule 50: a number has at most nine digits. `ordered` is the list's A,
+// as in the definition.
 pub(crate) fn validate_item_number(
     report: &mut Report,
     span: Span,
@@ -31,6 +31,6 @@ pub(crate) fn validate_item_number(
         return;
     };
     report.list_if(ordered != 1, Rule::BulletNumber, span);
-    let long = ordered == 1 && MOST_NUMBER < value;
+    let long = ordered == 1 && MOST_ITEM_NUMBER < value;
     report.list_if(long, Rule::LongNumber, span);
 }

@@ -5,11 +5,12 @@ ghost use Rattle.leaves.specs.Report.Entries.{Lists, start};
 ghost use Rattle.leaves.specs.Report.Listed.{path_of};
 ghost use Rattle.leaves.specs.Refusal.Formed.{Sound};
 ghost use Rattle.inlines.specs.Walk.{Done};
-ghost use Rattle.blocks.specs.Before.{first};
-ghost use Rattle.blocks.specs.Walk.{validate_blocks, validate_list_items, validate_item, validate_document};
-ghost use Rattle.blocks.specs.WalkAt.{block_at, is_last};
+ghost use Rattle.blocks.specs.Before.{no_block};
+ghost use Rattle.blocks.specs.Walk.{validate_block, validate_blocks, validate_list_items, validate_item};
+ghost use Rattle.blocks.specs.Walk.{validate_document};
+ghost use Rattle.blocks.specs.WalkAt.{is_last};
 
-use crate::before::{Before, before_at, index_at, validate_taken_block};
+use crate::before::{before_next, validate_taken_block};
 use crate::block::validate_own;
 use crate::holds::holds_blocks;
 use crate::item;
@@ -27,43 +28,43 @@ use leaves::sheet::trees::Records;
 //   yet when the loop starts.
 // The number that falls at each call is therefore twice the levels left for a loop, and one more for a record.
 
-// The blocks that are next under the record at which the report stands.
+// The blocks that are next under the record at which the report stands. Trees of another sort (tags, attributes, a
+// label's inlines) are passed over, and have no index.
 #[cycle(walk)]
 fn validate_blocks(records: &mut Records, report: &mut Report)
     ensures { Done records.old records.new report.old.level report.old report.new
-        (validate_blocks records.old.bytes.now (path_of report.old) 0 first
+        (validate_blocks records.old.bytes.now (path_of report.old) 0 no_block
         (trees records.old report.old.level)) }
 {
     let level = report.level;
-    let mut before = Before {
-        kind: 0,
-        a: 0,
-        b: 0,
-    };
+    let mut before = None;
     // the index that goes into the path; `roots` would go over each tree once more than the walk of it does
     let mut k: u32 = 0;
     while let Some(r) = records.next_under(level) {
+        if !kinds::is_block(r.kind) {
+            records.skip(r.level);
+            continue;
+        }
         report.enter(k, r.level);
-        validate_block(records, report, before, r);
+        validate_taken_block(report, before, r);
+        validate_block(records, report, r);
         report.leave(level);
-        before = before_at(before, r);
-        k = index_at(k, r.kind);
+        before = before_next(before, r);
+        k += 1;
     }
 }
 
-// The record `r`, at which the report stands and whose children are next: the rules of it and `before`, the block
-// before it; then its own rules; then its items or blocks. A record that is not a block is passed over.
+// The block `r`, at which the report stands and whose children are next: its own rules, then its items or blocks.
 #[cycle(walk)]
-fn validate_block(records: &mut Records, report: &mut Report, before: Before, r: Rec)
+fn validate_block(records: &mut Records, report: &mut Report, r: Rec)
     ensures { Done records.old records.new report.old.level report.old report.new
-        (block_at records.old.bytes.now (path_of report.old) before r
-        (trees records.old report.old.level)) }
+        (validate_block records.old.bytes.now (path_of report.old) r
+        (trees records.old report.old.level)
+        (validate_list_items records.old.bytes.now (path_of report.old) 0 r.a r.c
+        (trees records.old report.old.level))
+        (validate_blocks records.old.bytes.now (path_of report.old) 0 no_block
+        (trees records.old report.old.level))) }
 {
-    if !kinds::is_block(r.kind) {
-        records.skip(report.level);
-        return;
-    }
-    validate_taken_block(report, before, r);
     validate_own(records, report, r);
     if r.kind == kinds::LIST {
         validate_list_items(records, report, r);
@@ -102,7 +103,7 @@ fn validate_item(records: &mut Records, report: &mut Report, outer: u32, list: R
         (validate_item (path_of report.old) list.a list.c
         (is_last records.old report.old.level outer) r
         (trees records.old report.old.level)
-        (validate_blocks records.old.bytes.now (path_of report.old) 0 first
+        (validate_blocks records.old.bytes.now (path_of report.old) 0 no_block
         (trees records.old report.old.level))) }
 {
     validate_item_number(report, r.span, list.a, item_number(r.b, r.c));

@@ -1,20 +1,126 @@
--- What was gathered is what the definitions of `Content` ask.
+-- What the definitions of `Content` say tree by tree; and what was gathered is what they ask.
 use mathlib.Core.Path.{◌≡◌, refl, ap, sym, ◌∙◌}
-use mathlib.Core.Bool.{Bool, true, false, not, ◌&&◌, ◌||◌, and_assoc, and-true, and-false, or-true, or-false, not-not}
-use mathlib.Core.List.{List}
+use mathlib.Core.Bool.{Bool, true, false, cond, not, ◌&&◌, ◌||◌, and_assoc, and-true, and-false, or-true, or-false, not-not}
+use mathlib.Core.List.{List, [], ◌∷◌, map}
 use Prim.Native.Nat.{ℕ}
 use lib.Dec.{eqb}
-use Rattle.leaves.specs.Text.Lists.{when◌then◌else◌}
+use Rattle.std.specs.Prelude.{filter}
+use Rattle.leaves.specs.Text.Lists.{when◌then◌else◌, all, is_empty_list, first_or, last_or}
 use Rattle.leaves.specs.Sheet.Kinds.{is_inline, line_break}
 use Rattle.leaves.specs.Sheet.Forest.{Forest, none, tree}
-use Rattle.leaves.specs.Report.Entries.{list_if}
+use Rattle.leaves.specs.Report.Entries.{Entry, list_if}
+use Rattle.leaves.specs.declared.sheet.records.Rec.{Rec}
 use Rattle.inlines.specs.ContentGathered.{no_content, with_inline, content_after, content_of, break_entry}
-use Rattle.inlines.specs.Content.{no_inline, all_empty, starts_with_whitespace, ends_with_whitespace_after, ends_with_whitespace, holds_joined, final_break_after, final_break}
-use Rattle.leaves.specs.Report.Rules
+use Rattle.inlines.specs.Content.{inlines_of, no_inline, all_empty, without_empty_texts, starts_with_whitespace, ends_with_whitespace, is_one_joined, holds_joined, break_entries, final_break}
 use Rattle.leaves.specs.Sheet.Empty.{is_empty_text}
 use Rattle.inlines.specs.Values.{starts_white, ends_white}
 use Rattle.leaves.specs.Sheet.Classes.{is_joined}
 use Rattle.inlines.specs.declared.content.Content.{Content}
+
+-- ---- the definitions of `Content` at no tree, and at a tree and those behind it
+module _ (r : Rec) (kids rest : Forest) where
+  pub no_inline-tree : no_inline (tree r kids rest) ≡ (not (is_inline r.kind) && no_inline rest)
+  unfolding no_inline inlines_of is_empty_list
+  no_inline-tree = go (is_inline r.kind)
+    where
+      go : (t : Bool) → is_empty_list (when t then r ∷ inlines_of rest else inlines_of rest) ≡ (not t && is_empty_list (inlines_of rest))
+      go true = refl
+      go false = refl
+
+  pub all_empty-tree : all_empty (tree r kids rest) ≡ ((not (is_inline r.kind) || is_empty_text r) && all_empty rest)
+  unfolding all_empty inlines_of all
+  all_empty-tree = go (is_inline r.kind)
+    where
+      go : (t : Bool) → all is_empty_text (when t then r ∷ inlines_of rest else inlines_of rest) ≡ ((not t || is_empty_text r) && all is_empty_text (inlines_of rest))
+      go true = refl
+      go false = refl
+
+  without-tree : without_empty_texts (tree r kids rest) ≡ (when not (is_inline r.kind) || is_empty_text r then without_empty_texts rest else r ∷ without_empty_texts rest)
+  unfolding without_empty_texts inlines_of
+  without-tree = go (is_inline r.kind)
+    where
+      none_empty : List Rec → List Rec
+      none_empty rs = filter (λ x. not (is_empty_text x)) rs
+
+      keep : (t : Bool) → cond (not t) (r ∷ none_empty (inlines_of rest)) (none_empty (inlines_of rest)) ≡ (when t then none_empty (inlines_of rest) else r ∷ none_empty (inlines_of rest))
+      keep true = refl
+      keep false = refl
+
+      go : (t : Bool) → none_empty (when t then r ∷ inlines_of rest else inlines_of rest) ≡ (when not t || is_empty_text r then none_empty (inlines_of rest) else r ∷ none_empty (inlines_of rest))
+      go true = keep (is_empty_text r)
+      go false = refl
+
+  starts-tree : (bytes : List ℕ) → starts_with_whitespace bytes (tree r kids rest) ≡ (when not (is_inline r.kind) || is_empty_text r then starts_with_whitespace bytes rest else starts_white bytes r)
+  unfolding starts_with_whitespace first_or
+  starts-tree bytes = ap (λ rs. first_or false (map (starts_white bytes) rs)) without-tree ∙ go (not (is_inline r.kind) || is_empty_text r)
+    where
+      go : (t : Bool) → first_or false (map (starts_white bytes) (when t then without_empty_texts rest else r ∷ without_empty_texts rest)) ≡ (when t then first_or false (map (starts_white bytes) (without_empty_texts rest)) else starts_white bytes r)
+      go true = refl
+      go false = refl
+
+  -- `last` is the answer for the inlines before these trees
+  ends-tree : (bytes : List ℕ) (last : Bool) → last_or last (map (ends_white bytes) (without_empty_texts (tree r kids rest))) ≡ last_or (when not (is_inline r.kind) || is_empty_text r then last else ends_white bytes r) (map (ends_white bytes) (without_empty_texts rest))
+  unfolding last_or
+  ends-tree bytes last = ap (λ rs. last_or last (map (ends_white bytes) rs)) without-tree ∙ go (not (is_inline r.kind) || is_empty_text r)
+    where
+      go : (t : Bool) → last_or last (map (ends_white bytes) (when t then without_empty_texts rest else r ∷ without_empty_texts rest)) ≡ last_or (when t then last else ends_white bytes r) (map (ends_white bytes) (without_empty_texts rest))
+      go true = refl
+      go false = refl
+
+  joined-tree : (outer a : ℕ) → holds_joined outer a (tree r kids rest) ≡ (when is_inline r.kind then is_joined outer a r.kind r.a && no_inline rest else holds_joined outer a rest)
+  unfolding holds_joined is_one_joined no_inline inlines_of
+  joined-tree outer a = go (is_inline r.kind)
+    where
+      go : (t : Bool) → is_one_joined outer a (when t then r ∷ inlines_of rest else inlines_of rest) ≡ (when t then is_joined outer a r.kind r.a && is_empty_list (inlines_of rest) else is_one_joined outer a (inlines_of rest))
+      go true = refl
+      go false = refl
+
+  -- `last` is the list for the inlines before these trees
+  pub last-tree : (path : List ℕ) (last : List Entry) → last_or last (map (break_entries path) (inlines_of (tree r kids rest))) ≡ last_or (when is_inline r.kind then break_entries path r else last) (map (break_entries path) (inlines_of rest))
+  unfolding inlines_of last_or
+  last-tree path last = go (is_inline r.kind)
+    where
+      go : (t : Bool) → last_or last (map (break_entries path) (when t then r ∷ inlines_of rest else inlines_of rest)) ≡ last_or (when t then break_entries path r else last) (map (break_entries path) (inlines_of rest))
+      go true = refl
+      go false = refl
+
+  -- the inline is the last where none is behind it
+  pub final_break-tree : (path : List ℕ) → final_break path (tree r kids rest) ≡ (when is_inline r.kind && no_inline rest then break_entries path r else final_break path rest)
+  unfolding final_break no_inline is_empty_list last_or
+  final_break-tree path = last-tree path [] ∙ go (is_inline r.kind) (inlines_of rest)
+    where
+      go : (t : Bool) (rs : List Rec) → last_or (when t then break_entries path r else []) (map (break_entries path) rs) ≡ (when t && is_empty_list rs then break_entries path r else last_or [] (map (break_entries path) rs))
+      go true [] = refl
+      go true (x ∷ xs) = refl
+      go false rs = refl
+
+no_inline-none : no_inline none ≡ true
+unfolding no_inline inlines_of is_empty_list
+no_inline-none = refl
+
+pub all_empty-none : all_empty none ≡ true
+unfolding all_empty inlines_of all
+all_empty-none = refl
+
+starts-none : (bytes : List ℕ) → starts_with_whitespace bytes none ≡ false
+unfolding starts_with_whitespace without_empty_texts inlines_of first_or
+starts-none bytes = refl
+
+ends-none : (bytes : List ℕ) (last : Bool) → last_or last (map (ends_white bytes) (without_empty_texts none)) ≡ last
+unfolding without_empty_texts inlines_of last_or
+ends-none bytes last = refl
+
+joined-none : (outer a : ℕ) → holds_joined outer a none ≡ false
+unfolding holds_joined is_one_joined inlines_of
+joined-none outer a = refl
+
+pub last-none : (path : List ℕ) (last : List Entry) → last_or last (map (break_entries path) (inlines_of none)) ≡ last
+unfolding inlines_of last_or
+last-none path last = refl
+
+pub final_break-none : (path : List ℕ) → final_break path none ≡ []
+unfolding final_break inlines_of last_or
+final_break-none path = refl
 
 -- ---- the first inline that is no empty text: the test of it counts, and none after it
 starts-now : (s e w x : Bool) → (s || e && not false && w || e && false && x) ≡ (s || e && w)
@@ -24,57 +130,57 @@ starts-now s false w x = or-false (s || false)
 -- ---- what was gathered of the trees, field by field
 module _ (bytes : List ℕ) (outer a : ℕ) where
   after-some : (c : Content) (f : Forest) → (content_after bytes outer a c f).some ≡ (c.some || not (no_inline f))
-  unfolding content_after no_inline with_inline
-  after-some c none = sym (or-false c.some)
-  after-some c (tree r kids rest) = after-some (with_inline bytes outer a c r) rest ∙ go (is_inline r.kind) refl
+  unfolding content_after with_inline
+  after-some c none = rw no_inline-none (sym (or-false c.some))
+  after-some c (tree r kids rest) = after-some (with_inline bytes outer a c r) rest ∙ rw (no_inline-tree r kids rest) (go (is_inline r.kind) refl)
     where
-      go : (t : Bool) → is_inline r.kind ≡ t → ((with_inline bytes outer a c r).some || not (no_inline rest)) ≡ (c.some || not (no_inline (tree r kids rest)))
+      go : (t : Bool) → is_inline r.kind ≡ t → ((with_inline bytes outer a c r).some || not (no_inline rest)) ≡ (c.some || not (not (is_inline r.kind) && no_inline rest))
       go true e = rw e (sym (or-true c.some))
       go false e = rw e
 
   after-empty : (c : Content) (f : Forest) → (content_after bytes outer a c f).empty ≡ (c.empty && all_empty f)
-  unfolding content_after all_empty with_inline
-  after-empty c none = sym (and-true c.empty)
-  after-empty c (tree r kids rest) = after-empty (with_inline bytes outer a c r) rest ∙ go (is_inline r.kind) refl
+  unfolding content_after with_inline
+  after-empty c none = rw all_empty-none (sym (and-true c.empty))
+  after-empty c (tree r kids rest) = after-empty (with_inline bytes outer a c r) rest ∙ rw (all_empty-tree r kids rest) (go (is_inline r.kind) refl)
     where
-      go : (t : Bool) → is_inline r.kind ≡ t → ((with_inline bytes outer a c r).empty && all_empty rest) ≡ (c.empty && all_empty (tree r kids rest))
+      go : (t : Bool) → is_inline r.kind ≡ t → ((with_inline bytes outer a c r).empty && all_empty rest) ≡ (c.empty && ((not (is_inline r.kind) || is_empty_text r) && all_empty rest))
       go true e = rw e (and_assoc c.empty (is_empty_text r) (all_empty rest))
       go false e = rw e
 
   after-starts : (c : Content) (f : Forest) → (content_after bytes outer a c f).starts ≡ (c.starts || c.empty && starts_with_whitespace bytes f)
-  unfolding content_after starts_with_whitespace with_inline
-  after-starts c none = rw (and-false c.empty) (sym (or-false c.starts))
-  after-starts c (tree r kids rest) = after-starts (with_inline bytes outer a c r) rest ∙ go (is_inline r.kind) refl (is_empty_text r) refl
+  unfolding content_after with_inline
+  after-starts c none = rw (starts-none bytes, and-false c.empty) (sym (or-false c.starts))
+  after-starts c (tree r kids rest) = after-starts (with_inline bytes outer a c r) rest ∙ rw (starts-tree r kids rest bytes) (go (is_inline r.kind) refl (is_empty_text r) refl)
     where
-      go : (t : Bool) → is_inline r.kind ≡ t → (m : Bool) → is_empty_text r ≡ m → ((with_inline bytes outer a c r).starts || (with_inline bytes outer a c r).empty && starts_with_whitespace bytes rest) ≡ (c.starts || c.empty && starts_with_whitespace bytes (tree r kids rest))
+      go : (t : Bool) → is_inline r.kind ≡ t → (m : Bool) → is_empty_text r ≡ m → ((with_inline bytes outer a c r).starts || (with_inline bytes outer a c r).empty && starts_with_whitespace bytes rest) ≡ (c.starts || c.empty && (when not (is_inline r.kind) || is_empty_text r then starts_with_whitespace bytes rest else starts_white bytes r))
       go true e true m = rw (e, m, and-true c.empty, and-false c.empty, or-false c.starts)
       go true e false m = rw (e, m) (starts-now c.starts c.empty (starts_white bytes r) (starts_with_whitespace bytes rest))
       go false e _ m = rw e
 
-  after-ends : (c : Content) (f : Forest) → (content_after bytes outer a c f).ends ≡ ends_with_whitespace_after bytes c.ends f
-  unfolding content_after ends_with_whitespace_after with_inline
-  after-ends c none = refl
-  after-ends c (tree r kids rest) = after-ends (with_inline bytes outer a c r) rest ∙ ap (λ b. ends_with_whitespace_after bytes b rest) (go (is_inline r.kind) refl)
+  after-ends : (c : Content) (f : Forest) → (content_after bytes outer a c f).ends ≡ last_or c.ends (map (ends_white bytes) (without_empty_texts f))
+  unfolding content_after with_inline
+  after-ends c none = sym (ends-none bytes c.ends)
+  after-ends c (tree r kids rest) = after-ends (with_inline bytes outer a c r) rest ∙ ap (λ b. last_or b (map (ends_white bytes) (without_empty_texts rest))) (go (is_inline r.kind) refl) ∙ sym (ends-tree r kids rest bytes c.ends)
     where
       go : (t : Bool) → is_inline r.kind ≡ t → (with_inline bytes outer a c r).ends ≡ (when not (is_inline r.kind) || is_empty_text r then c.ends else ends_white bytes r)
       go true e = rw e
       go false e = rw e
 
   after-joined : (c : Content) (f : Forest) → (content_after bytes outer a c f).joined ≡ (c.joined && no_inline f || not c.some && holds_joined outer a f)
-  unfolding content_after no_inline holds_joined with_inline
-  after-joined c none = rw (and-true c.joined, and-false (not c.some)) (sym (or-false c.joined))
-  after-joined c (tree r kids rest) = after-joined (with_inline bytes outer a c r) rest ∙ go (is_inline r.kind) refl
+  unfolding content_after with_inline
+  after-joined c none = rw (no_inline-none, joined-none outer a, and-true c.joined, and-false (not c.some)) (sym (or-false c.joined))
+  after-joined c (tree r kids rest) = after-joined (with_inline bytes outer a c r) rest ∙ rw (no_inline-tree r kids rest, joined-tree r kids rest outer a) (go (is_inline r.kind) refl)
     where
-      go : (t : Bool) → is_inline r.kind ≡ t → ((with_inline bytes outer a c r).joined && no_inline rest || not (with_inline bytes outer a c r).some && holds_joined outer a rest) ≡ (c.joined && no_inline (tree r kids rest) || not c.some && holds_joined outer a (tree r kids rest))
+      go : (t : Bool) → is_inline r.kind ≡ t → ((with_inline bytes outer a c r).joined && no_inline rest || not (with_inline bytes outer a c r).some && holds_joined outer a rest) ≡ (c.joined && (not (is_inline r.kind) && no_inline rest) || not c.some && (when is_inline r.kind then is_joined outer a r.kind r.a && no_inline rest else holds_joined outer a rest))
       go true e = rw (e, and-false c.joined) (or-false _ ∙ and_assoc (not c.some) (is_joined outer a r.kind r.a) (no_inline rest))
       go false e = rw e
 
-  after_last : (path : List ℕ) (c : Content) (f : Forest) → break_entry path (content_after bytes outer a c f).last_break ≡ final_break_after path (break_entry path c.last_break) f
-  unfolding content_after final_break_after with_inline break_entry list_if
-  after_last path c none = refl
-  after_last path c (tree r kids rest) = after_last path (with_inline bytes outer a c r) rest ∙ ap (λ es. final_break_after path es rest) (go (is_inline r.kind) refl (eqb r.kind line_break) refl)
+  after_last : (path : List ℕ) (c : Content) (f : Forest) → break_entry path (content_after bytes outer a c f).last_break ≡ last_or (break_entry path c.last_break) (map (break_entries path) (inlines_of f))
+  unfolding content_after with_inline break_entry break_entries list_if
+  after_last path c none = sym (last-none path (break_entry path c.last_break))
+  after_last path c (tree r kids rest) = after_last path (with_inline bytes outer a c r) rest ∙ ap (λ es. last_or es (map (break_entries path) (inlines_of rest))) (go (is_inline r.kind) refl (eqb r.kind line_break) refl) ∙ sym (last-tree r kids rest path (break_entry path c.last_break))
     where
-      go : (t : Bool) → is_inline r.kind ≡ t → (m : Bool) → eqb r.kind line_break ≡ m → break_entry path (with_inline bytes outer a c r).last_break ≡ (when is_inline r.kind then list_if (eqb r.kind line_break) Rules.final_hard_break r.span path else break_entry path c.last_break)
+      go : (t : Bool) → is_inline r.kind ≡ t → (m : Bool) → eqb r.kind line_break ≡ m → break_entry path (with_inline bytes outer a c r).last_break ≡ (when is_inline r.kind then break_entries path r else break_entry path c.last_break)
       go true e true m = rw (e, m)
       go true e false m = rw (e, m)
       go false e _ m = rw e

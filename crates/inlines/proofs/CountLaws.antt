@@ -25,7 +25,8 @@ use Rattle.inlines.specs.Own.{validate_inline_values}
 use Rattle.inlines.specs.Link.{validate_link_text}
 use Rattle.inlines.specs.Attribute.{validate_directive_attributes}
 use Rattle.inlines.specs.Depth.{each_record, validate_cell_values, validate_one_line}
-use Rattle.inlines.specs.Content.{no_inline, all_empty, starts_with_whitespace, ends_with_whitespace, holds_joined, final_break_after, final_break}
+use Rattle.inlines.specs.Content.{no_inline, all_empty, starts_with_whitespace, ends_with_whitespace, holds_joined, break_entries, final_break}
+use Rattle.inlines.proofs.ContentLaws.{final_break-none, final_break-tree}
 use Rattle.inlines.specs.Node.{validate_text_directive, validate_emphasis_container, validate_inline}
 use Rattle.inlines.specs.Nodes.{validate_node, validate_inline_nodes_after, validate_inline_nodes, validate_inlines}
 
@@ -53,9 +54,7 @@ unfoldable pub node_entries : List ℕ → List ℕ → ℕ → Rec → Forest �
 node_entries bytes path before r kids =
     when is_inline r.kind then validate_siblings path r.span before r.kind r.a ⊕ own_entries bytes path r kids else []
 
--- as the last of them: 30
-unfoldable pub break_entries : List ℕ → Rec → List Entry
-break_entries path r = list_if (eqb r.kind line_break) Rules.final_hard_break r.span path
+-- as the last of them: `break_entries` of `Content` (30)
 
 -- as a directive's attribute: 55
 unfoldable pub attribute_entries : List ℕ → List ℕ → Rec → List Entry
@@ -103,16 +102,10 @@ either-length true x y = omega arith
 either-length false x y = omega arith
 
 -- at most one of the trees side by side is the last
-final-after : (path : List ℕ) (last : List Entry) (f : Forest) → length (final_break_after path last f) ≤ length last + sum_roots (λ r. length (break_entries path r)) f
-unfolding final_break_after sum_roots break_entries
-final-after path last none = omega arith
-final-after path last (tree r kids rest) =
-    let now = list_if (eqb r.kind line_break) Rules.final_hard_break r.span path in
-    omega (arith, final-after path (when is_inline r.kind then now else last) rest, either-length (is_inline r.kind) now last)
-
 pub final-few : (path : List ℕ) (f : Forest) → length (final_break path f) ≤ sum_roots (λ r. length (break_entries path r)) f
-unfolding final_break
-final-few path f = omega (arith, final-after path [] f)
+unfolding sum_roots
+final-few path none = rw (final_break-none path) (omega arith)
+final-few path (tree r kids rest) = rw (final_break-tree r kids rest path) (omega (arith, final-few path rest, either-length (is_inline r.kind && no_inline rest) (break_entries path r) (final_break path rest)))
 
 -- ---- one inline: what it lists of its children is charged to them
 module _ (bytes path : List ℕ) (r : Rec) (kids : Forest) where

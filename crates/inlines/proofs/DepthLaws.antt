@@ -5,7 +5,7 @@ use mathlib.Core.List.{List, []}
 use Prim.Native.Nat.{ℕ, ◌+◌, ◌<◌}
 use Rattle.leaves.specs.Sheet.Records.{record_at}
 use Rattle.leaves.specs.Sheet.Forest.{Forest, none, tree, under}
-use Rattle.leaves.specs.Sheet.Trees.{trees, Reads}
+use Rattle.leaves.specs.Sheet.Trees.{trees, ReadsNext}
 use Rattle.leaves.specs.Report.Entries.{Entry, list_if, ◌⊕◌}
 use Rattle.leaves.specs.declared.sheet.records.Rec.{Rec}
 use Rattle.leaves.specs.declared.sheet.trees.Records.{Records}
@@ -31,7 +31,7 @@ each_step entries w n i l b d =
     ∙ ap (λ es. entries (record_at w i) ⊕ es) (sym (spine-kids (each_record entries) (λ r kids. entries r ⊕ each_record entries kids) (each_none entries) (each-tree entries) w n i l b d))
 
 -- a record is read, and the records behind it are those that are left
-each-read : (entries : Rec → List Entry) {y z : Records} {level : ℕ} {r : Rec} → Reads y z level r → each_record entries (trees y level) ≡ entries r ⊕ each_record entries (trees z level)
+each-read : (entries : Rec → List Entry) {y z : Records} {level : ℕ} {r : Rec} → ReadsNext y z level r → each_record entries (trees y level) ≡ entries r ⊕ each_record entries (trees z level)
 each-read entries {y} {z} {level} {r} reads =
     let e = trees-moved level reads.moved in
     let i = reads.is in
@@ -41,6 +41,6 @@ each-read entries {y} {z} {level} {r} reads =
 abbrev pub fault_in : (Rec → Bool) → ℕ → List ℕ → Rec → List Entry
 fault_in test rule path r = list_if (test r) rule r.span path
 
-pub each_turn : (test : Rec → Bool) (rule : ℕ) {es : List Entry} {level : ℕ} {x y z : Records} {p q o : Report} {r : Rec} {f : Bool} → Loop es (each_record (fault_in test rule (path_of p))) level x y p q → Reads y z level r → f ≡ test r → Adds q o (list_if f rule r.span (path_of q)) → Loop es (each_record (fault_in test rule (path_of p))) level x z p o
+pub each_turn : (test : Rec → Bool) (rule : ℕ) {es : List Entry} {level : ℕ} {x y z : Records} {p q o : Report} {r : Rec} {f : Bool} → Loop es (each_record (fault_in test rule (path_of p))) level x y p q → ReadsNext y z level r → f ≡ test r → Adds q o (list_if f rule r.span (path_of q)) → Loop es (each_record (fault_in test rule (path_of p))) level x z p o
 each_turn test rule {p = p} v reads g k =
     loop-turn v (passing-step v.passing reads) (each-read (fault_in test rule (path_of p)) reads) (rw (g, loop-path v) at k)

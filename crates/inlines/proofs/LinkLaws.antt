@@ -6,7 +6,7 @@ use Prim.Native.Nat.{ℕ, ◌+◌}
 use native.Mathlib.Nat.{add-zero}
 use Rattle.leaves.specs.Text.Lists.{when◌then◌else◌}
 use Rattle.leaves.specs.Sheet.Forest.{Forest, none, tree, size}
-use Rattle.leaves.specs.Sheet.Trees.{trees, Moved, Reads}
+use Rattle.leaves.specs.Sheet.Trees.{trees, Moved, ReadsNext}
 use Rattle.leaves.specs.Sheet.Classes.{is_link}
 use Rattle.leaves.specs.Report.Entries.{Entry, list_if, ◌⊕◌}
 use Rattle.leaves.specs.Report.Rules
@@ -39,7 +39,7 @@ none-listed span path es = none-join es
 abbrev Past : Records → Records → ℕ → Bool → Type 0
 Past z u level found = Moved z u (z.next + (when found then size (trees z level) else 0))
 
-module _ (path : List ℕ) {y z u : Records} {level : ℕ} {r : Rec} (reads : Reads y z level r) where
+module _ (path : List ℕ) {y z u : Records} {level : ℕ} {r : Rec} (reads : ReadsNext y z level r) where
   links-step : (t : Bool) → is_link r.kind ≡ t → Past z u r.level t → validate_link_text path (trees y level) ≡ list_if t Rules.link_in_link r.span path ⊕ validate_link_text path (trees u level)
   links-step true e m = rw (reads-tree reads m) (rw links-tree (rw e))
   links-step false e m =
@@ -52,5 +52,5 @@ module _ (path : List ℕ) {y z u : Records} {level : ℕ} {r : Rec} (reads : Re
   links-past v false m = passing-same (passing-step v reads) (moved-at m (add-zero z.next))
 
 -- a turn, by what the calls answered of the record and of where to go on
-pub links-turn : {es : List Entry} {level : ℕ} {x y z u : Records} {p q o : Report} {r : Rec} {f : Bool} → Loop es (validate_link_text (path_of p)) level x y p q → Reads y z level r → f ≡ is_link r.kind → Adds q o (list_if f Rules.link_in_link r.span (path_of q)) → Past z u r.level f → Loop es (validate_link_text (path_of p)) level x u p o
+pub links-turn : {es : List Entry} {level : ℕ} {x y z u : Records} {p q o : Report} {r : Rec} {f : Bool} → Loop es (validate_link_text (path_of p)) level x y p q → ReadsNext y z level r → f ≡ is_link r.kind → Adds q o (list_if f Rules.link_in_link r.span (path_of q)) → Past z u r.level f → Loop es (validate_link_text (path_of p)) level x u p o
 links-turn {p = p} {f = f} v reads g k m = loop-turn v (links-past (path_of p) reads v.passing f m) (links-step (path_of p) reads f (sym g) m) (rw (loop-path v) at k)

@@ -7,7 +7,7 @@ use borrow.Author.Tests.{not-true, not-false}
 use Rattle.leaves.specs.Text.Lists.{when◌then◌else◌}
 use Rattle.leaves.specs.Sheet.Kinds.{is_inline}
 use Rattle.leaves.specs.Sheet.Forest.{Forest, none, tree, size}
-use Rattle.leaves.specs.Sheet.Trees.{trees, Moved, Reads}
+use Rattle.leaves.specs.Sheet.Trees.{trees, Moved, ReadsNext}
 use Rattle.leaves.specs.Report.Entries.{Entry, ◌⊕◌}
 use Rattle.leaves.specs.declared.sheet.records.Rec.{Rec}
 use Rattle.leaves.specs.declared.sheet.trees.Records.{Records}
@@ -54,7 +54,7 @@ module _ (before : ℕ) (r : Rec) {f : Bool} (g : f ≡ is_inline r.kind) where
   pub kind-other : f ≡ false → before ≡ kind_after before r
   kind-other h = rw (← g, h)
 
-pub nodes-turn : (before : ℕ) {es : List Entry} {level : ℕ} {x y z u : Records} {p q o : Report} {r : Rec} {b : ℕ} → Loop es (validate_inline_nodes_after x.bytes.now (path_of p) before) level x y p q → Reads y z level r → Done z u r.level q o (validate_node z.bytes.now (path_of q) before r (trees z r.level) (under_of z.bytes.now (path_of q) (trees z r.level))) → b ≡ kind_after before r → Loop es (validate_inline_nodes_after x.bytes.now (path_of p) b) level x u p o
+pub nodes-turn : (before : ℕ) {es : List Entry} {level : ℕ} {x y z u : Records} {p q o : Report} {r : Rec} {b : ℕ} → Loop es (validate_inline_nodes_after x.bytes.now (path_of p) before) level x y p q → ReadsNext y z level r → Done z u r.level q o (validate_node z.bytes.now (path_of q) before r (trees z r.level) (under_of z.bytes.now (path_of q) (trees z r.level))) → b ≡ kind_after before r → Loop es (validate_inline_nodes_after x.bytes.now (path_of p) b) level x u p o
 nodes-turn before {x = x} {p = p} {r = r} v reads d l =
     rw l (loop-turn v (passing-tree v.passing reads d.moved) (rw (reads-tree reads d.moved) (nodes-tree x.bytes.now (path_of p) before r _ _)) (rw (loop-path v, loop-bytes v reads) at d.adds))
 

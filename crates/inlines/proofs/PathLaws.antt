@@ -4,7 +4,7 @@ use mathlib.Core.List.{List, [], ◌∷◌, ◌++◌}
 use Prim.Native.Nat.{ℕ, ◌+◌, ◌<◌, ◌≤◌}
 use native.Mathlib.Omega.{arith}
 use Rattle.leaves.specs.Sheet.Forest.{Forest}
-use Rattle.leaves.specs.Sheet.Trees.{trees, Reads}
+use Rattle.leaves.specs.Sheet.Trees.{trees, ReadsNext}
 use Rattle.leaves.specs.Report.Entries.{Entry, ◌⊕◌}
 use Rattle.leaves.specs.Report.Listed.{path_of, Adds, Enters, Leaves}
 use Rattle.leaves.specs.declared.sheet.records.Rec.{Rec}
@@ -25,7 +25,7 @@ module _ {x : Records} {p : Report} where
 
   module _ {es : List Entry} {h : Forest → List Entry} {y : Records} {q : Report} {k : ℕ} (v : Paced es h x y p q k) where
     -- the tree that was read can be entered: its record is deeper than where the report stands, and no level is above 64
-    pub paced-enter : {z : Records} {r : Rec} → Reads y z p.level r → (q.level < r.level) × (r.level ≤ 64)
+    pub paced-enter : {z : Records} {r : Rec} → ReadsNext y z p.level r → (q.level < r.level) × (r.level ≤ 64)
     paced-enter reads = let l : q.level ≡ p.level = v.loop.adds.level in let d = reads.deep in (omega arith, reads-most reads)
 
     module _ {a : Report} {m : ℕ} (e : Enters q a k m) where

@@ -12,7 +12,7 @@ use Rattle.leaves.specs.Refusal.Limits.{most_records, most_level}
 use Rattle.leaves.specs.Refusal.Formed.{Sound}
 use Rattle.leaves.specs.Sheet.Records.{record_at, records_of, record_words}
 use Rattle.leaves.specs.Sheet.Forest.{Forest, none, tree, deeper, past, forest_at, under, size}
-use Rattle.leaves.specs.Sheet.Trees.{trees, Reads, Ends}
+use Rattle.leaves.specs.Sheet.Trees.{trees, ReadsNext, Ends}
 use Rattle.leaves.specs.Report.Entries.{Entry, ◌⊕◌}
 use Rattle.leaves.specs.Report.Listed.{path_of, Adds}
 use Rattle.leaves.specs.declared.sheet.records.Rec.{Rec}
@@ -52,7 +52,7 @@ module _ (h : Forest → List Entry) (g : Rec → Forest → List Entry) (at_non
     spine-on e = spine-tree ∙ rw e (sym spine-kids)
 
   -- the same of a record that was read
-  pub reads-on : {y z : Records} {level : ℕ} {r : Rec} → Reads y z level r → g r (trees z r.level) ≡ h (trees z r.level) → h (trees y level) ≡ h (trees z level)
+  pub reads-on : {y z : Records} {level : ℕ} {r : Rec} → ReadsNext y z level r → g r (trees z r.level) ≡ h (trees z r.level) → h (trees y level) ≡ h (trees z level)
   reads-on {y} {z} {level} {r} reads e =
       let t : trees z level ≡ under y.sheet.now y.n (y.next + 1) level = trees-moved level reads.moved in
       rw t (spine-on y.sheet.now y.n y.next level reads.inside (reads-deep reads) (rw (reads-kids reads, reads.is) at e))
@@ -75,7 +75,7 @@ module _ {level : ℕ} {x : Records} {p : Report} where
     loop-path = v.adds.path
 
     -- .. and so is the text
-    pub loop-bytes : {z : Records} {r : Rec} → Reads y z level r → z.bytes ≡ x.bytes
+    pub loop-bytes : {z : Records} {r : Rec} → ReadsNext y z level r → z.bytes ≡ x.bytes
     loop-bytes reads = reads.moved.bytes ∙ v.passing.moved.bytes
 
     -- some entries are listed, and the rest, g, of the records that u has next

@@ -1,6 +1,7 @@
 -- The entries that validate.rs reports for the attributes of a directive, in its order.
 -- `path` is the path of the enclosing block or cell.
 use Rattle.std.specs.Prelude.{ℕ, List, []}
+use Rattle.leaves.specs.Sheet.Records.{no_span}
 use Rattle.leaves.specs.Sheet.Forest.{Forest, none, tree}
 use Rattle.leaves.specs.Report.Entries.{Entry, list_if, ◌⊕◌}
 use Rattle.leaves.specs.Report.Rules
@@ -11,5 +12,5 @@ use Rattle.inlines.specs.Values.{is_bad_attribute}
 unfoldable pub validate_directive_attributes : List ℕ → List ℕ → Forest → List Entry
 validate_directive_attributes bytes path none = []
 validate_directive_attributes bytes path (tree r kids rest) =
-    list_if (is_bad_attribute bytes r) Rules.attribute_name (record { flag = 0; start = 0; end = 0 }) path
+    list_if (is_bad_attribute bytes r) Rules.attribute_name no_span path
     ⊕ validate_directive_attributes bytes path rest

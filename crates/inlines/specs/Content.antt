@@ -1,61 +1,57 @@
 -- What validate.rs asks of inlines side by side. A definition has the name of its function where there is one.
--- The inlines are trees of a forest; trees of another sort (attributes, tags, blocks) are passed over.
+-- validate.rs is given the list of the inlines: here it is `inlines_of` a forest, and all others look at that list.
 -- `path` is the path of the enclosing block or cell.
-use Rattle.std.specs.Prelude.{ℕ, Bool, true, false, not, ◌&&◌, ◌||◌, List, [], eqb}
-use Rattle.leaves.specs.Text.Lists.{when◌then◌else◌}
+use Rattle.std.specs.Prelude.{ℕ, Bool, false, not, ◌&&◌, List, [], ◌∷◌, map, filter, eqb}
+use Rattle.leaves.specs.Text.Lists.{when◌then◌else◌, all, is_empty_list, first_or, last_or}
 use Rattle.leaves.specs.Sheet.Kinds.{is_inline, line_break}
 use Rattle.leaves.specs.Sheet.Forest.{Forest, none, tree}
 use Rattle.leaves.specs.Report.Entries.{Entry, list_if}
 use Rattle.leaves.specs.Report.Rules
+use Rattle.leaves.specs.declared.sheet.records.Rec.{Rec}
 use Rattle.leaves.specs.Sheet.Empty.{is_empty_text}
 use Rattle.inlines.specs.Values.{starts_white, ends_white}
 use Rattle.leaves.specs.Sheet.Classes.{is_joined}
 
--- none of the trees is an inline
+-- The inlines side by side, in their order. Trees of another sort (attributes, tags, blocks) are passed over.
+unfoldable pub inlines_of : Forest → List Rec
+inlines_of none = []
+inlines_of (tree r kids rest) = when is_inline r.kind then r ∷ inlines_of rest else inlines_of rest
+
+-- `children.is_empty()` of an inline footnote: there is no inline
 unfoldable pub no_inline : Forest → Bool
-no_inline none = true
-no_inline (tree r kids rest) = not (is_inline r.kind) && no_inline rest
+no_inline f = is_empty_list (inlines_of f)
 
 -- `inlines.iter().all(is_empty_text)`
 unfoldable pub all_empty : Forest → Bool
-all_empty none = true
-all_empty (tree r kids rest) = (not (is_inline r.kind) || is_empty_text r) && all_empty rest
+all_empty f = all is_empty_text (inlines_of f)
 
--- `starts_with_whitespace`: the first inline that is not an empty text starts with white space
+-- the inlines that are not empty texts
+unfoldable pub without_empty_texts : Forest → List Rec
+without_empty_texts f = filter (λ r. not (is_empty_text r)) (inlines_of f)
+
+-- `starts_with_whitespace`: the first inline that is not an empty text starts with white space; false where there is
+-- none
 unfoldable pub starts_with_whitespace : List ℕ → Forest → Bool
-starts_with_whitespace bytes none = false
-starts_with_whitespace bytes (tree r kids rest) =
-    let later = starts_with_whitespace bytes rest in
-    when not (is_inline r.kind) || is_empty_text r then later else starts_white bytes r
+starts_with_whitespace bytes f = first_or false (map (starts_white bytes) (without_empty_texts f))
 
--- `ends_with_whitespace`: the last inline that is not an empty text ends with white space.
--- `last` is the answer for the inlines before these trees.
-unfoldable pub ends_with_whitespace_after : List ℕ → Bool → Forest → Bool
-ends_with_whitespace_after bytes last none = last
-ends_with_whitespace_after bytes last (tree r kids rest) =
-    ends_with_whitespace_after bytes
-    (when not (is_inline r.kind) || is_empty_text r then last else ends_white bytes r)
-    rest
-
+-- `ends_with_whitespace`: the last inline that is not an empty text ends with white space; false where there is none
 unfoldable pub ends_with_whitespace : List ℕ → Forest → Bool
-ends_with_whitespace bytes f = ends_with_whitespace_after bytes false f
+ends_with_whitespace bytes f = last_or false (map (ends_white bytes) (without_empty_texts f))
 
--- There is one inline alone, and it is written with the delimiter of its container.
--- `outer` is the container's kind, and `a` its A.
+-- The slice pattern `[inner]`: one record alone, and written with the delimiter of its container. `outer` is the
+-- container's kind, and `a` its A.
+unfoldable pub is_one_joined : ℕ → ℕ → List Rec → Bool
+is_one_joined outer a [] = false
+is_one_joined outer a (r ∷ later) = is_joined outer a r.kind r.a && is_empty_list later
+
+-- `joined` of `validate_emphasis_container`: there is one inline alone, and it is such a one
 unfoldable pub holds_joined : ℕ → ℕ → Forest → Bool
-holds_joined outer a none = false
-holds_joined outer a (tree r kids rest) =
-    let later = holds_joined outer a rest in
-    when is_inline r.kind then is_joined outer a r.kind r.a && no_inline rest else later
+holds_joined outer a f = is_one_joined outer a (inlines_of f)
 
--- The first part of `validate_inlines`: 30, where the last inline is a line break.
--- `last` is the list for the inlines before these trees.
-unfoldable pub final_break_after : List ℕ → List Entry → Forest → List Entry
-final_break_after path last none = last
-final_break_after path last (tree r kids rest) =
-    final_break_after path
-    (when is_inline r.kind then list_if (eqb r.kind line_break) Rules.final_hard_break r.span path else last)
-    rest
+-- 30 for one inline: listed where that is a line break
+unfoldable pub break_entries : List ℕ → Rec → List Entry
+break_entries path r = list_if (eqb r.kind line_break) Rules.final_hard_break r.span path
 
+-- the first part of `validate_inlines`, by `inlines.last()`: 30 for the last inline, and nothing where there is none
 unfoldable pub final_break : List ℕ → Forest → List Entry
-final_break path f = final_break_after path [] f
+final_break path f = last_or [] (map (break_entries path) (inlines_of f))

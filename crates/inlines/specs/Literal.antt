@@ -12,7 +12,8 @@ use Rattle.leaves.specs.Sheet.Empty.{is_empty}
 
 -- the arm of `validate_inline_nodes` for a text: 31
 unfoldable pub validate_text : List ℕ → List ℕ → Span → Text → List Entry
-validate_text bytes path span value = list_if (holds_line_ending (text_of bytes value)) Rules.line_ending_in_text span path
+validate_text bytes path span value =
+    list_if (holds_line_ending (text_of bytes value)) Rules.line_ending_in_text span path
 
 -- `validate_code_inline`: 44, 45
 unfoldable pub validate_code_inline : List ℕ → List ℕ → Span → Text → List Entry

@@ -9,9 +9,9 @@ use Rattle.leaves.specs.Sheet.Forest.{Forest, none, tree}
 use Rattle.leaves.specs.Report.Entries.{Entry, ◌⊕◌}
 use Rattle.leaves.specs.declared.sheet.records.Rec.{Rec}
 use Rattle.inlines.specs.Single.{validate_siblings}
-unfoldable pub use Rattle.inlines.specs.Content.{no_inline, all_empty, starts_with_whitespace}
-unfoldable pub use Rattle.inlines.specs.Content.{ends_with_whitespace_after, ends_with_whitespace}
-unfoldable pub use Rattle.inlines.specs.Content.{holds_joined, final_break_after, final_break}
+unfoldable pub use Rattle.inlines.specs.Content.{inlines_of, no_inline, all_empty, without_empty_texts}
+unfoldable pub use Rattle.inlines.specs.Content.{starts_with_whitespace, ends_with_whitespace}
+unfoldable pub use Rattle.inlines.specs.Content.{is_one_joined, holds_joined, break_entries, final_break}
 unfoldable pub use Rattle.inlines.specs.Own.{validate_inline_values}
 unfoldable pub use Rattle.inlines.specs.Node.{validate_text_directive, validate_emphasis_container, validate_inline}
 

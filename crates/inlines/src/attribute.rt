@@ -16,14 +16,10 @@ pub fn validate_directive_attributes(records: &mut Records, report: &mut Report,
         (validate_directive_attributes records.old.bytes.now (path_of report.old)
         (trees records.old level)) }
 {
-    let no_span = Span {
-        flag: 0,
-        start: 0,
-        end: 0,
-    };
+    // no `roots`: the records go on behind the attributes, as in the other walks
     while let Some(r) = records.next_under(level) {
         let fault = values::is_bad_attribute(records.bytes, r);
-        report.list_if(fault, Rule::AttributeName, no_span);
+        report.list_if(fault, Rule::AttributeName, Span::none());
         records.skip(r.level);
     }
 }

@@ -94,6 +94,7 @@ pub(crate) fn validate_last_break(report: &mut Report, last_break: Option<Span>)
 pub(crate) fn final_break(records: &Records, report: &mut Report, level: u32)
     ensures { Adds report.old report.new (final_break (path_of report.old) (trees records.now level)) }
 {
-    let c = gather(records, level, 0, 0);
+    // no container: 0 is no kind, and whether one is joined is not asked here
+    let c = gather(records, level, kinds::NO_KIND, 0);
     validate_last_break(report, c.last_break);
 }

@@ -1,5 +1,5 @@
-// The walks over every record of some trees, at any depth. Their loops differ in one test: a closure for it, with what it
-// promises, would be longer than the loop.
+// The walks over every record of some trees, at any depth. Their loops differ in one test: a closure for it, with what
+// it promises, would be longer than the loop.
 ghost use Rattle.leaves.specs.Sheet.Trees.{trees};
 ghost use Rattle.leaves.specs.Report.Listed.{path_of};
 ghost use Rattle.inlines.specs.Walk.{Done};
@@ -12,6 +12,7 @@ use leaves::sheet::classes;
 use leaves::sheet::trees::Records;
 
 // Rules 20, 22, 23: no break at any depth. A record's children follow it in the sheet, so one loop reaches all depths.
+// `rule` is a number and no `Rule`: what is promised is promised for every number.
 pub fn validate_one_line(records: &mut Records, report: &mut Report, level: u32, rule: u32)
     ensures { Done records.old records.new level report.old report.new
         (validate_one_line rule (path_of report.old) (trees records.old level)) }

@@ -2,7 +2,7 @@
 mod fields;
 mod groups;
 pub mod judge;
-pub(crate) mod limits;
+pub mod limits;
 pub mod places;
 mod record;
 mod tags;

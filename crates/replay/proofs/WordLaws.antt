@@ -10,7 +10,7 @@ use borrow.Author.Tests.{eq-eqb, ne_eqb}
 use lib.ListN.{length, take, drop, get_or, set, length-set, drop_of_length-le}
 use lib.Seq.{take-suc-set, take_all}
 use Rattle.leaves.proofs.text.ScanLaws.{next}
-use Rattle.replay.specs.Words.{up_to, agrees}
+use Rattle.replay.specs.Words.{up_to, agrees_from}
 
 -- the first k words are what `f` gives at their places
 pub record Filling (f : ℕ → ℕ) (old new : List ℕ) (k : ℕ) : Type 0 where
@@ -39,26 +39,26 @@ fill_end f old new k inv h =
 -- the first i numbers agree with `f`
 pub record Agreeing (f : ℕ → ℕ) (l : List ℕ) (i : ℕ) : Type 0 where
   pub within : i ≤ length l
-  pub same : agrees f 0 l ≡ agrees f i (drop i l)
+  pub same : agrees_from f 0 l ≡ agrees_from f i (drop i l)
 
 pub agree-start : (f : ℕ → ℕ) (l : List ℕ) → Agreeing f l 0
 agree-start f l = record { within = omega arith; same = refl }
 
 module _ (f : ℕ → ℕ) (l : List ℕ) (i v : ℕ) (inv : Agreeing f l i) (h : i < length l) (e : v ≡ f i) where
   pub agree-turn : get_or l i 0 ≡ v → Agreeing f l (i + 1)
-  unfolding agrees
+  unfolding agrees_from
   agree-turn p =
       record {
         within = omega arith;
-        same = inv.same ∙ ap (agrees f i) (next l i h) ∙ rw (eq-eqb (get_or l i 0) (f i) (p ∙ e), add-one i);
+        same = inv.same ∙ ap (agrees_from f i) (next l i h) ∙ rw (eq-eqb (get_or l i 0) (f i) (p ∙ e), add-one i);
       }
 
-  pub agree-stop : (get_or l i 0 ≡ v → ⊥) → false ≡ agrees f 0 l
-  unfolding agrees
-  agree-stop p = sym (inv.same ∙ ap (agrees f i) (next l i h) ∙ rw (ne_eqb (get_or l i 0) (f i) (λ q. p (q ∙ sym e))))
+  pub agree-stop : (get_or l i 0 ≡ v → ⊥) → false ≡ agrees_from f 0 l
+  unfolding agrees_from
+  agree-stop p = sym (inv.same ∙ ap (agrees_from f i) (next l i h) ∙ rw (ne_eqb (get_or l i 0) (f i) (λ q. p (q ∙ sym e))))
 
-pub agree-end : (f : ℕ → ℕ) (l : List ℕ) (i : ℕ) → Agreeing f l i → length l ≤ i → true ≡ agrees f 0 l
-unfolding agrees
-agree-end f l i inv h = sym (inv.same ∙ ap (agrees f i) (drop_of_length-le l {i = i} h))
+pub agree-end : (f : ℕ → ℕ) (l : List ℕ) (i : ℕ) → Agreeing f l i → length l ≤ i → true ≡ agrees_from f 0 l
+unfolding agrees_from
+agree-end f l i inv h = sym (inv.same ∙ ap (agrees_from f i) (drop_of_length-le l {i = i} h))
 
 pub ruleset words = (fill_start, fill-turn, fill_end, agree-start, agree-turn, agree-stop, agree-end, rules)

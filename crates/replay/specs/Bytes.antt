@@ -11,7 +11,8 @@ pair_at s at = byte_at s at + byte_at s (at + 1) * 0x100
 
 -- the number of four bytes
 unfoldable pub number_at : List ℕ → ℕ → ℕ
-number_at s at = byte_at s at + byte_at s (at + 1) * 0x100 + byte_at s (at + 2) * 0x10000 + byte_at s (at + 3) * 0x1000000
+number_at s at =
+    byte_at s at + byte_at s (at + 1) * 0x100 + byte_at s (at + 2) * 0x10000 + byte_at s (at + 3) * 0x1000000
 
 -- the number of eight bytes
 unfoldable pub long_at : List ℕ → ℕ → ℕ

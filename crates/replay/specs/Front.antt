@@ -11,8 +11,8 @@ use Rattle.replay.specs.Tally.{comparing}
 use Rattle.replay.specs.Words.{same_words}
 
 -- every word that is lent, before a call
-abbrev pub before : ℕ
-before = 0xA5A5A5A5
+abbrev pub before_word : ℕ
+before_word = 0xA5A5A5A5
 
 -- what neither function ever answers
 abbrev pub no_answer : ℕ
@@ -50,5 +50,5 @@ answered_of (Some function) w bytes lent m =
 -- the answer is compared, where the call fits, and every word: it is the stored one, and as before behind those
 unfoldable pub call_compared : Option Function → List ℕ → List ℕ → ℕ → List ℕ → Bool → ℕ → List ℕ → Tally → Tally
 call_compared function w bytes m lent fits answer stored t =
-    comparing (same_words (answered_of function w bytes lent m).1 stored before)
+    comparing (same_words (answered_of function w bytes lent m).1 stored before_word)
     (comparing (fits && eqb (answered_of function w bytes lent m).0 answer) t)

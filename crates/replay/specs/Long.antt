@@ -8,7 +8,7 @@ use Rattle.replay.specs.declared.tally.Tally.{Tally}
 use Rattle.replay.specs.Bytes.{number_at, long_at}
 use Rattle.replay.specs.Tally.{recorded}
 use Rattle.replay.specs.Words.{up_to, first_of}
-use Rattle.replay.specs.Front.{before, function_of, call_compared}
+use Rattle.replay.specs.Front.{before_word, function_of, call_compared}
 
 -- a word of a thematic break at level 1, by its field: the kind, the level, and 0 for each field behind them
 unfoldable pub break_word : ℕ → ℕ
@@ -31,8 +31,8 @@ unfoldable pub zeros : List ℕ
 zeros = replicate 16777217 0
 
 -- the words that are lent, before the call: a few more than a mark for each record that a sheet may have
-unfoldable pub untouched : List ℕ
-untouched = replicate 65544 before
+unfoldable pub untouched_words : List ℕ
+untouched_words = replicate 65544 before_word
 
 -- The answer is compared, and every lent word: as many bytes as the record says are the text's (zeros), and every word
 -- behind them is as before. The sheet and the text are the fronts of the long ones; the record has their lengths.
@@ -42,7 +42,7 @@ call_replayed r sheet text t =
     (first_of sheet (number_at r 4))
     (part_of text 0 (number_at r 8))
     (number_at r 12)
-    untouched
+    untouched_words
     (leb (number_at r 4) (length sheet))
     (long_at r 20)
     (part_of text 0 (number_at r 16))

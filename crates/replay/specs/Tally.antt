@@ -17,8 +17,8 @@ differences_of true = 0
 differences_of false = 1
 
 -- nothing is counted yet
-abbrev pub nothing : Tally
-nothing = record { records = 0; compared = 0; differ = 0 }
+abbrev pub no_records : Tally
+no_records = record { records = 0; compared = 0; differ = 0 }
 
 -- one record more
 unfoldable pub recorded : Tally → Tally

@@ -51,8 +51,8 @@ answers_for s =
     ∷ []
 
 -- the text of a record, whose length is its first byte
-abbrev pub text_of : List ℕ → List ℕ
-text_of r = part_of r 5 (byte_at r 0)
+abbrev pub tested_text : List ℕ → List ℕ
+tested_text r = part_of r 5 (byte_at r 0)
 
 -- the mask and the answers of a record
 abbrev pub mask_of : List ℕ → ℕ
@@ -63,4 +63,4 @@ answers_of r = number_at r 1 / 0x10000
 
 -- the tally after a record
 unfoldable pub text_replayed : List ℕ → Tally → Tally
-text_replayed r t = compared_bits (answers_for (text_of r)) 0 (mask_of r) (answers_of r) (recorded t)
+text_replayed r t = compared_bits (answers_for (tested_text r)) 0 (mask_of r) (answers_of r) (recorded t)

@@ -9,9 +9,9 @@ up_to zero f = []
 up_to (suc n) f = up_to n f ++ (f n ∷ [])
 
 -- every number is what `f` gives at its place, of which the first is k
-unfoldable pub agrees : (ℕ → ℕ) → ℕ → List ℕ → Bool
-agrees f k [] = true
-agrees f k (x ∷ xs) = eqb x (f k) && agrees f (suc k) xs
+unfoldable pub agrees_from : (ℕ → ℕ) → ℕ → List ℕ → Bool
+agrees_from f k [] = true
+agrees_from f k (x ∷ xs) = eqb x (f k) && agrees_from f (suc k) xs
 
 -- word k of the bytes
 abbrev pub word_of : List ℕ → ℕ → ℕ
@@ -31,7 +31,7 @@ word_or s rest at = when ltb at (length s) then number_at s at else rest
 
 -- every word is the one whose bytes stand at its place, and `rest` behind the bytes
 unfoldable pub same_words : List ℕ → List ℕ → ℕ → Bool
-same_words w s rest = agrees (λ k. word_or s rest (k * 4)) 0 w
+same_words w s rest = agrees_from (λ k. word_or s rest (k * 4)) 0 w
 
 -- a call answers the first of the pair, and the second is the words that it was lent, after it
 pub record Gives (both : ℕ × List ℕ) (answer : ℕ) (left : List ℕ) : Type 0 where

@@ -60,7 +60,7 @@ impl Format for Checks {
     }
 
     // Replays both calls with the same sheet and text.
-    #[tactic(auto, unfolding(crate::specs::Checks::checks_replayed, crate::specs::Checks::check_replayed, crate::specs::Checks::set_replayed, crate::specs::Checks::sheet_of, crate::specs::Checks::text_of, crate::specs::Checks::list_of, crate::specs::Checks::written_of, crate::specs::Sheets::sheet_in))]
+    #[tactic(auto, unfolding(crate::specs::Checks::checks_replayed, crate::specs::Checks::check_replayed, crate::specs::Checks::set_replayed, crate::specs::Checks::check_sheet, crate::specs::Checks::check_text, crate::specs::Checks::check_list, crate::specs::Checks::written_of, crate::specs::Sheets::sheet_in))]
     fn replay(&self, r: &[u8], tally: Tally) -> Tally {
         let mut sheet = [0u32; SHEET];
         let n = bytes::pair(r, 0);

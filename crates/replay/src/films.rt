@@ -2,7 +2,7 @@
 ghost use Rattle.std.specs.Prelude.{◌≡◌, ◌==◌, ◌+◌};
 ghost use Rattle.std.specs.List.{list_all};
 ghost use Rattle.replay.specs.Bytes.{number_at};
-ghost use Rattle.replay.specs.Films.{film_head, before, untouched, same_printed, film_replayed};
+ghost use Rattle.replay.specs.Films.{film_head, before_byte, untouched_bytes, same_printed, film_replayed};
 
 use crate::bytes;
 use crate::format::Format;
@@ -21,18 +21,18 @@ pub const MOST: usize = HEAD + INPUT_BYTES + OUTPUT_BYTES;
 // Every byte of the output before a film is listed.
 const BEFORE: u8 = 0xA5;
 
-// The output before a film is listed. The proofs of callers do not unfold `untouched`, and so do not compute so long a
-// list.
-#[tactic(auto, unfolding(crate::specs::Films::untouched))]
+// The output before a film is listed. The proofs of callers do not unfold `untouched_bytes`, and so do not compute so
+// long a list.
+#[tactic(auto, unfolding(crate::specs::Films::untouched_bytes))]
 fn output() -> [u8; OUTPUT_BYTES]
-    ensures { result ≡ untouched }
+    ensures { result ≡ untouched_bytes }
 {
     [BEFORE; OUTPUT_BYTES]
 }
 
 // Whether each byte is BEFORE.
 fn is_untouched(bytes: &[u8]) -> bool
-    ensures { result ≡ list_all (λ x. x == before) bytes.now }
+    ensures { result ≡ list_all (λ x. x == before_byte) bytes.now }
 {
     bytes.iter().all(|byte| *byte == BEFORE)
 }

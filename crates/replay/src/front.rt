@@ -17,7 +17,7 @@ pub enum Function {
 // Every word that is lent, before a call.
 pub const BEFORE: u32 = 0xA5A5_A5A5;
 
-// What neither function ever answers.
+// What neither function ever answers. It stands for no answer, and is compared like any other.
 const NONE: u64 = 0xFFFF_FFFF_FFFF_FFFF;
 
 impl Function {
@@ -70,8 +70,9 @@ impl Call<'_> {
         function.call(self.sheet, self.text, &mut words[..self.lent])
     }
 
-    // Compares the answer, where the call `fits`, and each of the words: it is the one that is stored, and BEFORE behind
-    // those, also where it was not lent. A struct of what is stored would be made only to be taken apart here.
+    // Compares the answer, where the call `fits`, and each of the words: it is the one that is stored, and BEFORE
+    // behind those, also where it was not lent. A struct of what is stored would be made only to be taken apart here, and
+    // so would an Option of `answer` for `fits`.
     #[tactic(auto, unfolding(crate::specs::Front::call_compared))]
     pub fn compare(
         &self,

@@ -22,7 +22,7 @@ const HEAD: usize = 6;
 const MOST: usize = 800;
 
 // Writes the list of the first block's inlines into the report, and answers how many words it has. Where the sheet has
-// no record or is refused, it writes nothing and answers 0.
+// no record or is refused, it writes nothing and answers 0, as the stored record has it: that is compared as it is.
 #[tactic(auto, using(crate::proofs::ListLaws::lists), unfolding(crate::specs::Lists::listed_of))]
 fn listed(sheet: &[u32], text: &[u8], report: &mut [u32]) -> usize
     ensures { Gives (listed_of sheet.now text.now report.old)

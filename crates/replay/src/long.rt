@@ -2,7 +2,7 @@
 // bytes the text, how many words are lent to be written into, and how many bytes of those are 0 after the call (4 bytes
 // each); then the answer (8 bytes). The sheet is of thematic breaks, the text of zeros.
 ghost use Rattle.std.specs.Prelude.{◌≡◌, length, IfOk};
-ghost use Rattle.replay.specs.Long.{break_word, breaks_of, unfilled, zeros, untouched, call_replayed};
+ghost use Rattle.replay.specs.Long.{break_word, breaks_of, unfilled, zeros, untouched_words, call_replayed};
 
 use crate::format::Format;
 use crate::front::{BEFORE, Call, Function};
@@ -25,8 +25,9 @@ const TEXT: usize = 16777217;
 // A few words more than a mark for each record that a sheet may have.
 const LENT: usize = 65544;
 
-// The long sheet before it is filled, the long text, and what is lent before a call. The proofs of callers do not
-// unfold `unfilled`, `zeros` and `untouched`, and so do not compute such long lists.
+// The long sheet before it is filled, the long text, and what is lent before a call. They are three functions, since each
+// promises another list by its name, which no caller computes. The proofs of callers do not
+// unfold `unfilled`, `zeros` and `untouched_words`, and so do not compute such long lists.
 pub fn sheet(alloc: Global) -> Result<Vec<u32>, AllocError>
     ensures { IfOk result (λ sheet. sheet.items ≡ unfilled) }
 {
@@ -39,9 +40,9 @@ pub fn text(alloc: Global) -> Result<Vec<u8>, AllocError>
     vec![in alloc; 0u8; TEXT]
 }
 
-#[tactic(auto, unfolding(crate::specs::Long::untouched))]
+#[tactic(auto, unfolding(crate::specs::Long::untouched_words))]
 fn lent() -> [u32; LENT]
-    ensures { result ≡ untouched }
+    ensures { result ≡ untouched_words }
 {
     [BEFORE; LENT]
 }

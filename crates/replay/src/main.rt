@@ -78,8 +78,8 @@ fn replay_long<R: Files + Print + Eprint + AllocGlobal>(
     Ok(replay_calls(rt, name, &mut sheet, &text, total))
 }
 
-// Replays the files whose records are short. They stand in no table, since a format is a type: with `&dyn Format` in its
-// place `replay_calls` was not proved.
+// Replays the files whose records are short. They stand in no table, since a format is a type: with `&dyn Format` in
+// its place `replay_calls` was not proved.
 fn replay_short_files<R: Files + Print + Eprint>(rt: &R) -> Tally {
     let mut total = Tally::none();
     for name in ["utf8", "white", "lines", "names", "pipes"] {

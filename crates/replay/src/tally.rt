@@ -1,7 +1,7 @@
 // How many records were read, how many answers were compared and how many differ.
 ghost use Rattle.std.specs.Prelude.{◌≡◌};
 ghost use Rattle.replay.specs.Tally.{sum_of, differences_of};
-ghost use Rattle.replay.specs.Tally.{nothing, recorded, differing, comparing, together};
+ghost use Rattle.replay.specs.Tally.{no_records, recorded, differing, comparing, together};
 
 use std::fmt;
 
@@ -32,7 +32,7 @@ fn differences(same: bool) -> u64
 
 impl Tally {
     pub fn none() -> Self
-        ensures { result ≡ nothing }
+        ensures { result ≡ no_records }
     {
         Tally {
             records: 0,

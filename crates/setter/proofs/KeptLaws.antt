@@ -14,9 +14,10 @@ use Rattle.leaves.specs.declared.sheet.records.Rec.{Rec}
 use Rattle.leaves.specs.Refusal.Fields.{most_a, most_b, most_c, is_surrogate, bad_number, bad_field}
 use Rattle.leaves.proofs.text.TestLaws.{and_left, and_right, or_left, or_right}
 use Rattle.leaves.specs.Text.Marker.{written_marker}
+use Rattle.leaves.specs.Refusal.Limits.{most_item_number}
 use Rattle.setter.specs.Steps.{Frame, fresh, with_kid}
 use Rattle.setter.specs.Seen.{columns, nearest, in_link, behind_list, only_empty, last_mark, Seen, seen}
-use Rattle.setter.specs.Stops.{Moment, opening, same_moment, Row, most_own_number, stops, lowest, stop_at}
+use Rattle.setter.specs.Stops.{Moment, opening, same_moment, Row, stops, lowest, stop_at}
 use Rattle.setter.specs.Kept.{marker_behind, kept_of, seen_by, opened_in, joined_by}
 
 -- a list's written marker is never 0
@@ -87,16 +88,16 @@ plain-small r bad e =
     go false h = omega arith
 
 -- where it opens without a stop
-pub small-number : (bytes : List ℕ) (r : Rec) (s : Seen) → stop_at opening bytes r s ≡ 0 → bad_field r ≡ false → r.b ≡ 1 → r.c ≤ most_own_number
+pub small-number : (bytes : List ℕ) (r : Rec) (s : Seen) → stop_at opening bytes r s ≡ 0 → bad_field r ≡ false → r.b ≡ 1 → r.c ≤ most_item_number
 unfolding stop_at Silent numbered
 small-number bytes r s h bad e =
     let q = silent opening bytes r s stops refl h in
-    let large : (eqb r.kind item && s.ordered && eqb r.b 1 && ltb most_own_number r.c) ≡ false = q.1.1.1.1.1.1.0 in
+    let large : (eqb r.kind item && s.ordered && eqb r.b 1 && ltb most_item_number r.c) ≡ false = q.1.1.1.1.1.1.0 in
     let bullet : (eqb r.kind item && not s.ordered && eqb r.b 1) ≡ false = q.1.1.1.1.1.1.1.0 in
     let n : eqb r.b 1 ≡ true = eq-eqb r.b 1 e in
     go (eqb r.kind item) refl s.ordered refl (rw n at large) (rw n at bullet)
   where
-    go : (t : Bool) → eqb r.kind item ≡ t → (o : Bool) → s.ordered ≡ o → (t && o && true && ltb most_own_number r.c) ≡ false → (t && not o && true) ≡ false → r.c ≤ most_own_number
+    go : (t : Bool) → eqb r.kind item ≡ t → (o : Bool) → s.ordered ≡ o → (t && o && true && ltb most_item_number r.c) ≡ false → (t && not o && true) ≡ false → r.c ≤ most_item_number
     go false f o g x y = omega (arith, plain-small r bad f)
     go true f true g x y = ltb-false _ _ x
     go true f false g x y = absurd (true≢false y)

@@ -19,10 +19,11 @@ use Rattle.leaves.specs.Refusal.Judge.{judge_sheet}
 use Rattle.leaves.specs.Refusal.Record.{level_before}
 use Rattle.leaves.proofs.refusal.PassLaws.{Deep, deep}
 use Rattle.leaves.proofs.refusal.FormedLaws.{each-passed, accepted}
+use Rattle.leaves.specs.Refusal.Limits.{most_item_number}
 use Rattle.setter.specs.Steps.{Frame, fresh, with_kid, the_sheet, Step, closings, steps_from, steps_of, opens, closes}
 use Rattle.setter.specs.Machine.{run_of, run, run_answer}
 use Rattle.setter.specs.Marks.{mark_of, marks_of}
-use Rattle.setter.specs.Stops.{opening, closing, most_own_number, stop_at, stop_of}
+use Rattle.setter.specs.Stops.{opening, closing, stop_at, stop_of}
 use Rattle.setter.specs.Seen.{only_empty, last_mark, item_mark, seen}
 use Rattle.setter.proofs.StepLaws.{Low, open-one, close-one, goes_on, stops-here}
 use Rattle.setter.specs.Kept.{most_kids, most_item_mark, kept_of, seen_by, opened_in, joined_by}
@@ -60,8 +61,8 @@ pub record One (w : List ℕ) (n i m : ℕ) (os : List Kept) (f : Frame) (st : L
   pub kept : get_or os (length st) unkept ≡ kept_of f st
   pub from : 0 < length st → (f.at < n) × (f.of ≡ record_at w f.at)
   pub few : m + length f.kids ≤ i
-  pub small : last_mark f.kids ≤ most_own_number + length f.kids
-  pub own : f.of.b ≡ 1 → f.of.c ≤ most_own_number
+  pub small : last_mark f.kids ≤ most_item_number + length f.kids
+  pub own : f.of.b ≡ 1 → f.of.c ≤ most_item_number
 
 unfoldable pub Held : List ℕ → ℕ → ℕ → ℕ → List Kept → List Frame → Type 0
 Held w n i m os [] = Unit {0}
@@ -204,10 +205,10 @@ module _ {w bytes old : List ℕ} {n : ℕ} {new : List ℕ} {os : List Kept} {d
             marked = rw (a, step) at v.marked;
           }
 
-mark-small : (r : Rec) (before m : ℕ) → (r.b ≡ 1 → r.c ≤ most_own_number) → before ≤ most_own_number + m → item_mark r before ≤ most_own_number + suc m
+mark-small : (r : Rec) (before m : ℕ) → (r.b ≡ 1 → r.c ≤ most_item_number) → before ≤ most_item_number + m → item_mark r before ≤ most_item_number + suc m
 mark-small r before m own h = go (eqb r.b 1) refl
   where
-    go : (t : Bool) → eqb r.b 1 ≡ t → (when t then r.c else before + 1) ≤ most_own_number + suc m
+    go : (t : Bool) → eqb r.b 1 ≡ t → (when t then r.c else before + 1) ≤ most_item_number + suc m
     go true e = omega (arith, own (eqb-true _ _ e))
     go false e = omega arith
 

@@ -59,9 +59,9 @@ abbrev pub last_stop : ℕ
 last_stop = 14
 
 -- "A refusal returns number and record (from 0; 0 for 1–3 and for 11 and above)".
-abbrev pub error_answer : SetError → Answer
-error_answer (Malformed malformed) = refused_as (refusal_answer malformed)
-error_answer ShortMarks = refused_as (answer short_marks 0)
+abbrev pub set_error_answer : SetError → Answer
+set_error_answer (Malformed malformed) = refused_as (refusal_answer malformed)
+set_error_answer ShortMarks = refused_as (answer short_marks 0)
 
 -- the answer of the machine: how its run ended, or why nothing was set
 abbrev pub Set : Type 0
@@ -71,7 +71,7 @@ Set = Result Setting SetError
 abbrev pub setting_answer : Set → Answer
 setting_answer (Ok (Ended records)) = answer 0 records
 setting_answer (Ok (Stopped stop i)) = answer (stop_number stop) i
-setting_answer (Err error) = error_answer error
+setting_answer (Err error) = set_error_answer error
 
 -- s and the marks after it are the answer and the marks of p. No other answer has the number and value of s
 -- (`setting-one` in proofs/SetLaws.antt).

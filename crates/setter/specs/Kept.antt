@@ -7,10 +7,9 @@ use Rattle.leaves.specs.declared.sheet.records.Rec.{Rec}
 use Rattle.leaves.specs.Sheet.Classes.{is_break}
 use Rattle.leaves.specs.Sheet.Empty.{is_empty_text}
 use Rattle.leaves.specs.Text.Marker.{written_marker}
-use Rattle.leaves.specs.Refusal.Limits.{most_records}
+use Rattle.leaves.specs.Refusal.Limits.{most_records, most_item_number}
 use Rattle.setter.specs.Steps.{Frame}
 use Rattle.setter.specs.Seen.{Seen, columns, nearest, in_link, behind_break, only_empty, item_mark, last_mark}
-use Rattle.setter.specs.Stops.{most_own_number}
 use Rattle.setter.specs.declared.kept.Kept.{Kept}
 
 -- no record has more children: a sheet has no more records
@@ -19,7 +18,7 @@ most_kids = most_records
 
 -- no item has a larger number: the largest own number, and 1 more for each item behind it
 abbrev pub most_item_mark : ℕ
-most_item_mark = most_own_number + most_kids
+most_item_mark = most_item_number + most_kids
 
 -- the marker kept once record r has closed: for a list its written one, for a blank line the one before, and 0 for any
 -- other kind

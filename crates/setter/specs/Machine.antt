@@ -24,10 +24,10 @@ position [] = 0
 position (s ∷ ss) = when in_path s.kind then suc (position ss) else position ss
 
 -- the path of the innermost open record, or of the block or item around it
-unfoldable pub path_of : List Frame → List ℕ
-path_of [] = []
-path_of (f ∷ around) =
-    let outer = path_of around in
+unfoldable pub frame_path : List Frame → List ℕ
+frame_path [] = []
+frame_path (f ∷ around) =
+    let outer = frame_path around in
     when in_path f.of.kind then outer ++ position (siblings around) ∷ [] else outer
 
 -- the path of the innermost open block
@@ -35,12 +35,12 @@ unfoldable pub block_path : List Frame → List ℕ
 block_path [] = []
 block_path (f ∷ around) =
     let outer = block_path around in
-    when is_block f.of.kind then path_of (f ∷ around) else outer
+    when is_block f.of.kind then frame_path (f ∷ around) else outer
 
 -- what is open at an opening or a closing, its own record first
-abbrev pub open_at : Step → List Frame
-open_at (opens f around) = f ∷ around
-open_at (closes f around) = f ∷ around
+abbrev pub opened_at : Step → List Frame
+opened_at (opens f around) = f ∷ around
+opened_at (closes f around) = f ∷ around
 
 -- the record that is opened or closed
 abbrev pub record_at_step : Step → ℕ
@@ -82,7 +82,7 @@ pub record StopsAt (r : Run) (stop i : ℕ) (path : List ℕ) : Type 0 where
   pub step : Step
   pub end : r.end ≡ stopped stop step
   pub at : record_at_step step ≡ i
-  pub block : block_path (open_at step) ≡ path
+  pub block : block_path (opened_at step) ≡ path
 
 -- the run stopped: there are such a stop, record and block
 pub record StopsSomewhere (r : Run) : Type 0 where

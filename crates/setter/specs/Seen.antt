@@ -2,7 +2,7 @@
 -- its own children that have closed.
 use Rattle.std.specs.Prelude.{ℕ, ◌+◌, Bool, true, false, ◌&&◌, ◌||◌, List, [], ◌∷◌, eqb, length}
 use Rattle.leaves.specs.Text.Lists.{when◌then◌else◌}
-use Rattle.leaves.specs.Sheet.Kinds.{among, is_inline, list, table, blank_line}
+use Rattle.leaves.specs.Sheet.Kinds.{among, no_kind, is_inline, list, table, blank_line}
 use Rattle.leaves.specs.Sheet.Kinds.{text, link, link_reference, soft_break, line_break}
 use Rattle.leaves.specs.declared.sheet.records.Rec.{Rec}
 use Rattle.leaves.specs.Text.Marker.{written_marker}
@@ -18,9 +18,9 @@ unfoldable pub columns : List Frame → ℕ
 columns [] = 0
 columns (f ∷ around) = let outer = columns around in when eqb f.of.kind table then f.of.a else outer
 
--- the kind of the "nearest open non-inline"; 0 for the sheet
+-- the kind of the "nearest open non-inline"; `no_kind` for the sheet
 unfoldable pub nearest : List Frame → ℕ
-nearest [] = 0
+nearest [] = no_kind
 nearest (f ∷ around) = let outer = nearest around in when is_inline f.of.kind then outer else f.of.kind
 
 -- a link or link reference is open, "at any depth"
@@ -66,7 +66,7 @@ last_mark (s ∷ ss) = item_mark s (last_mark ss)
 pub record Seen : Type 0 where
   -- A of the nearest table that is open around the record; 0 where there is none
   pub columns : ℕ
-  -- the kind of the nearest record open around it that is no inline; 0 for the sheet
+  -- the kind of the nearest record open around it that is no inline; `no_kind` for the sheet
   pub nearest : ℕ
   -- a link or link reference is open around it, at any depth
   pub linked : Bool

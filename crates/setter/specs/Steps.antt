@@ -3,7 +3,8 @@
 -- are open, and then it is at the end."
 use Rattle.std.specs.Prelude.{ℕ, suc, List, [], ◌∷◌, ◌++◌, leb}
 use Rattle.leaves.specs.Text.Lists.{when◌then◌else◌}
-use Rattle.leaves.specs.Sheet.Records.{records_of}
+use Rattle.leaves.specs.Sheet.Kinds.{no_kind}
+use Rattle.leaves.specs.Sheet.Records.{records_of, no_span}
 use Rattle.leaves.specs.Sheet.Forest.{records_from}
 use Rattle.leaves.specs.declared.sheet.records.Rec.{Rec}
 
@@ -24,9 +25,9 @@ with_kid r f = record { at = f.at; of = f.of; kids = r ∷ f.kids }
 abbrev pub the_sheet : Frame
 the_sheet =
     fresh 0 (record {
-      kind = 0;
+      kind = no_kind;
       level = 0;
-      span = record { flag = 0; start = 0; end = 0 };
+      span = no_span;
       a = 0;
       b = 0;
       c = 0;

@@ -8,6 +8,7 @@ use Rattle.leaves.specs.Sheet.Kinds
 use Rattle.leaves.specs.Sheet.Kinds.{among}
 use Rattle.leaves.specs.declared.sheet.records.Rec.{Rec}
 use Rattle.leaves.specs.Sheet.Texts.{text_of}
+use Rattle.leaves.specs.Refusal.Limits.{most_item_number}
 use Rattle.setter.specs.Steps.{Step, opens, closes}
 use Rattle.setter.specs.Seen.{Seen, seen}
 
@@ -33,57 +34,53 @@ pub record Row : Type 0 where
   -- its condition: of the text, of the record that opens or closes, and of what is seen around it
   pub holds : List ℕ → Rec → Seen → Bool
 
-abbrev pub row : ℕ → Moment → List ℕ → (List ℕ → Rec → Seen → Bool) → Row
-row n moment rules holds = record { stop = n; moment = moment; rules = rules; holds = holds }
-
--- 7: "ordered item's own number over 999,999,999"
-abbrev pub most_own_number : ℕ
-most_own_number = 999999999
+abbrev pub stop_row : ℕ → Moment → List ℕ → (List ℕ → Rec → Seen → Bool) → Row
+stop_row n moment rules holds = record { stop = n; moment = moment; rules = rules; holds = holds }
 
 abbrev pub stops : List Row
 stops =
     -- "cell position (from 0) not below table's A"
-    row 1 opening (16 ∷ 17 ∷ 18 ∷ 19 ∷ [])
+    stop_row 1 opening (16 ∷ 17 ∷ 18 ∷ 19 ∷ [])
     (λ bytes r s. eqb r.kind Kinds.cell && leb s.columns s.before)
     -- "row closed with under A cells"
-    ∷ row 2 closing (16 ∷ 17 ∷ 18 ∷ 19 ∷ [])
+    ∷ stop_row 2 closing (16 ∷ 17 ∷ 18 ∷ 19 ∷ [])
     (λ bytes r s. eqb r.kind Kinds.row && ltb s.kids s.columns)
     -- "table closed without row, or A = 0"
-    ∷ row 3 closing (16 ∷ 17 ∷ 18 ∷ 19 ∷ [])
+    ∷ stop_row 3 closing (16 ∷ 17 ∷ 18 ∷ 19 ∷ [])
     (λ bytes r s. eqb r.kind Kinds.table && (eqb s.kids 0 || eqb r.a 0))
     -- "inline break (so no thematic break) whose nearest open non-inline is a cell, leaf or container directive"
-    ∷ row 4 opening (20 ∷ 22 ∷ 23 ∷ [])
+    ∷ stop_row 4 opening (20 ∷ 22 ∷ 23 ∷ [])
     (λ bytes r s.
     among r.kind (Kinds.soft_break ∷ Kinds.line_break ∷ [])
     && among s.nearest (Kinds.cell ∷ Kinds.leaf_directive ∷ Kinds.container_directive ∷ []))
     -- "link, autolink, link reference or wikilink under a link or link reference, at any depth"
-    ∷ row 5 opening (42 ∷ [])
+    ∷ stop_row 5 opening (42 ∷ [])
     (λ bytes r s.
     among r.kind (Kinds.link ∷ Kinds.autolink ∷ Kinds.link_reference ∷ Kinds.wiki_link ∷ []) && s.linked)
     -- "heading depth not 1–6"
-    ∷ row 6 opening (10 ∷ []) (λ bytes r s. eqb r.kind Kinds.heading && not (between 1 6 r.a))
+    ∷ stop_row 6 opening (10 ∷ []) (λ bytes r s. eqb r.kind Kinds.heading && not (between 1 6 r.a))
     -- "ordered item's own number over 999,999,999"
-    ∷ row 7 opening (50 ∷ [])
-    (λ bytes r s. eqb r.kind Kinds.item && s.ordered && eqb r.b 1 && ltb most_own_number r.c)
+    ∷ stop_row 7 opening (50 ∷ [])
+    (λ bytes r s. eqb r.kind Kinds.item && s.ordered && eqb r.b 1 && ltb most_item_number r.c)
     -- "bullet item with number"
-    ∷ row 8 opening (49 ∷ []) (λ bytes r s. eqb r.kind Kinds.item && not s.ordered && eqb r.b 1)
+    ∷ stop_row 8 opening (49 ∷ []) (λ bytes r s. eqb r.kind Kinds.item && not s.ordered && eqb r.b 1)
     -- "list closed without item"
-    ∷ row 9 closing (12 ∷ []) (λ bytes r s. eqb r.kind Kinds.list && eqb s.kids 0)
+    ∷ stop_row 9 closing (12 ∷ []) (λ bytes r s. eqb r.kind Kinds.list && eqb s.kids 0)
     -- "paragraph, emphasis, strong, delete or mark closed with nothing but empty texts"
-    ∷ row 10 closing (2 ∷ 39 ∷ [])
+    ∷ stop_row 10 closing (2 ∷ 39 ∷ [])
     (λ bytes r s.
     among r.kind (Kinds.paragraph ∷ Kinds.emphasis ∷ Kinds.strong ∷ Kinds.delete ∷ Kinds.mark ∷ [])
     && s.empty)
     -- "soft or spaces break straight after a sibling break": a line break whose A is 1 is one of spaces
-    ∷ row 11 opening (37 ∷ [])
+    ∷ stop_row 11 opening (37 ∷ [])
     (λ bytes r s. (eqb r.kind Kinds.soft_break || eqb r.kind Kinds.line_break && eqb r.a 1) && s.broke)
     -- "frontmatter whose level exceeds 1"
-    ∷ row 12 opening (28 ∷ []) (λ bytes r s. eqb r.kind Kinds.frontmatter && ltb 1 r.level)
+    ∷ stop_row 12 opening (28 ∷ []) (λ bytes r s. eqb r.kind Kinds.frontmatter && ltb 1 r.level)
     -- "text or inline code (kinds 31, 39) with CR or LF"
-    ∷ row 13 opening (31 ∷ 45 ∷ [])
+    ∷ stop_row 13 opening (31 ∷ 45 ∷ [])
     (λ bytes r s. among r.kind (Kinds.text ∷ Kinds.code ∷ []) && holds_line_ending (text_of bytes r.first))
     -- "list straight after a sibling list of the same written marker, only blank lines skipped"
-    ∷ row 14 opening (1 ∷ []) (λ bytes r s. eqb r.kind Kinds.list && s.joins)
+    ∷ stop_row 14 opening (1 ∷ []) (λ bytes r s. eqb r.kind Kinds.list && s.joins)
     ∷ []
 
 -- "At one opening or closing the lowest stop wins": the first row of that moment whose condition holds, since the

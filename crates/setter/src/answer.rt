@@ -1,6 +1,6 @@
 // The answer of the setting machine, with its number and its value.
 ghost use Rattle.std.specs.Prelude.{◌≡◌};
-ghost use Rattle.setter.specs.Answer.{stop_number, error_answer, setting_answer};
+ghost use Rattle.setter.specs.Answer.{stop_number, set_error_answer, setting_answer};
 ghost use Rattle.setter.specs.declared.answer.SetError.TheVariants.{Malformed as IsMalformed};
 
 use leaves::refusal::verdict::Malformed;
@@ -14,33 +14,33 @@ const SHORT_MARKS: u32 = 12;
 #[derive(Clone, Copy, PartialEq, Eq, Debug)]
 pub enum Stop {
     // a cell, opened past the columns of its table
-    CellTooMany,
+    CellTooMany = 1,
     // a row, closed with fewer cells than its table has columns
-    CellTooFew,
+    CellTooFew = 2,
     // a table, closed without a row or a column
-    EmptyTable,
+    EmptyTable = 3,
     // an inline break, opened in a cell or in the label of a leaf or container directive
-    BreakInLine,
+    BreakInLine = 4,
     // a link, autolink, link reference or wikilink, opened under a link or link reference
-    LinkInLink,
+    LinkInLink = 5,
     // a heading, opened with a depth that is not 1 to 6
-    HeadingDepth,
+    HeadingDepth = 6,
     // an ordered item, opened with a number of its own that is too large
-    ItemNumber,
+    ItemNumber = 7,
     // a bullet item, opened with a number
-    BulletNumber,
+    BulletNumber = 8,
     // a list, closed without an item
-    EmptyList,
+    EmptyList = 9,
     // a paragraph, emphasis, strong, delete or mark, closed with nothing but empty texts
-    EmptyContent,
+    EmptyContent = 10,
     // a soft or spaces break, opened straight after a break
-    BreakAfterBreak,
+    BreakAfterBreak = 11,
     // frontmatter, opened inside something
-    InnerFrontmatter,
+    InnerFrontmatter = 12,
     // a text or inline code, opened with a line ending in it
-    LineEnding,
+    LineEnding = 13,
     // a list, opened after a list of the same written marker, with nothing but blank lines between
-    AdjacentLists,
+    AdjacentLists = 14,
 }
 
 impl Stop {
@@ -48,22 +48,7 @@ impl Stop {
     pub fn number(self) -> u32
         ensures { result ≡ stop_number self }
     {
-        match self {
-            Stop::CellTooMany => 1,
-            Stop::CellTooFew => 2,
-            Stop::EmptyTable => 3,
-            Stop::BreakInLine => 4,
-            Stop::LinkInLink => 5,
-            Stop::HeadingDepth => 6,
-            Stop::ItemNumber => 7,
-            Stop::BulletNumber => 8,
-            Stop::EmptyList => 9,
-            Stop::EmptyContent => 10,
-            Stop::BreakAfterBreak => 11,
-            Stop::InnerFrontmatter => 12,
-            Stop::LineEnding => 13,
-            Stop::AdjacentLists => 14,
-        }
+        self as u32
     }
 }
 
@@ -94,7 +79,7 @@ impl From<Malformed> for SetError {
 impl SetError {
     // The number of the refusal, with 256 added.
     pub fn number(self) -> u32
-        ensures { result ≡ (error_answer self).number }
+        ensures { result ≡ (set_error_answer self).number }
     {
         match self {
             SetError::Malformed(malformed) => REFUSED + malformed.number(),
@@ -102,9 +87,9 @@ impl SetError {
         }
     }
 
-    // The record that the refusal names; 0 where it names none.
+    // The record that the refusal names; 0 where it names none, as the C interface has it.
     pub fn record(self) -> usize
-        ensures { result ≡ (error_answer self).value }
+        ensures { result ≡ (set_error_answer self).value }
     {
         match self {
             SetError::Malformed(malformed) => malformed.record(),

@@ -17,7 +17,7 @@ pub(crate) struct Kept {
     pub at: u32,
     // A of the nearest open table; 0 where there is none
     pub columns: u32,
-    // the kind of the nearest open record that is no inline; 0 for the sheet
+    // the kind of the nearest open record that is no inline; `NO_KIND` for the sheet
     pub nearest: u32,
     // the record is a link or link reference, or stands under one
     pub linked: bool,
@@ -56,7 +56,7 @@ impl Kept {
         Kept {
             at: 0,
             columns: 0,
-            nearest: 0,
+            nearest: kinds::NO_KIND,
             linked: false,
             ordered: false,
             kids: 0,

@@ -26,9 +26,9 @@ fn next_level(sheet: &[u32], n: usize, i: usize) -> u32
     if i < n { level_at(sheet, i) } else { 1 }
 }
 
-// Opens and closes the records one after another until one stops. `open` is a stack in fixed memory, since nothing may be
-// allocated: by level what is kept of each open record, and `depth` is the innermost's level. A turn for each opening
-// and closing, and no `for` over the records, since the closings would then stand twice: before a record and at the end.
+// Opens and closes the records one after another until one stops. `open` is a stack in fixed memory, since nothing may
+// be allocated: by level what is kept of each open record, and `depth` is the innermost's level. A turn for each
+// opening and closing: a `for` over the records would need a loop of closings inside it.
 fn run_records(sheet: &[u32], text: &[u8], marks: &mut [u32], n: usize) -> Setting
     requires { (judge_sheet sheet.now text.now ≡ Ok tt)
         × (n ≡ records_of sheet.now)

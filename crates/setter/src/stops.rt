@@ -8,14 +8,12 @@ ghost use Rattle.setter.specs.Kept.{seen_by};
 
 use crate::answer::Stop;
 use crate::kept::Kept;
+use leaves::refusal::limits::MOST_ITEM_NUMBER;
 use leaves::sheet::kinds;
 use leaves::sheet::records::Rec;
 use leaves::sheet::texts::text_of;
 use leaves::text::lines::holds_line_ending;
 use leaves::text::marker::written_marker;
-
-// The largest own number of an ordered item. The check has a constant of its own: the machine asks nothing of the check.
-const MOST_OWN_NUMBER: u32 = 999_999_999;
 
 // A cell, leaf directive or container directive: no line may break inside it.
 fn is_one_line(kind: u32) -> bool
@@ -39,7 +37,7 @@ pub(crate) fn opening_stop(bytes: &[u8], r: Rec, k: Kept) -> Option<Stop>
             Some(Stop::LinkInLink)
         }
         kinds::HEADING if !(1..=6).contains(&r.a) => Some(Stop::HeadingDepth),
-        kinds::ITEM if k.ordered && r.b == 1 && MOST_OWN_NUMBER < r.c => Some(Stop::ItemNumber),
+        kinds::ITEM if k.ordered && r.b == 1 && MOST_ITEM_NUMBER < r.c => Some(Stop::ItemNumber),
         kinds::ITEM if !k.ordered && r.b == 1 => Some(Stop::BulletNumber),
         kinds::SOFT_BREAK if k.broke => Some(Stop::BreakAfterBreak),
         kinds::LINE_BREAK if r.a == 1 && k.broke => Some(Stop::BreakAfterBreak),

@@ -22,7 +22,7 @@ use Rattle.leaves.specs.declared.refusal.verdict.Malformed.TheVariants.{OddSheet
 
 -- the answer; a declaration that unfolds this unfolds all that the answer computes with
 computed : List ℕ → List ℕ → Judged
-unfolding judge_sheet or_else judge_from judge_at judge judge_texts level_before bad_level tags_from lacks_tags record_at deeper past grow forest_at count_kind misplaced open_at gather opened joined parent_group other_group child_group holds place_in place_of bad_field bad_number most_a most_b most_c is_surrogate bad_span has_first has_second bad_text text_outside text_ill_formed text_of part_of is_utf8 well_formed follow Rattle.leaves.specs.Text.Utf8.table
+unfolding judge_sheet or_else judge_from judge_at judge judge_texts level_before bad_level tags_from lacks_tags record_at deeper past grow forest_at count_kind misplaced open_at gather opened joined parent_group other_group child_group holds place_in place_of bad_field bad_number most_a most_b most_c is_surrogate bad_span has_first has_second bad_text text_outside text_ill_formed text_of part_of is_utf8 well_formed follow Rattle.leaves.specs.Text.Utf8.table_3_7
 computed w bytes = judge_sheet w bytes
 
 -- ---- records, a word at a time: kind, level; span; A, B, C; texts

@@ -24,7 +24,7 @@ use Rattle.leaves.specs.Text.Lists.{when◌then◌else◌}
 use Rattle.leaves.specs.Refusal.Limits.{most_records}
 use Rattle.leaves.specs.Sheet.Records.{record_at}
 use Rattle.leaves.specs.Sheet.Forest.{Forest, none, tree, under, size, count}
-use Rattle.leaves.specs.Sheet.Trees.{trees, Moved, Reads, Ends}
+use Rattle.leaves.specs.Sheet.Trees.{trees, Moved, ReadsNext, Ends}
 use Rattle.leaves.specs.Sheet.Roots.{Passes, tree_seen, roots, roots_left, trees_at, trees_behind}
 use Rattle.leaves.specs.declared.sheet.records.Rec.{Rec}
 use Rattle.leaves.specs.declared.sheet.trees.Records.{Records}
@@ -62,7 +62,7 @@ roots-behind {level = level} e n = let t = trees-moved level e.moved in rw (n, t
 pub passes-none : {xs ys : List (Rec × Forest)} {o : Option Tree} → o ≡ None → xs ≡ [] → ys ≡ [] → MatchOption o ((xs ≡ []) × (ys ≡ [])) (λ t. xs ≡ tree_seen t ∷ ys)
 passes-none e a b = rw e (a, b)
 
-pub roots-first : {x y : Records} {level : ℕ} {r : Rec} → Reads x y level r → roots (trees x level) ≡ (r, trees y r.level) ∷ roots (trees_at y (y.next + size (trees y r.level)) level)
+pub roots-first : {x y : Records} {level : ℕ} {r : Rec} → ReadsNext x y level r → roots (trees x level) ≡ (r, trees y r.level) ∷ roots (trees_at y (y.next + size (trees y r.level)) level)
 unfolding roots
 roots-first {x} {y} {level} {r} reads =
     let k : trees y r.level ≡ under x.sheet.now x.n (x.next + 1) (record_at x.sheet.now x.next).level = reads-kids reads in

@@ -4,7 +4,7 @@ use Prim.Native.Nat.{ℕ, suc, ◌+◌, ◌<◌, ◌≤◌}
 use native.Mathlib.Omega.{arith}
 use Rattle.leaves.specs.Sheet.Records.{record_at}
 use Rattle.leaves.specs.Sheet.Forest.{tree, under, size}
-use Rattle.leaves.specs.Sheet.Trees.{trees, Moved, Reads, Ends}
+use Rattle.leaves.specs.Sheet.Trees.{trees, Moved, ReadsNext, Ends}
 use Rattle.leaves.specs.declared.sheet.records.Rec.{Rec}
 use Rattle.leaves.specs.declared.sheet.trees.Records.{Records}
 use Rattle.leaves.proofs.sheet.ForestLaws.{under-in, under-out, under-end, size_step}
@@ -34,7 +34,7 @@ pub trees-moved : {x y : Records} {j : ℕ} (level : ℕ) → Moved x y j → tr
 trees-moved level a = rw (a.sheet, a.n, a.next)
 
 -- y reads r, and z is behind it; u is behind all that stands under r as well
-module _ {y z : Records} {level : ℕ} {r : Rec} (reads : Reads y z level r) where
+module _ {y z : Records} {level : ℕ} {r : Rec} (reads : ReadsNext y z level r) where
   pub reads-deep : level < (record_at y.sheet.now y.next).level
   reads-deep = rw (← reads.is) reads.deep
 
@@ -84,14 +84,14 @@ module _ (x : Records) (level : ℕ) where
 
 module _ {x y z : Records} {level : ℕ} (v : Passing x y level) where
   -- one record further ..
-  pub passing-step : {r : Rec} → Reads y z level r → Passing x z level
+  pub passing-step : {r : Rec} → ReadsNext y z level r → Passing x z level
   passing-step reads =
       let s = reads-step reads in
       let n : z.next ≡ y.next + 1 = reads.moved.next in
       record { moved = moved-then v.moved (moved-at reads.moved (sym n)); gone = omega (arith, v.gone) }
 
   -- .. or one tree
-  pub passing-tree : {u : Records} {r : Rec} → Reads y z level r → Moved z u (z.next + size (trees z r.level)) → Passing x u level
+  pub passing-tree : {u : Records} {r : Rec} → ReadsNext y z level r → Moved z u (z.next + size (trees z r.level)) → Passing x u level
   unfolding size
   passing-tree {u} {r} reads behind =
       let t : size (trees y level) ≡ suc (size (trees z r.level) + size (trees u level)) = ap size (reads-tree reads behind) in

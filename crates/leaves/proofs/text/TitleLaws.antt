@@ -8,7 +8,7 @@ use lib.Dec.{eqb}
 use borrow.Author.Tests.{eq-eqb}
 use lib.ListN.{length, get_or}
 use Rattle.leaves.specs.Text.Bytes.{is_blank_byte}
-use Rattle.leaves.specs.Text.Lists.{last_or, none}
+use Rattle.leaves.specs.Text.Lists.{last_or, is_empty_list}
 use Rattle.leaves.specs.Text.Same.{same_bytes}
 use Rattle.leaves.specs.Text.Title.{is_alert_title}
 use Rattle.leaves.specs.Text.Trim.{trim_cons, trim_end, trim_start, trim}
@@ -70,12 +70,12 @@ title b s = go (is_blank_byte b) (is_blank_byte (last_or b s)) refl refl
     go true true e f = shorter _ _ (omega (arith, start-length (trim_end (b ∷ s)), end-cut b s f))
 
 pub title_none : (s : List ℕ) → length s ≡ 0 → is_alert_title s ≡ false
-unfolding is_alert_title none
+unfolding is_alert_title is_empty_list
 title_none [] e = refl
 title_none (b ∷ s) e = absurd (omega arith)
 
 pub title_some : (s : List ℕ) → 0 < length s → is_alert_title s ≡ (not (is_blank_byte (get_or s 0 0)) && not (is_blank_byte (get_or s (length s - 1) 0)))
-unfolding is_alert_title none
+unfolding is_alert_title is_empty_list
 title_some [] h = absurd (omega arith)
 title_some (b ∷ s) h = rw at-end (title b s)
   where

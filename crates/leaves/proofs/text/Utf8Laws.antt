@@ -8,10 +8,10 @@ use lib.Dec.{eqb, leb, ltb, eqb-suc-zero}
 use lib.ListN.{length, replicate, length-replicate}
 use borrow.Author.Tests.{lt-leb, lt-ltb, le-ltb, le-leb, ltb-true, leb-true, leb-false, eqb-true, not-true, not-false}
 use Rattle.leaves.specs.Text.Bytes.{between}
-use Rattle.leaves.specs.Text.Lists.{when◌then◌else◌, none}
-use Rattle.leaves.specs.Text.Utf8.{Range, ◌to◌, within, trail, table, follow, well_formed}
+use Rattle.leaves.specs.Text.Lists.{when◌then◌else◌, is_empty_list}
+use Rattle.leaves.specs.Text.Utf8.{Range, ◌to◌, within, trail, table_3_7, follow, well_formed}
 use Rattle.leaves.specs.Text.Utf8Scans.{breaks, expected_after}
-use Rattle.leaves.specs.Text.Utf8Expected.{columns, expects, trails, expecting, Expects}
+use Rattle.leaves.specs.Text.Utf8Expected.{trail_columns, expects, trails, expecting, Expects}
 use Rattle.leaves.specs.declared.text.utf8.Expected.{Expected}
 use Rattle.leaves.proofs.text.TestLaws.{all_below, and_left, and_right, each}
 use Rattle.leaves.specs.Text.Chunk.{is_ascii, Past}
@@ -37,19 +37,19 @@ ranges (r ∷ p) (s ∷ q) e =
     λ i. record { low = a i; high = b i } ∷ c i
 
 row-test : (ℕ → Bool) → List Range → ℕ → Bool
-row-test these cs b = not (these b) || same-ranges cs (follow table b)
+row-test these cs b = not (these b) || same-ranges cs (follow table_3_7 b)
 
 -- these bytes are followed by the columns cs, by a test of all bytes
-followed : (these : ℕ → Bool) (cs : List Range) → all_below (row-test these cs) 256 ≡ true → (b : ℕ) → b < 256 → these b ≡ true → cs ≡ follow table b
+followed : (these : ℕ → Bool) (cs : List Range) → all_below (row-test these cs) 256 ≡ true → (b : ℕ) → b < 256 → these b ≡ true → cs ≡ follow table_3_7 b
 unfolding row-test
-followed these cs e b h p = ranges cs (follow table b) (rw p at (each (row-test these cs) 256 e b h))
+followed these cs e b h p = ranges cs (follow table_3_7 b) (rw p at (each (row-test these cs) 256 e b h))
 
 module _ (b : ℕ) where
   pub from-to : (low high : ℕ) → low ≤ b → b ≤ high → between low high b ≡ true
   from-to low high p q = rw (le-leb low b p, le-leb b high q)
 
-  ascii-alone : b < 0x80 → [] ≡ follow table b
-  unfolding all_below row-test same-ranges follow table
+  ascii-alone : b < 0x80 → [] ≡ follow table_3_7 b
+  unfolding all_below row-test same-ranges follow table_3_7
   ascii-alone h = followed (between 0 0x7F) [] refl b (omega arith) (from-to 0 0x7F (omega arith) (omega arith))
 
 -- ---- what is expected
@@ -67,7 +67,7 @@ outside low high b = rw (test-not b low, test-not high b) (go (leb low b) (leb b
     go true u = refl
     go false u = refl
 
-columns-trail : (n : ℕ) → columns n 0x80 0xBF ≡ replicate n trail
+columns-trail : (n : ℕ) → trail_columns n 0x80 0xBF ≡ replicate n trail
 columns-trail zero = refl
 columns-trail (suc n) = refl
 
@@ -79,26 +79,26 @@ expecting-trail (suc n) = ap (λ k. expects (suc k) 0x80 0xBF) (sym (length-repl
 pub trailing : (n : ℕ) {o : Expected} → o ≡ expects n 0x80 0xBF → Expects (trails n) o
 trailing n e = rw e (record { is = expecting-trail n; all = columns-trail n })
 
-pub breaks_is : (more low high b : ℕ) → breaks (columns more low high) b ≡ (not (eqb more 0) && (ltb b low || ltb high b))
+pub breaks_is : (more low high b : ℕ) → breaks (trail_columns more low high) b ≡ (not (eqb more 0) && (ltb b low || ltb high b))
 unfolding breaks
 breaks_is zero low high b = refl
 breaks_is (suc m) low high b = rw (eqb-suc-zero m) (sym (outside low high b))
 
-pub expected_is : (more low high b : ℕ) → expected_after (columns more low high) b ≡ (when eqb more 0 || breaks (columns more low high) b then follow table b else trails (more - 1))
+pub expected_is : (more low high b : ℕ) → expected_after (trail_columns more low high) b ≡ (when eqb more 0 || breaks (trail_columns more low high) b then follow table_3_7 b else trails (more - 1))
 unfolding expected_after breaks
 expected_is zero low high b = refl
 expected_is (suc m) low high b = let d : suc m - 1 ≡ m = omega arith in rw (eqb-suc-zero m, d) (go (within (low to high) b))
   where
-    go : (t : Bool) → (when t then trails m else follow table b) ≡ (when not t then follow table b else trails m)
+    go : (t : Bool) → (when t then trails m else follow table_3_7 b) ≡ (when not t then follow table_3_7 b else trails m)
     go true = refl
     go false = refl
 
 module _ (more low high : ℕ) where
-  pub whole : none (columns more low high) ≡ eqb more 0
-  unfolding none
+  pub whole : is_empty_list (trail_columns more low high) ≡ eqb more 0
+  unfolding is_empty_list
   whole = go more
     where
-      go : (m : ℕ) → none (columns m low high) ≡ eqb m 0
+      go : (m : ℕ) → is_empty_list (trail_columns m low high) ≡ eqb m 0
       go zero = refl
       go (suc m) = sym (eqb-suc-zero m)
 
@@ -125,13 +125,13 @@ unfolding well_formed
 utf8-ascii b s h = ap (λ o. well_formed o s) (sym (ascii-alone b h))
 
 -- bytes of ASCII where nothing is expected
-pub utf8-leap : (more low high : ℕ) {s rest : List ℕ} → more ≡ 0 → Past is_ascii s rest → well_formed (columns more low high) s ≡ well_formed (columns more low high) rest
+pub utf8-leap : (more low high : ℕ) {s rest : List ℕ} → more ≡ 0 → Past is_ascii s rest → well_formed (trail_columns more low high) s ≡ well_formed (trail_columns more low high) rest
 utf8-leap zero low high e p = leap is_ascii (well_formed []) (λ b t q. utf8-ascii b t (ltb-true b 0x80 q)) p
 utf8-leap (suc m) low high e p = absurd (omega (arith, e))
 
 -- what follows a byte that begins nothing: no text is well-formed after it
-pub utf8-never : (s : List ℕ) → well_formed (follow table 0xFF) s ≡ false
-unfolding well_formed follow table
+pub utf8-never : (s : List ℕ) → well_formed (follow table_3_7 0xFF) s ≡ false
+unfolding well_formed follow table_3_7
 utf8-never [] = refl
 utf8-never (b ∷ s) = rw (never (leb 0xBF b) refl)
   where
@@ -139,7 +139,7 @@ utf8-never (b ∷ s) = rw (never (leb 0xBF b) refl)
     never true e = rw (e, lt-leb b 0x80 (omega (arith, leb-true 0xBF b e)))
     never false e = rw e
 
-pub utf8-end : (more low high : ℕ) (s : List ℕ) → length s ≡ 0 → eqb more 0 ≡ well_formed (columns more low high) s
+pub utf8-end : (more low high : ℕ) (s : List ℕ) → length s ≡ 0 → eqb more 0 ≡ well_formed (trail_columns more low high) s
 unfolding well_formed
 utf8-end zero low high [] e = refl
 utf8-end (suc n) low high [] e = eqb-suc-zero n

@@ -8,12 +8,12 @@ use lib.Dec.{eqb, leb, ltb, eqb-suc-zero}
 use lib.ListN.{length, take, drop, get_or, take-append-drop, length-drop}
 use lib.Seq.{take_all}
 use borrow.Author.Tests.{ltb-true, leb-true}
-use Rattle.leaves.specs.Text.Lists.{when◌then◌else◌, none, first_or, last_or}
-use Rattle.leaves.specs.Text.Utf8.{Range, ◌to◌, within, trail, table, follow}
+use Rattle.leaves.specs.Text.Lists.{when◌then◌else◌, is_empty_list, first_or, last_or}
+use Rattle.leaves.specs.Text.Utf8.{Range, ◌to◌, within, trail, table_3_7, follow}
 use Rattle.leaves.specs.Text.Scalars.{replacement, lead_bits, trail_bits, emit, decode, scalars}
 use Rattle.leaves.specs.Text.Utf8Scans.{breaks, expected_after}
-use Rattle.leaves.specs.Text.WhiteScans.{value_after, room, Begins}
-use Rattle.leaves.specs.Text.Utf8Expected.{columns}
+use Rattle.leaves.specs.Text.WhiteScans.{value_after, room, BeginsScalar}
+use Rattle.leaves.specs.Text.Utf8Expected.{trail_columns}
 use Rattle.leaves.specs.Text.White.{is_white, starts_with_white, ends_with_white}
 use Rattle.leaves.proofs.text.ScanLaws.{At, next}
 use Rattle.leaves.proofs.text.TestLaws.{all_below, each, and_left, and_right}
@@ -31,10 +31,10 @@ room_falls (suc (suc zero)) value b h = omega arith
 room_falls (suc (suc (suc m))) value b h = absurd (omega arith)
 
 lead-test : ℕ → Bool
-lead-test b = ltb (lead_bits b) (room (length (follow table b)))
+lead-test b = ltb (lead_bits b) (room (length (follow table_3_7 b)))
 
-lead-fits : (b : ℕ) → b < 256 → lead_bits b < room (length (follow table b))
-unfolding all_below lead-test lead_bits follow table
+lead-fits : (b : ℕ) → b < 256 → lead_bits b < room (length (follow table_3_7 b))
+unfolding all_below lead-test lead_bits follow table_3_7
 lead-fits b h = ltb-true _ _ (each lead-test 256 refl b h)
 
 fits_after : (o : List Range) (value b : ℕ) → b < 256 → value < room (length o) → value_after o value b < room (length (expected_after o b))
@@ -46,14 +46,14 @@ fits_after (r ∷ o) value b h k = go (within r b) refl
     go true e = rw e (room_falls (length o) value b k)
     go false e = rw e (lead-fits b h)
 
-long : (more low high : ℕ) → length (columns more low high) ≡ more
+long : (more low high : ℕ) → length (trail_columns more low high) ≡ more
 long zero low high = refl
 long (suc n) low high = ap suc (length-trails n)
   where
     length-trails : (n : ℕ) → length (lib.ListN.replicate n trail) ≡ n
     length-trails n = lib.ListN.length-replicate n trail
 
-pub value_is : (more low high value b : ℕ) → value_after (columns more low high) value b ≡ (when eqb more 0 || breaks (columns more low high) b then lead_bits b else value * 0x40 + b % 0x40)
+pub value_is : (more low high value b : ℕ) → value_after (trail_columns more low high) value b ≡ (when eqb more 0 || breaks (trail_columns more low high) b then lead_bits b else value * 0x40 + b % 0x40)
 unfolding value_after breaks trail_bits
 value_is zero low high value b = refl
 value_is (suc m) low high value b = rw (eqb-suc-zero m) (go (within (low to high) b))
@@ -63,58 +63,58 @@ value_is (suc m) low high value b = rw (eqb-suc-zero m) (go (within (low to high
     go false = refl
 
 -- a value has room for the bits that are expected after b
-pub room_kept : (more low high : ℕ) (before : ℕ) (l h : ℕ) (value b : ℕ) → b < 256 → value < room before → columns more low high ≡ expected_after (columns before l h) b → value_after (columns before l h) value b < room more
+pub room_kept : (more low high : ℕ) (before : ℕ) (l h : ℕ) (value b : ℕ) → b < 256 → value < room before → trail_columns more low high ≡ expected_after (trail_columns before l h) b → value_after (trail_columns before l h) value b < room more
 room_kept more low high before l h value b k f e =
-    let g : value < room (length (columns before l h)) = rw (long before l h) f in
-    let r : value_after (columns before l h) value b < room (length (columns more low high)) = rw e (fits_after (columns before l h) value b k g) in
+    let g : value < room (length (trail_columns before l h)) = rw (long before l h) f in
+    let r : value_after (trail_columns before l h) value b < room (length (trail_columns more low high)) = rw e (fits_after (trail_columns before l h) value b k g) in
     rw (long more low high) at r
 
 -- ---- one byte more
-last-emit : (o : List Range) (v d : ℕ) (s : List ℕ) → last_or d (emit o v s) ≡ last_or (when none o then v else d) s
-unfolding emit last_or none
+last-emit : (o : List Range) (v d : ℕ) (s : List ℕ) → last_or d (emit o v s) ≡ last_or (when is_empty_list o then v else d) s
+unfolding emit last_or is_empty_list
 last-emit [] v d s = refl
 last-emit (r ∷ o) v d s = refl
 
-last_step : (o : List Range) (v d b : ℕ) (s : List ℕ) → last_or d (decode o v (b ∷ s)) ≡ last_or (when none (expected_after o b) then value_after o v b else when breaks o b then replacement else d) (decode (expected_after o b) (value_after o v b) s)
+last_step : (o : List Range) (v d b : ℕ) (s : List ℕ) → last_or d (decode o v (b ∷ s)) ≡ last_or (when is_empty_list (expected_after o b) then value_after o v b else when breaks o b then replacement else d) (decode (expected_after o b) (value_after o v b) s)
 unfolding decode expected_after value_after breaks last_or
-last_step [] v d b s = last-emit (follow table b) (lead_bits b) d (decode (follow table b) (lead_bits b) s)
+last_step [] v d b s = last-emit (follow table_3_7 b) (lead_bits b) d (decode (follow table_3_7 b) (lead_bits b) s)
 last_step (r ∷ o) v d b s = go (within r b) refl
   where
-    go : (t : Bool) → within r b ≡ t → last_or d (decode (r ∷ o) v (b ∷ s)) ≡ last_or (when none (expected_after (r ∷ o) b) then value_after (r ∷ o) v b else when breaks (r ∷ o) b then replacement else d) (decode (expected_after (r ∷ o) b) (value_after (r ∷ o) v b) s)
+    go : (t : Bool) → within r b ≡ t → last_or d (decode (r ∷ o) v (b ∷ s)) ≡ last_or (when is_empty_list (expected_after (r ∷ o) b) then value_after (r ∷ o) v b else when breaks (r ∷ o) b then replacement else d) (decode (expected_after (r ∷ o) b) (value_after (r ∷ o) v b) s)
     go true e = rw e (last-emit o (trail_bits v b) d (decode o (trail_bits v b) s))
-    go false e = rw e (last-emit (follow table b) (lead_bits b) replacement (decode (follow table b) (lead_bits b) s))
+    go false e = rw e (last-emit (follow table_3_7 b) (lead_bits b) replacement (decode (follow table_3_7 b) (lead_bits b) s))
 
 last-broken : (r : Range) (o : List Range) (v d b : ℕ) (s : List ℕ) → within r b ≡ false → last_or d (decode (r ∷ o) v (b ∷ s)) ≡ last_or replacement (decode [] 0 (b ∷ s))
 unfolding decode last_or
 last-broken r o v d b s e = rw e
 
-first-emit : (o : List Range) (v d : ℕ) (s : List ℕ) → first_or d (emit o v s) ≡ (when none o then v else first_or d s)
-unfolding emit first_or none
+first-emit : (o : List Range) (v d : ℕ) (s : List ℕ) → first_or d (emit o v s) ≡ (when is_empty_list o then v else first_or d s)
+unfolding emit first_or is_empty_list
 first-emit [] v d s = refl
 first-emit (r ∷ o) v d s = refl
 
-first_step : (o : List Range) (v b : ℕ) (s : List ℕ) → first_or replacement (decode o v (b ∷ s)) ≡ (when breaks o b then replacement else when none (expected_after o b) then value_after o v b else first_or replacement (decode (expected_after o b) (value_after o v b) s))
+first_step : (o : List Range) (v b : ℕ) (s : List ℕ) → first_or replacement (decode o v (b ∷ s)) ≡ (when breaks o b then replacement else when is_empty_list (expected_after o b) then value_after o v b else first_or replacement (decode (expected_after o b) (value_after o v b) s))
 unfolding decode expected_after value_after breaks first_or
-first_step [] v b s = first-emit (follow table b) (lead_bits b) replacement (decode (follow table b) (lead_bits b) s)
+first_step [] v b s = first-emit (follow table_3_7 b) (lead_bits b) replacement (decode (follow table_3_7 b) (lead_bits b) s)
 first_step (r ∷ o) v b s = go (within r b) refl
   where
-    go : (t : Bool) → within r b ≡ t → first_or replacement (decode (r ∷ o) v (b ∷ s)) ≡ (when breaks (r ∷ o) b then replacement else when none (expected_after (r ∷ o) b) then value_after (r ∷ o) v b else first_or replacement (decode (expected_after (r ∷ o) b) (value_after (r ∷ o) v b) s))
+    go : (t : Bool) → within r b ≡ t → first_or replacement (decode (r ∷ o) v (b ∷ s)) ≡ (when breaks (r ∷ o) b then replacement else when is_empty_list (expected_after (r ∷ o) b) then value_after (r ∷ o) v b else first_or replacement (decode (expected_after (r ∷ o) b) (value_after (r ∷ o) v b) s))
     go true e = rw e (first-emit o (trail_bits v b) replacement (decode o (trail_bits v b) s))
     go false e = rw e
 
 -- ---- the last character, from where it begins
-pick : (p : List Range) (w c d : ℕ) (s : List ℕ) → ((x y : ℕ) → none p ≡ false → last_or x (decode p w s) ≡ last_or y (decode p w s)) → last_or (when none p then w else c) (decode p w s) ≡ last_or (when none p then w else d) (decode p w s)
-unfolding none
+pick : (p : List Range) (w c d : ℕ) (s : List ℕ) → ((x y : ℕ) → is_empty_list p ≡ false → last_or x (decode p w s) ≡ last_or y (decode p w s)) → last_or (when is_empty_list p then w else c) (decode p w s) ≡ last_or (when is_empty_list p then w else d) (decode p w s)
+unfolding is_empty_list
 pick [] w c d s later = refl
 pick (r ∷ p) w c d s later = later c d refl
 
 -- where something is expected a scalar value is to come, so what stands for none does not matter
-settled-end : (o : List Range) (v c d : ℕ) → none o ≡ false → last_or c (decode o v []) ≡ last_or d (decode o v [])
-unfolding none decode last_or
+settled-end : (o : List Range) (v c d : ℕ) → is_empty_list o ≡ false → last_or c (decode o v []) ≡ last_or d (decode o v [])
+unfolding is_empty_list decode last_or
 settled-end [] v c d h = absurd (true≢false h)
 settled-end (r ∷ o) v c d h = refl
 
-settled : (o : List Range) (v c d : ℕ) (s : List ℕ) → none o ≡ false → last_or c (decode o v s) ≡ last_or d (decode o v s)
+settled : (o : List Range) (v c d : ℕ) (s : List ℕ) → is_empty_list o ≡ false → last_or c (decode o v s) ≡ last_or d (decode o v s)
 settled o v c d [] h = settled-end o v c d h
 settled o v c d (b ∷ s) h =
     last_step o v c b s
@@ -125,7 +125,7 @@ fresh : (v w c d b : ℕ) (s : List ℕ) → last_or c (decode [] v (b ∷ s)) �
 unfolding expected_after value_after breaks
 fresh v w c d b s =
     last_step [] v c b s
-    ∙ pick (follow table b) (lead_bits b) c d s (λ x y k. settled (follow table b) (lead_bits b) x y s k)
+    ∙ pick (follow table_3_7 b) (lead_bits b) c d s (λ x y k. settled (follow table_3_7 b) (lead_bits b) x y s k)
     ∙ sym (last_step [] w d b s)
 
 -- only bytes from 0x80 to 0xBF are ever expected
@@ -148,9 +148,9 @@ follow-trails ((first ∷ others) ∷ rows) b h = go (within first b) refl (foll
     go true e k = rw e (and_left (trails others) (rows-trail rows) h)
     go false e k = rw e k
 
-table-trails : (b : ℕ) → trails (follow table b) ≡ true
-unfolding table rows-trail trails
-table-trails b = follow-trails table b refl
+table-trails : (b : ℕ) → trails (follow table_3_7 b) ≡ true
+unfolding table_3_7 rows-trail trails
+table-trails b = follow-trails table_3_7 b refl
 
 after-trails : (o : List Range) (b : ℕ) → trails o ≡ true → trails (expected_after o b) ≡ true
 unfolding trails expected_after
@@ -184,7 +184,7 @@ resync [] (r ∷ o) v c d b s h f = broken
     broken = last-broken r o v c b s (no-trail r o b h f) ∙ fresh 0 0 replacement d b s
 resync (x ∷ xs) o v c d b s h f = last_step o v c x (xs ++ b ∷ s) ∙ resync xs (expected_after o x) (value_after o v x) _ d b s (after-trails o x h) f
 
-pub ends-from : (s : List ℕ) (at : ℕ) → Begins s at → ends_with_white (drop at s) ≡ ends_with_white s
+pub ends-from : (s : List ℕ) (at : ℕ) → BeginsScalar s at → ends_with_white (drop at s) ≡ ends_with_white s
 unfolding ends_with_white scalars trails
 ends-from s zero g = refl
 ends-from s (suc n) g =
@@ -195,7 +195,7 @@ ends-from s (suc n) g =
     rw e (ap is_white (sym (rw whole-text at both)))
 
 -- r is what was answered of the part from there on
-pub ends-part : (s : List ℕ) (at : ℕ) {r : Bool} → r ≡ ends_with_white (take (length s - at) (drop at s)) → Begins s at → r ≡ ends_with_white s
+pub ends-part : (s : List ℕ) (at : ℕ) {r : Bool} → r ≡ ends_with_white (take (length s - at) (drop at s)) → BeginsScalar s at → r ≡ ends_with_white s
 ends-part s at e g =
     let l : length (drop at s) ≤ length s - at = simp length-drop (omega arith) in
     e ∙ rw (take_all (length s - at) (drop at s) l) (ends-from s at g)
@@ -216,12 +216,12 @@ module _ (o : List Range) (v b : ℕ) (s : List ℕ) {r : Bool} (e : r ≡ break
   unfolding start_from
   start-broken y = rw (first_step o v b s, ← e, y) (sym no-white)
 
-  module _ (more low high : ℕ) {v' : ℕ} (n : r ≡ false) (f : columns more low high ≡ expected_after o b) (g : v' ≡ value_after o v b) where
+  module _ (more low high : ℕ) {v' : ℕ} (n : r ≡ false) (f : trail_columns more low high ≡ expected_after o b) (g : v' ≡ value_after o v b) where
     pub start-whole : {w : Bool} → eqb more 0 ≡ true → w ≡ is_white v' → w ≡ start_from o v (b ∷ s)
     unfolding start_from
     start-whole z h = h ∙ rw (first_step o v b s, ← e, n, ← f, whole more low high, z, ← g)
 
-    pub start-more : eqb more 0 ≡ false → start_from o v (b ∷ s) ≡ start_from (columns more low high) v' s
+    pub start-more : eqb more 0 ≡ false → start_from o v (b ∷ s) ≡ start_from (trail_columns more low high) v' s
     unfolding start_from
     start-more z = rw (first_step o v b s, ← e, n, ← f, whole more low high, z, ← g)
 
@@ -242,25 +242,25 @@ pub end_init : (s : List ℕ) {o : List Range} {v : ℕ} → o ≡ [] → v ≡ 
 unfolding ends_with_white scalars end_from
 end_init s e f = rw (e, f) (record { within = omega arith; same = refl })
 
-module _ (d : ℕ) (o : List Range) (v b : ℕ) (s : List ℕ) (more low high : ℕ) {r : Bool} {v' d' : ℕ} (e : r ≡ breaks o b) (f : columns more low high ≡ expected_after o b) (g : v' ≡ value_after o v b) where
-  pub end-whole : d' ≡ v' → eqb more 0 ≡ true → end_from d o v (b ∷ s) ≡ end_from d' (columns more low high) v' s
+module _ (d : ℕ) (o : List Range) (v b : ℕ) (s : List ℕ) (more low high : ℕ) {r : Bool} {v' d' : ℕ} (e : r ≡ breaks o b) (f : trail_columns more low high ≡ expected_after o b) (g : v' ≡ value_after o v b) where
+  pub end-whole : d' ≡ v' → eqb more 0 ≡ true → end_from d o v (b ∷ s) ≡ end_from d' (trail_columns more low high) v' s
   unfolding end_from
   end-whole k z = rw (last_step o v d b s, ← f, whole more low high, z, k, ← g)
 
-  pub end-broken : d' ≡ replacement → eqb more 0 ≡ false → r ≡ true → end_from d o v (b ∷ s) ≡ end_from d' (columns more low high) v' s
+  pub end-broken : d' ≡ replacement → eqb more 0 ≡ false → r ≡ true → end_from d o v (b ∷ s) ≡ end_from d' (trail_columns more low high) v' s
   unfolding end_from
   end-broken k z y = rw (last_step o v d b s, ← f, whole more low high, z, ← e, y, k, ← g)
 
-  pub end-kept : d' ≡ d → eqb more 0 ≡ false → r ≡ false → end_from d o v (b ∷ s) ≡ end_from d' (columns more low high) v' s
+  pub end-kept : d' ≡ d → eqb more 0 ≡ false → r ≡ false → end_from d o v (b ∷ s) ≡ end_from d' (trail_columns more low high) v' s
   unfolding end_from
   end-kept k z n = rw (last_step o v d b s, ← f, whole more low high, z, ← e, n, k, ← g)
 
-pub end-done : (d more low high v : ℕ) {w : Bool} → eqb more 0 ≡ true → w ≡ is_white d → w ≡ end_from d (columns more low high) v []
+pub end-done : (d more low high v : ℕ) {w : Bool} → eqb more 0 ≡ true → w ≡ is_white d → w ≡ end_from d (trail_columns more low high) v []
 unfolding end_from decode last_or
 end-done d zero low high v z e = e
 end-done d (suc n) low high v z e = absurd (true≢false (sym z ∙ eqb-suc-zero n))
 
-pub end-open : (d more low high v : ℕ) {w : Bool} → eqb more 0 ≡ false → w ≡ false → w ≡ end_from d (columns more low high) v []
+pub end-open : (d more low high v : ℕ) {w : Bool} → eqb more 0 ≡ false → w ≡ false → w ≡ end_from d (trail_columns more low high) v []
 unfolding end_from decode last_or
 end-open d zero low high v z e = absurd (true≢false z)
 end-open d (suc n) low high v z e = e ∙ sym no-white

@@ -3,6 +3,10 @@
 use Rattle.std.specs.Prelude.{ℕ, Bool, false, ◌||◌, List, [], ◌∷◌, eqb}
 use Rattle.leaves.specs.Text.Bytes.{between}
 
+-- no kind: what stands for that of a record where there is none
+abbrev pub no_kind : ℕ
+no_kind = 0
+
 -- blocks
 abbrev pub paragraph : ℕ
 paragraph = 1

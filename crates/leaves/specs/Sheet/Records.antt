@@ -2,6 +2,7 @@
 -- length, second text start and length."
 use Rattle.std.specs.Prelude.{ℕ, ◌+◌, ◌*◌, ◌/◌, List, length, get_or}
 use Rattle.leaves.specs.declared.sheet.records.Rec.{Rec}
+use Rattle.leaves.specs.declared.sheet.records.Span.{Span}
 use Rattle.leaves.specs.declared.sheet.records.Text.{Text}
 
 -- how many words a record has (refusal 1: "words not a multiple of 12")
@@ -19,6 +20,10 @@ word_at w i k = get_or w (i * record_words + k) 0
 -- the text whose start is word k
 abbrev pub text_at : List ℕ → ℕ → ℕ → Text
 text_at w i k = record { start = word_at w i k; len = word_at w i (k + 1) }
+
+-- the span of what has none: "Without a span, start and end are 0."
+abbrev pub no_span : Span
+no_span = record { flag = 0; start = 0; end = 0 }
 
 -- record i, counted from 0
 unfoldable pub record_at : List ℕ → ℕ → Rec

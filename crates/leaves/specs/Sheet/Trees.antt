@@ -10,7 +10,7 @@ abbrev pub trees : Records → ℕ → Forest
 trees r level = under r.sheet.now r.n r.next level
 
 -- r stands before the first of all records of the sheet w, whose text is `text`
-pub record Whole (w text : List ℕ) (r : Records) : Type 0 where
+pub record OfSheet (w text : List ℕ) (r : Records) : Type 0 where
   pub sheet : r.sheet.now ≡ w
   pub bytes : r.bytes.now ≡ text
   pub n : r.n ≡ records_of w
@@ -31,7 +31,7 @@ pub record Until (x y : Records) (end : ℕ) : Type 0 where
   pub next : y.next ≡ x.next
 
 -- the next record of x is r, which is deeper than a level, and y goes on behind it
-pub record Reads (x y : Records) (level : ℕ) (r : Rec) : Type 0 where
+pub record ReadsNext (x y : Records) (level : ℕ) (r : Rec) : Type 0 where
   pub inside : x.next < x.n
   pub is : r ≡ record_at x.sheet.now x.next
   pub deep : level < r.level

@@ -4,7 +4,7 @@
 -- list of bytes has its scalar values.
 use Rattle.std.specs.Prelude.{ℕ, ◌+◌, ◌*◌, ◌%◌, List, [], ◌∷◌, ltb}
 use Rattle.leaves.specs.Text.Lists.{when◌then◌else◌}
-use Rattle.leaves.specs.Text.Utf8.{Range, within, follow, table}
+use Rattle.leaves.specs.Text.Utf8.{Range, within, follow, table_3_7}
 
 abbrev pub replacement : ℕ
 replacement = 0xFFFD
@@ -26,10 +26,10 @@ emit (r ∷ expected) value rest = rest
 unfoldable pub decode : List Range → ℕ → List ℕ → List ℕ
 decode [] value [] = []
 decode (r ∷ expected) value [] = replacement ∷ []
-decode [] value (b ∷ s) = emit (follow table b) (lead_bits b) (decode (follow table b) (lead_bits b) s)
+decode [] value (b ∷ s) = emit (follow table_3_7 b) (lead_bits b) (decode (follow table_3_7 b) (lead_bits b) s)
 decode (r ∷ expected) value (b ∷ s) =
     let goes_on = emit expected (trail_bits value b) (decode expected (trail_bits value b) s) in
-    let begins = emit (follow table b) (lead_bits b) (decode (follow table b) (lead_bits b) s) in
+    let begins = emit (follow table_3_7 b) (lead_bits b) (decode (follow table_3_7 b) (lead_bits b) s) in
     when within r b then goes_on else replacement ∷ begins
 
 unfoldable pub scalars : List ℕ → List ℕ

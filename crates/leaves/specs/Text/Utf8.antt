@@ -20,8 +20,8 @@ abbrev pub trail : Range
 trail = 0x80 to 0xBF
 
 -- The table, a row a line: what the first, second, third and fourth byte of a sequence may be.
-unfoldable pub table : List (List Range)
-table =
+unfoldable pub table_3_7 : List (List Range)
+table_3_7 =
     (0x00 to 0x7F ∷ [])
     ∷ (0xC2 to 0xDF ∷ trail ∷ [])
     ∷ (0xE0 to 0xE0 ∷ 0xA0 to 0xBF ∷ trail ∷ [])
@@ -47,7 +47,7 @@ follow ((first ∷ others) ∷ rows) b = when within first b then others else fo
 -- Whether bytes are well-formed where the columns `expected` of a row are still to come.
 unfoldable pub well_formed : List Range → List ℕ → Bool
 well_formed [] [] = true
-well_formed [] (b ∷ s) = well_formed (follow table b) s
+well_formed [] (b ∷ s) = well_formed (follow table_3_7 b) s
 well_formed (r ∷ expected) [] = false
 well_formed (r ∷ expected) (b ∷ s) = within r b && well_formed expected s
 

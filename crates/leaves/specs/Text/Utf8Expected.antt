@@ -3,16 +3,16 @@ use Rattle.std.specs.Prelude.{◌≡◌, ℕ, zero, suc, List, [], ◌∷◌, le
 use Rattle.leaves.specs.Text.Utf8.{Range, ◌to◌, trail}
 use Rattle.leaves.specs.declared.text.utf8.Expected.{Expected}
 
-abbrev pub columns : ℕ → ℕ → ℕ → List Range
-columns zero low high = []
-columns (suc more) low high = low to high ∷ replicate more trail
+abbrev pub trail_columns : ℕ → ℕ → ℕ → List Range
+trail_columns zero low high = []
+trail_columns (suc more) low high = low to high ∷ replicate more trail
 
 -- so many columns of most bytes
 abbrev pub trails : ℕ → List Range
 trails more = replicate more trail
 
 abbrev pub expected_of : Expected → List Range
-expected_of o = columns o.more o.low o.high
+expected_of o = trail_columns o.more o.low o.high
 
 abbrev pub expects : ℕ → ℕ → ℕ → Expected
 expects more low high = record { more = more; low = low; high = high }

@@ -2,7 +2,7 @@
 -- no promise to a caller cites them.
 use Rattle.std.specs.Prelude.{ℕ, Bool, false, not, List, [], ◌∷◌}
 use Rattle.leaves.specs.Text.Lists.{when◌then◌else◌}
-use Rattle.leaves.specs.Text.Utf8.{Range, within, follow, table}
+use Rattle.leaves.specs.Text.Utf8.{Range, within, follow, table_3_7}
 
 -- a byte is expected, and b does not fit
 unfoldable pub breaks : List Range → ℕ → Bool
@@ -11,5 +11,5 @@ breaks (r ∷ expected) b = not (within r b)
 
 -- What is expected after b: the columns after the first where b fits the first, else what follows b as a first byte.
 unfoldable pub expected_after : List Range → ℕ → List Range
-expected_after [] b = follow table b
-expected_after (r ∷ expected) b = when within r b then expected else follow table b
+expected_after [] b = follow table_3_7 b
+expected_after (r ∷ expected) b = when within r b then expected else follow table_3_7 b

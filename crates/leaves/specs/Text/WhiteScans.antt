@@ -19,6 +19,6 @@ room (suc (suc (suc zero))) = 0x8
 room (suc (suc (suc (suc n)))) = 0
 
 -- `at` is the start, or the byte at it is none of 0x80 to 0xBF: it begins a sequence, or no sequence can have it
-pub record Begins (s : List ℕ) (at : ℕ) : Type 0 where
+pub record BeginsScalar (s : List ℕ) (at : ℕ) : Type 0 where
   pub inside : at ≤ length s
   pub fresh : 0 < at → (at < length s) × (within trail (get_or s at 0) ≡ false)

@@ -17,8 +17,8 @@ use crate::sheet::records::RECORD_WORDS;
 // How many slots `open` of `judge_records` has: for the levels from 0 to `MOST_LEVEL` plus 1.
 const SLOTS: usize = MOST_LEVEL as usize + 2;
 
-// The slot of a level; 0 where the level is over `MOST_LEVEL`. What stands in slot 0 is then not asked for: the record is
-// refused for its level, or before that for its kind.
+// The slot of a level; 0 where the level is over `MOST_LEVEL`. What stands in slot 0 is then not asked for: the record
+// is refused for its level, or before that for its kind.
 fn slot_of(level: u32) -> usize
     ensures { Slot level result }
 {

@@ -1,7 +1,11 @@
-// The limits of document 01: a sheet or a text that is over one is refused.
+// The limits of document 01: a sheet or a text that is over one is refused, and so is a record that is deeper. The last
+// is no refusal: the check lists an item with a larger number, and the machine stops.
 pub(crate) const MOST_RECORDS: usize = 65_535;
 
 pub(crate) const MOST_BYTES: usize = 16_777_216;
 
 // The deepest level of a record.
 pub(crate) const MOST_LEVEL: u32 = 64;
+
+// The largest number of an ordered item.
+pub const MOST_ITEM_NUMBER: u32 = 999_999_999;

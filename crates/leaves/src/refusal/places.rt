@@ -11,7 +11,8 @@ use crate::refusal::groups::{HOLDS_TAGS_AND_BLOCKS, HOLDS_TAGS_AND_INLINES};
 use crate::sheet::kinds;
 
 // The allowed places: a row for each group of parents, by what it holds; a column for each group of children, in the
-// order block, item, row, cell, HTML tag, attribute, inline. 0: not allowed.
+// order block, item, row, cell, HTML tag, attribute, inline. 0: not allowed; it is below each place, and a place is only
+// compared.
 const PLACES: [[u32; 7]; 10] = [
     // blocks
     [1, 0, 0, 0, 0, 0, 0],
@@ -35,8 +36,8 @@ const PLACES: [[u32; 7]; 10] = [
     [0, 0, 0, 0, 0, 0, 0],
 ];
 
-// The two tables that say where a record may stand. A constant array is copied at each mention, so `judge_records` makes
-// them once and lends them.
+// The two tables that say where a record may stand. A constant array is copied at each mention, so `judge_records`
+// makes them once and lends them.
 #[derive(Drop)]
 pub(crate) struct Tables {
     places: [[u32; 7]; 10],
@@ -63,8 +64,9 @@ impl Tables {
         self.places[group as usize][column as usize]
     }
 
-    // The place of a kind under a group of parents; 0 where it is not allowed there. What reads the tables by a kind asks
-    // that it is known, which `judge` has tested: a type of known kinds would be made for this, and taken apart at once.
+    // The place of a kind under a group of parents; 0 where it is not allowed there. What reads the tables by a kind
+    // asks that it is known, which `judge` has tested: a type of known kinds would be made for this, and taken apart at
+    // once.
     #[tactic(auto, unfolding(crate::specs::Refusal::Places::place_of))]
     fn place_of(&self, group: u32, kind: u32) -> u32
         requires { is_kind kind ≡ true }
@@ -82,10 +84,10 @@ impl Tables {
     }
 }
 
-// What stands before a record under its parent: the parent's group, the place of the child before it (0 where
-// there is none: it is below each place), and how many HTML tags. A group is a number and no enum, since the tables are
+// What stands before a record under its parent: the parent's group, the place of the child before it (0 where there is
+// none: it is below each place), and how many HTML tags. A group is a number and no enum: the tables give it, and are
 // read by it.
-#[derive(Clone, Copy)]
+#[derive(Clone, Copy, PartialEq, Eq, Debug)]
 pub struct Open {
     pub group: u32,
     pub stage: u32,

@@ -36,7 +36,7 @@ impl Malformed {
         }
     }
 
-    // The record that the refusal names; 0 where it names none.
+    // The record that the refusal names; 0 where it names none, as the C interface has it.
     pub fn record(self) -> usize
         ensures { result ≡ (refusal_answer self).value }
     {
@@ -53,8 +53,8 @@ impl Malformed {
     }
 }
 
-// The number of the answer; 0 where the sheet is accepted, as the C interface has it. A function and no `From`: the type
-// is the library's, and the number alone is not the answer.
+// The number of the answer; 0 where the sheet is accepted, as the C interface has it. A function and no `From`: the
+// type is the library's, and the number alone is not the answer.
 pub fn number_of(judged: Result<(), Malformed>) -> u32
     ensures { result ≡ (judged_answer judged).number }
 {

@@ -11,8 +11,8 @@ use crate::sheet::records::Span;
 // The most that a sum of the tally can be; no report has so many words.
 const CAP: usize = 4611686018427387904;
 
-// How many words of an entry stand before its path.
-const HEAD: usize = 5;
+// How many words of an entry stand before its path; the last of them is the path's length.
+pub const HEAD: usize = 5;
 
 // How many words and entries the list has so far.
 #[derive(Clone, Copy, PartialEq, Eq, Debug)]
@@ -116,15 +116,15 @@ impl<'a> Report<'a> {
         }
     }
 
-    // Where `fault` holds, counts a diagnostic of the rule, and writes its entry behind those before it if the whole entry
-    // fits.
+    // Where `fault` holds, counts a diagnostic of the rule, and writes its entry behind those before it if the whole
+    // entry fits.
     pub fn list_if(&mut self, fault: bool, rule: Rule, span: Span)
         ensures { Adds self.old self.new (list_if fault (rule_number rule) span (path_of self.old)) }
     {
         self.list_number_if(fault, rule.number(), span);
     }
 
-    // The same for any number of a rule.
+    // The same for any number of a rule: who promised it for every number still does.
     pub fn list_number_if(&mut self, fault: bool, rule: u32, span: Span)
         ensures { Adds self.old self.new (list_if fault rule span (path_of self.old)) }
     {
@@ -137,6 +137,7 @@ impl<'a> Report<'a> {
     }
 
     // Goes on to a record of the level `level`, which is the child number `index` of the record where the walk stood.
+    // Document 01: "The closure in `Report::at` becomes a path passed down", so entering and leaving are two calls.
     pub fn enter(&mut self, index: u32, level: u32)
         requires { (self.old.level < level) × (level ≤ most_level) }
         ensures { Enters self.old self.new index level }

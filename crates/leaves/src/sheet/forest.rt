@@ -1,6 +1,6 @@
 // The trees of a sheet, by record number: whether one stands at a record, where trees side by side end, and how many
-// there are. They ask that the first n records lie in the sheet, and nothing of its levels: `Records` calls them, and so
-// may who has no accepted sheet.
+// there are. They ask that the first n records lie in the sheet, and nothing of its levels: `Records` calls them, and
+// so may who has no accepted sheet.
 ghost use Rattle.std.specs.Prelude.{◌≡◌, ◌+◌, ◌*◌, ◌≤◌, eqb, length};
 ghost use Rattle.leaves.specs.Sheet.Records.{record_words};
 ghost use Rattle.leaves.specs.Sheet.Forest.{under, size, count};
@@ -33,6 +33,7 @@ pub fn count(sheet: &[u32], n: usize, from: usize, level: u32) -> usize
     requires { (n * record_words ≤ length sheet.now) × (from ≤ n) }
     ensures { result ≡ count (under sheet.now n from level) }
 {
+    // by number: `roots` would ask for the limits that `Records` keeps
     let mut trees: usize = 0;
     let mut next = from;
     while !ends(sheet, n, next, level) {

@@ -4,6 +4,9 @@
 ghost use Rattle.std.specs.Prelude.{◌≡◌};
 ghost use Rattle.leaves.specs.Sheet.Kinds.{is_block, is_inline, is_kind};
 
+// No kind: what stands for that of a record where there is none.
+pub const NO_KIND: u32 = 0;
+
 pub const PARAGRAPH: u32 = 1;
 
 pub const HEADING: u32 = 2;

@@ -1,5 +1,5 @@
-// The records of a sheet, by number. Each function asks that its record lies in the sheet: nothing else is known of a sheet
-// when its records are tested, so no type can hold it.
+// The records of a sheet, by number. Each function asks that its record lies in the sheet. `Records` has that in its
+// type; the refusals, the machine and `forest` go by number, and ask it here.
 ghost use Rattle.std.specs.Prelude.{◌≡◌, ◌+◌, ◌*◌, ◌<◌, ◌≤◌, length};
 ghost use Rattle.leaves.specs.Sheet.Records.{record_words, word_at, text_at, record_at};
 
@@ -11,6 +11,21 @@ pub struct Span {
     pub flag: u32,
     pub start: u32,
     pub end: u32,
+}
+
+impl Span {
+    ghost use Rattle.leaves.specs.Sheet.Records.{no_span};
+
+    // The span of what has none.
+    pub fn none() -> Self
+        ensures { result ≡ no_span }
+    {
+        Span {
+            flag: 0,
+            start: 0,
+            end: 0,
+        }
+    }
 }
 
 // A text that a record names: a part of the sheet's text.

@@ -25,13 +25,13 @@ impl<'a> Records<'a> {
     ghost use Rattle.leaves.specs.Sheet.Records.{records_of};
     ghost use Rattle.leaves.specs.Sheet.Forest.{count, size};
     ghost use Rattle.leaves.specs.Sheet.Roots.{roots, roots_left};
-    ghost use Rattle.leaves.specs.Sheet.Trees.{trees, Whole, Until, Moved, Reads, Ends};
+    ghost use Rattle.leaves.specs.Sheet.Trees.{trees, OfSheet, Until, Moved, ReadsNext, Ends};
     ghost use Rattle.leaves.specs.Refusal.Formed.{Sound};
 
     // All records of an accepted sheet.
     pub fn of_sheet(sheet: &'a [u32], bytes: &'a [u8]) -> Self
         requires { Sound sheet.now bytes.now }
-        ensures { Whole sheet.now bytes.now result }
+        ensures { OfSheet sheet.now bytes.now result }
     {
         Records {
             sheet,
@@ -46,6 +46,7 @@ impl<'a> Records<'a> {
         requires { (self.now.next ≤ end) × (end ≤ self.now.n) }
         ensures { Until self.now result end }
     {
+        // field by field: Rattle has no `..` for a struct with ghost fields
         Records {
             sheet: self.sheet,
             bytes: self.bytes,
@@ -58,7 +59,7 @@ impl<'a> Records<'a> {
     // all records of the trees side by side, and one that skips what stands under each goes from tree to tree. A loop
     // that enters each tree lends the records to its walk, which moves them on: `roots` would go over each once more.
     pub fn next_under(&mut self, level: u32) -> Option<Rec>
-        ensures some { IfSome result (λ r. Reads self.old self.new level r) }
+        ensures some { IfSome result (λ r. ReadsNext self.old self.new level r) }
         ensures none { IfNone result (Ends self.old self.new level) }
     {
         if self.next == self.n {

@@ -19,7 +19,8 @@ fn past_spaces(s: &[u8]) -> &[u8]
     &s[at..]
 }
 
-// The number that the bytes make as digits; none where one is no digit or the number does not fit.
+// The number that the bytes make as digits; none where one is no digit or the number does not fit. By hand: `parse` of
+// the library takes a sign, which no field has.
 fn read_digits(s: &[u8]) -> Option<u32>
     ensures { result ≡ read_digits 0 s.now }
 {
@@ -68,7 +69,7 @@ fn put_front(cells: &mut [u8], n: u32)
     ensures { cells.new ≡ front (length cells.old) n }
 {
     let mut rest = n;
-    // By index: no contract says which cell an `iter_mut().rev()` is at.
+    // By index: over `iter_mut().rev()` the invariant would have to speak of the cells that the iterator still lends.
     for i in (0..cells.len()).rev() {
         cells[i] = last_place(rest);
         rest /= 10;

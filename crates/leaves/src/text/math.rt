@@ -12,6 +12,7 @@ pub fn holds_backtick_dollar(s: &[u8]) -> bool
 {
     let plain = Other { than: BACKTICK };
     let mut rest = chunk::past(s, &plain);
+    // no `windows`: a turn may pass over many bytes
     while let [first, second, ..] = rest {
         if *first == BACKTICK && *second == DOLLAR {
             return true;

@@ -13,6 +13,7 @@ pub fn has_odd_escaped_pipe(s: &[u8]) -> bool
     let plain = Other { than: BACKSLASH };
     let mut odd = false;
     let mut rest = chunk::past(s, &plain);
+    // no iterator over bytes: a turn may pass over many. That is tried once in sixteen bytes, and not at each
     while let [b, behind @ ..] = rest {
         if odd && *b == PIPE {
             return true;

@@ -1,6 +1,6 @@
 // Well-formed UTF-8.
 ghost use Rattle.std.specs.Prelude.{◌≡◌, ◌≤◌, ◌++◌, List, ℕ, eqb, length};
-ghost use Rattle.leaves.specs.Text.Utf8.{is_utf8, well_formed, follow, table, trail};
+ghost use Rattle.leaves.specs.Text.Utf8.{is_utf8, well_formed, follow, table_3_7, trail};
 ghost use Rattle.leaves.specs.Text.Utf8Scans.{breaks, expected_after};
 ghost use Rattle.leaves.specs.Text.Utf8Expected.{expected_of, expects, trails, Expects};
 
@@ -11,7 +11,9 @@ use crate::text::chunk::Ascii;
 const STRETCH: usize = 64;
 
 // What a sequence that has begun expects: how many more bytes, and the range of the next one. The bytes after the next
-// must be from 0x80 to 0xBF. Where no more bytes are expected, the range is 0x80 to 0xBF too.
+// must be from 0x80 to 0xBF. Where no more bytes are expected, the range is 0x80 to 0xBF too. Where nothing fits any
+// more, the range is one that no byte fits, as in the definition (`nothing`): an Option would be asked at every byte
+// besides.
 #[derive(Clone, Copy)]
 pub(crate) struct Expected {
     pub more: u8,
@@ -36,9 +38,9 @@ impl Expected {
     }
 
     // What is expected after the first byte of a sequence. After a byte that begins none: a range that no byte fits.
-    #[tactic(auto, unfolding(crate::specs::Text::Utf8Expected::expecting, crate::specs::Text::Utf8::follow, crate::specs::Text::Utf8::table))]
+    #[tactic(auto, unfolding(crate::specs::Text::Utf8Expected::expecting, crate::specs::Text::Utf8::follow, crate::specs::Text::Utf8::table_3_7))]
     fn follow(b: u8) -> Expected
-        ensures { Expects (follow table b) result }
+        ensures { Expects (follow table_3_7 b) result }
     {
         // Most bytes are below 0xE0: one `match` of all rows asks for them last, and is slower by a third.
         if b < 0x80 {

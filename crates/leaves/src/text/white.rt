@@ -3,7 +3,7 @@ ghost use Rattle.std.specs.Prelude.{◌≡◌, ◌<◌, [], eqb};
 ghost use Rattle.leaves.specs.Text.Utf8Expected.{expected_of, Expects};
 ghost use Rattle.leaves.specs.Text.Utf8Scans.{expected_after};
 ghost use Rattle.leaves.specs.Text.Scalars.{lead_bits};
-ghost use Rattle.leaves.specs.Text.WhiteScans.{value_after, room, Begins};
+ghost use Rattle.leaves.specs.Text.WhiteScans.{value_after, room, BeginsScalar};
 ghost use Rattle.leaves.specs.Text.White.{is_white, starts_with_white, ends_with_white};
 
 use crate::text::utf8::Expected;
@@ -112,7 +112,7 @@ pub fn starts_with_white(s: &[u8]) -> bool
 
 // Where the last character begins: at the last byte that can begin one, or at the start.
 fn last_start(s: &[u8]) -> usize
-    ensures { Begins s.now result }
+    ensures { BeginsScalar s.now result }
 {
     s.iter()
         .rposition(|b| !matches!(*b, 0x80..=0xBF))

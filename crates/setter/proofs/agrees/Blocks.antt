@@ -23,17 +23,19 @@ use Rattle.blocks.specs.declared.before.Before.{Before}
 use Rattle.blocks.specs.Heads.{validate_heading}
 use Rattle.blocks.specs.Frontmatter.{validate_frontmatter}
 use Rattle.leaves.specs.Text.Marker.{written_marker}
-use Rattle.blocks.specs.Before.{takes_indented_code, validate_taken_block, first, before_next}
+use Rattle.blocks.specs.Before.{takes_indented_code, validate_taken_block, no_block, before_next}
 use Rattle.blocks.specs.List.{validate_list}
 use Rattle.blocks.specs.Number.{item_number, validate_item_number}
 use Rattle.blocks.specs.Label.{before_blocks, validate_directive}
 use Rattle.blocks.specs.Paragraph.{validate_paragraph}
 use Rattle.blocks.specs.Holds
-use Rattle.blocks.specs.Block.{validate_leaf, validate_html, validate_container, validate_own}
+use Rattle.blocks.specs.Block.{validate_own}
+use Rattle.blocks.specs.Html.{validate_html_container}
 use Rattle.blocks.specs.Walk.{validate_block, validate_item, validate_blocks, validate_list_items}
+use Rattle.leaves.specs.Refusal.Limits.{most_item_number}
 use Rattle.setter.specs.Steps.{Frame, fresh, with_kid, opens, closes}
-use Rattle.setter.specs.Machine.{path_of, block_path, position}
-use Rattle.setter.specs.Stops.{most_own_number, stop_of, stop_at}
+use Rattle.setter.specs.Machine.{frame_path, block_path, position}
+use Rattle.setter.specs.Stops.{stop_of, stop_at}
 use Rattle.setter.specs.Seen.{nearest, in_link, behind_break, behind_list, only_empty}
 use Rattle.setter.specs.Agrees.{Begins}
 use Rattle.setter.specs.Stops.{beside, named}
@@ -81,10 +83,10 @@ pub record Told (ks : List Rec) (m k : ℕ) (b : Before) (c : ℕ) : Type 0 wher
   pub many : position ks ≡ k
   pub lists : (r : Rec) → behind_list ks r ≡ list_before b r
   pub broke : m ≤ 1 → is_break c ≡ behind_break ks
-  pub early : m ≤ 1 → b ≡ first
+  pub early : m ≤ 1 → b ≡ no_block
   pub start : m ≤ 0 → c ≡ 0
 
-pub told_none : Told [] 0 0 first 0
+pub told_none : Told [] 0 0 no_block 0
 unfolding position behind_list
 told_none = record { many = refl; lists = λ r. refl; broke = λ h. refl; early = λ h. refl; start = λ h. refl }
 
@@ -170,18 +172,18 @@ clean-directive bytes q sp n name ts e x y = rw e (clean-append (clean-name byte
 abbrev pub Blocks : List ℕ → Forest → Type 0
 Blocks bytes ts =
     (es : List Entry) (f : Frame) (st : List Frame) (i m k : ℕ) (b : Before) (c : ℕ) → ((k : ℕ) → Stands f.of k → Root f.of k) → Placed f.of m ts
-    → Told f.kids m k b c → in_link (f ∷ st) ≡ false → Sub (validate_blocks bytes (path_of (f ∷ st)) k b ts) es → (f.of.kind ≡ container_directive → m ≤ 1 → Label bytes es (path_of (f ∷ st)) c ts)
-    → Fits bytes es (walk f st i ts) (Clean (validate_blocks bytes (path_of (f ∷ st)) k b ts) × (f.of.kind ≡ container_directive → m ≤ 1 → CleanLabel bytes (path_of (f ∷ st)) c ts))
+    → Told f.kids m k b c → in_link (f ∷ st) ≡ false → Sub (validate_blocks bytes (frame_path (f ∷ st)) k b ts) es → (f.of.kind ≡ container_directive → m ≤ 1 → Label bytes es (frame_path (f ∷ st)) c ts)
+    → Fits bytes es (walk f st i ts) (Clean (validate_blocks bytes (frame_path (f ∷ st)) k b ts) × (f.of.kind ≡ container_directive → m ≤ 1 → CleanLabel bytes (frame_path (f ∷ st)) c ts))
 
 abbrev pub Items : List ℕ → Forest → Type 0
 Items bytes ts =
     (es : List Entry) (f : Frame) (st : List Frame) (i m k tight : ℕ) → f.of.kind ≡ list → Placed f.of m ts → position f.kids ≡ k → in_link (f ∷ st) ≡ false
-    → Sub (validate_list_items bytes (path_of (f ∷ st)) k f.of.a tight ts) es → Fits bytes es (walk f st i ts) (Clean (validate_list_items bytes (path_of (f ∷ st)) k f.of.a tight ts))
+    → Sub (validate_list_items bytes (frame_path (f ∷ st)) k f.of.a tight ts) es → Fits bytes es (walk f st i ts) (Clean (validate_list_items bytes (frame_path (f ∷ st)) k f.of.a tight ts))
 
 -- the blocks of a container, whose path is q
-module _ (bytes : List ℕ) (es : List Entry) (f : Frame) (st : List Frame) (i : ℕ) (kids : Forest) (q : List ℕ) (at-q : path_of (f ∷ st) ≡ q) (out : in_link (f ∷ st) ≡ false) (new : f.kids ≡ []) (placed : Placed f.of 0 kids) (ih : Blocks bytes kids) where
-  within : ((k : ℕ) → Stands f.of k → Root f.of k) → Sub (validate_blocks bytes q 0 first kids) es → (f.of.kind ≡ container_directive → 0 ≤ 1 → Label bytes es q 0 kids) → Fits bytes es (walk f st i kids) (Clean (validate_blocks bytes q 0 first kids) × (f.of.kind ≡ container_directive → 0 ≤ 1 → CleanLabel bytes q 0 kids))
-  within a s t = rw at-q at (ih es f st i 0 0 first 0 a placed (rw new told_none) out (rw at-q s) (rw at-q t))
+module _ (bytes : List ℕ) (es : List Entry) (f : Frame) (st : List Frame) (i : ℕ) (kids : Forest) (q : List ℕ) (at-q : frame_path (f ∷ st) ≡ q) (out : in_link (f ∷ st) ≡ false) (new : f.kids ≡ []) (placed : Placed f.of 0 kids) (ih : Blocks bytes kids) where
+  within : ((k : ℕ) → Stands f.of k → Root f.of k) → Sub (validate_blocks bytes q 0 no_block kids) es → (f.of.kind ≡ container_directive → 0 ≤ 1 → Label bytes es q 0 kids) → Fits bytes es (walk f st i kids) (Clean (validate_blocks bytes q 0 no_block kids) × (f.of.kind ≡ container_directive → 0 ≤ 1 → CleanLabel bytes q 0 kids))
+  within a s t = rw at-q at (ih es f st i 0 0 no_block 0 a placed (rw new told_none) out (rw at-q s) (rw at-q t))
 
 -- a heading's depth, as the machine and the check ask for it
 depth_same : (a : ℕ) → not (leb 1 a && leb a 6) ≡ (eqb a 0 || ltb 6 a)
@@ -198,11 +200,11 @@ held bytes q r kids =
     when eqb r.kind list
     then validate_list_items bytes q 0 r.a r.c kids
     else when Holds.holds_blocks r.kind r.a
-    then validate_blocks bytes q 0 first kids
+    then validate_blocks bytes q 0 no_block kids
     else []
 
 -- one block, whose path is q
-module _ (bytes : List ℕ) (es : List Entry) (f : Frame) (st : List Frame) (i : ℕ) (b : Before) (r : Rec) (kids : Forest) (q : List ℕ) (at-q : path_of (fresh i r ∷ f ∷ st) ≡ q) (out : in_link (f ∷ st) ≡ false) (placed : Placed r 0 kids) (same : behind_list f.kids r ≡ list_before b r) (s₁ : Sub (list_if (joins b r) 1 r.span q) es) (s : Sub (validate_own bytes q r kids) es) (t : Sub (held bytes q r kids) es) where
+module _ (bytes : List ℕ) (es : List Entry) (f : Frame) (st : List Frame) (i : ℕ) (b : Before) (r : Rec) (kids : Forest) (q : List ℕ) (at-q : frame_path (fresh i r ∷ f ∷ st) ≡ q) (out : in_link (f ∷ st) ≡ false) (placed : Placed r 0 kids) (same : behind_list f.kids r ≡ list_before b r) (s₁ : Sub (list_if (joins b r) 1 r.span q) es) (s : Sub (validate_own bytes q r kids) es) (t : Sub (held bytes q r kids) es) where
   abbrev own₀ : List Entry
   own₀ = validate_own bytes q r kids
 
@@ -230,7 +232,7 @@ module _ (bytes : List ℕ) (es : List Entry) (f : Frame) (st : List Frame) (i :
   block-plain bare nl o c n m = fits-map (λ x. (apart nl, n, m)) (fits-alone f st i r kids (still o) (fits-leaf _ _ _ _ (leaf r 0 kids placed bare)) (still c))
 
   -- a container of blocks
-  block-holder : Blocks bytes kids → ((k : ℕ) → Stands r k → Root r k) → (r.kind ≡ container_directive → ⊥) → eqb r.kind list ≡ false → in_link (fresh i r ∷ f ∷ st) ≡ false → open₀ ≡ 0 → close₀ ≡ 0 → Clean own₀ → held₀ ≡ validate_blocks bytes q 0 first kids → Block
+  block-holder : Blocks bytes kids → ((k : ℕ) → Stands r k → Root r k) → (r.kind ≡ container_directive → ⊥) → eqb r.kind list ≡ false → in_link (fresh i r ∷ f ∷ st) ≡ false → open₀ ≡ 0 → close₀ ≡ 0 → Clean own₀ → held₀ ≡ validate_blocks bytes q 0 no_block kids → Block
   block-holder ih a nd nl k o c n m =
       fits-map (λ x. (apart nl, n, rw m x.1.0))
       (fits-alone f st i r kids (still o) (within bytes es (fresh i r) (f ∷ st) (suc i) kids q at-q k refl placed ih a (rw m at t) (λ h. absurd (nd h))) (still c))
@@ -242,7 +244,7 @@ module _ (bytes : List ℕ) (es : List Entry) (f : Frame) (st : List Frame) (i :
       (fits-alone f st i r kids x (content-fits bytes es (fresh i r) (f ∷ st) (suc i) kids k a placed refl q (at []) u (λ h. absurd (true≢false (sym h ∙ free)))) y)
 
   block-list : Items bytes kids → r.kind ≡ list → Block
-  unfolding stop_of stop_at validate_own validate_container validate_list in_link position beside named
+  unfolding stop_of stop_at validate_own validate_list in_link position beside named
   block-list ih e =
       let l : Sub (validate_list q r.span r.c kids) es = rw e at s in
       let u : Sub (validate_list_items bytes q 0 r.a r.c kids) es = rw e at t in
@@ -256,7 +258,7 @@ module _ (bytes : List ℕ) (es : List Entry) (f : Frame) (st : List Frame) (i :
       (one-stop (eqb (length (pile kids [])) 0) 8 (rw e) (λ h. sub-if 12 _ q (sub-left _ l) (n ∙ h) refl (at (pile kids [])))))
 
   block-front : r.kind ≡ frontmatter → Block
-  unfolding stop_of stop_at validate_own validate_container validate_leaf validate_frontmatter Holds.holds_blocks group_of parent_group other_group beside named
+  unfolding stop_of stop_at validate_own validate_frontmatter Holds.holds_blocks group_of parent_group other_group beside named
   block-front e =
       let l : Sub (validate_frontmatter bytes q r.span r.level r.a r.first) es = rw e at s in
       fits-map (λ c. (apart (rw e), rw e (clean-append (clean-if 28 _ q c.0) (clean-noise _ 29 _ q refl)), rw e clean-none))
@@ -266,7 +268,7 @@ module _ (bytes : List ℕ) (es : List Entry) (f : Frame) (st : List Frame) (i :
       (still (rw e)))
 
   block-leaf-directive : r.kind ≡ leaf_directive → Block
-  unfolding stop_of stop_at validate_own validate_container validate_leaf validate_directive Holds.holds_blocks group_of parent_group other_group in_link nearest beside named
+  unfolding stop_of stop_at validate_own validate_directive Holds.holds_blocks group_of parent_group other_group in_link nearest beside named
   block-leaf-directive e =
       let l : Sub (validate_directive bytes q 22 r.span r.first kids) es = rw e at s in
       let a : (k : ℕ) → Stands r k → InlineRoot k = hold-label r (rw e) in
@@ -279,10 +281,10 @@ module _ (bytes : List ℕ) (es : List Entry) (f : Frame) (st : List Frame) (i :
       (still (rw e)))
 
   block-directive : Blocks bytes kids → r.kind ≡ container_directive → Block
-  unfolding stop_of stop_at validate_own validate_container validate_directive validate_inlines validate_inline_nodes Holds.holds_blocks group_of parent_group other_group in_link named
+  unfolding stop_of stop_at validate_own validate_directive validate_inlines validate_inline_nodes Holds.holds_blocks group_of parent_group other_group in_link named
   block-directive ih e =
       let l : Sub (validate_directive bytes q 23 r.span r.first kids) es = rw e at s in
-      let u : Sub (validate_blocks bytes q 0 first kids) es = rw e at t in
+      let u : Sub (validate_blocks bytes q 0 no_block kids) es = rw e at t in
       fits-map (λ c. let w = c.1.1 e (omega arith) in (apart (rw e), rw e (clean-append (clean-name bytes q r.span r.first) (clean-append (clean-attributes bytes q (before_blocks kids)) (clean-append (clean-append (clean-final q (before_blocks kids)) w.nodes) w.line))), rw e c.1.0))
       (fits-alone f st i r kids
       (still (rw e))
@@ -292,7 +294,7 @@ module _ (bytes : List ℕ) (es : List Entry) (f : Frame) (st : List Frame) (i :
       (still (rw e)))
 
   block-html : Blocks bytes kids → r.kind ≡ html_container → Block
-  unfolding stop_of stop_at validate_own validate_container validate_html Holds.holds_blocks group_of parent_group other_group in_link nearest named
+  unfolding stop_of stop_at validate_own validate_html_container Holds.holds_blocks group_of parent_group other_group in_link nearest named
   block-html ih e = go (eqb r.a 0) refl
     where
       go : (x : Bool) → eqb r.a 0 ≡ x → Block
@@ -304,7 +306,7 @@ module _ (bytes : List ℕ) (es : List Entry) (f : Frame) (st : List Frame) (i :
           (sub-right _ (rw (e, u) at s)) (λ x c y. rw (e, u) (clean-append (clean-tags bytes q r.span kids) c)) (rw (e, u) clean-none)
 
   block-fits : Blocks bytes kids → Items bytes kids → BlockKind r.kind → Block
-  unfolding stop_of stop_at validate_own validate_container validate_leaf validate_paragraph validate_heading Holds.holds_blocks group_of parent_group other_group in_link nearest beside named
+  unfolding stop_of stop_at validate_own validate_paragraph validate_heading Holds.holds_blocks group_of parent_group other_group in_link nearest beside named
   block-fits ihb ihi (b1 e) =
       block-content (hold-inlines r (rw e)) (rw e) (rw e out) (rw e) (still (rw e))
       (one-stop (only_empty (pile kids [])) 9 (rw e) (λ h. sub-if 2 _ q (sub-left _ (rw e at s)) (sym (empty-kids r kids (rw e) placed) ∙ h) refl (at (pile kids []))))
@@ -331,7 +333,7 @@ module _ (bytes : List ℕ) (es : List Entry) (f : Frame) (st : List Frame) (i :
   block-fits ihb ihi (b17 e) = block-plain (rw e) (rw e) (rw e) (rw e) (rw e clean-none) (rw e clean-none)
 
 -- an item's number: its two stops, and its two rules
-module _ (bytes : List ℕ) (es : List Entry) (f : Frame) (st : List Frame) (i : ℕ) (r : Rec) (q : List ℕ) (e : r.kind ≡ item) (d : path_of (fresh i r ∷ f ∷ st) ≡ q) (s : Sub (validate_item_number q r.span f.of.a (item_number r.b r.c)) es) where
+module _ (bytes : List ℕ) (es : List Entry) (f : Frame) (st : List Frame) (i : ℕ) (r : Rec) (q : List ℕ) (e : r.kind ≡ item) (d : frame_path (fresh i r ∷ f ∷ st) ≡ q) (s : Sub (validate_item_number q r.span f.of.a (item_number r.b r.c)) es) where
   number_fits : Fit bytes es (opens (fresh i r) (f ∷ st)) (Clean (validate_item_number q r.span f.of.a (item_number r.b r.c)))
   unfolding stop_of stop_at validate_item_number item_number beside
   number_fits = go (eqb f.of.a 1) refl (eqb r.b 1) refl
@@ -342,17 +344,17 @@ module _ (bytes : List ℕ) (es : List Entry) (f : Frame) (st : List Frame) (i :
       go : (x : Bool) → eqb f.of.a 1 ≡ x → (y : Bool) → eqb r.b 1 ≡ y → Fit bytes es (opens (fresh i r) (f ∷ st)) (Clean (validate_item_number q r.span f.of.a (item_number r.b r.c)))
       go true u false v = fit-map (λ c. rw v clean-none) (still (rw (e, u, v)))
       go false u false v = fit-map (λ c. rw v clean-none) (still (rw (e, u, v)))
-      go true u true v = fit-map (λ c. rw (v, u) (clean-append (clean-if 49 _ q refl) (clean-if 50 _ q c))) (one-stop (ltb most_own_number r.c) 6 (rw (e, u, v)) (λ h. sub-if 50 _ q (sub-right _ (rw (v, u) at s)) h refl at))
+      go true u true v = fit-map (λ c. rw (v, u) (clean-append (clean-if 49 _ q refl) (clean-if 50 _ q c))) (one-stop (ltb most_item_number r.c) 6 (rw (e, u, v)) (λ h. sub-if 50 _ q (sub-right _ (rw (v, u) at s)) h refl at))
       go false u true v = fit-map (λ c. absurd (true≢false c)) (one-stop true 7 (rw (e, u, v)) (λ h. sub-if 49 _ q (sub-left _ (rw (v, u) at s)) refl refl at))
 
 -- an item and the items after it
 module _ (bytes : List ℕ) (es : List Entry) (f : Frame) (st : List Frame) (i m k tight : ℕ) (r : Rec) (kids rest : Forest) (ihb : Blocks bytes kids) (ihr : Items bytes rest) where
-  tree-item : f.of.kind ≡ list → Placed f.of m (tree r kids rest) → position f.kids ≡ k → in_link (f ∷ st) ≡ false → Sub (validate_list_items bytes (path_of (f ∷ st)) k f.of.a tight (tree r kids rest)) es → Fits bytes es (walk f st i (tree r kids rest)) (Clean (validate_list_items bytes (path_of (f ∷ st)) k f.of.a tight (tree r kids rest)))
-  unfolding validate_list_items validate_item Placed path_of in_link position stop_of stop_at group_of parent_group named
+  tree-item : f.of.kind ≡ list → Placed f.of m (tree r kids rest) → position f.kids ≡ k → in_link (f ∷ st) ≡ false → Sub (validate_list_items bytes (frame_path (f ∷ st)) k f.of.a tight (tree r kids rest)) es → Fits bytes es (walk f st i (tree r kids rest)) (Clean (validate_list_items bytes (frame_path (f ∷ st)) k f.of.a tight (tree r kids rest)))
+  unfolding validate_list_items validate_item Placed frame_path in_link position stop_of stop_at group_of parent_group named
   tree-item e placed t out s =
       let one : r.kind ≡ item = under-list f.of r.kind placed.0 (rw e) in
-      let q : List ℕ = path_of (f ∷ st) ++ k ∷ [] in
-      let at-q : path_of (fresh i r ∷ f ∷ st) ≡ path_of (f ∷ st) ++ k ∷ [] = path-indexed (fresh i r) (f ∷ st) (rw one) ∙ ap (λ (n : ℕ). path_of (f ∷ st) ++ n ∷ []) t in
+      let q : List ℕ = frame_path (f ∷ st) ++ k ∷ [] in
+      let at-q : frame_path (fresh i r ∷ f ∷ st) ≡ frame_path (f ∷ st) ++ k ∷ [] = path-indexed (fresh i r) (f ∷ st) (rw one) ∙ ap (λ (n : ℕ). frame_path (f ∷ st) ++ n ∷ []) t in
       let u = sub-left _ s in
       fits-map (λ x. clean-append (clean-append x.0.0 (clean-append (clean-blanks q (eqb tight 1) _ 0 kids) (clean-append (clean-task bytes q r.span r.a kids) x.0.1.0))) x.1)
       (fits-tree f st i r kids rest
@@ -373,32 +375,32 @@ module _ (bytes : List ℕ) (r : Rec) (kids rest : Forest) (p : List ℕ) (k : �
   of_other h = rw h
 
 -- a tree and the trees after it
-module _ (bytes : List ℕ) (es : List Entry) (f : Frame) (st : List Frame) (i m k : ℕ) (b : Before) (c : ℕ) (r : Rec) (kids rest : Forest) (ihb : Blocks bytes kids) (ihi : Items bytes kids) (ihr : Blocks bytes rest) (holder : (k : ℕ) → Stands f.of k → Root f.of k) (placed : Placed f.of m (tree r kids rest)) (told : Told f.kids m k b c) (out : in_link (f ∷ st) ≡ false) (s : Sub (validate_blocks bytes (path_of (f ∷ st)) k b (tree r kids rest)) es) (t : f.of.kind ≡ container_directive → m ≤ 1 → Label bytes es (path_of (f ∷ st)) c (tree r kids rest)) where
+module _ (bytes : List ℕ) (es : List Entry) (f : Frame) (st : List Frame) (i m k : ℕ) (b : Before) (c : ℕ) (r : Rec) (kids rest : Forest) (ihb : Blocks bytes kids) (ihi : Items bytes kids) (ihr : Blocks bytes rest) (holder : (k : ℕ) → Stands f.of k → Root f.of k) (placed : Placed f.of m (tree r kids rest)) (told : Told f.kids m k b c) (out : in_link (f ∷ st) ≡ false) (s : Sub (validate_blocks bytes (frame_path (f ∷ st)) k b (tree r kids rest)) es) (t : f.of.kind ≡ container_directive → m ≤ 1 → Label bytes es (frame_path (f ∷ st)) c (tree r kids rest)) where
   abbrev Tree : Type 0
-  Tree = Fits bytes es (walk f st i (tree r kids rest)) (Clean (validate_blocks bytes (path_of (f ∷ st)) k b (tree r kids rest)) × (f.of.kind ≡ container_directive → m ≤ 1 → CleanLabel bytes (path_of (f ∷ st)) c (tree r kids rest)))
+  Tree = Fits bytes es (walk f st i (tree r kids rest)) (Clean (validate_blocks bytes (frame_path (f ∷ st)) k b (tree r kids rest)) × (f.of.kind ≡ container_directive → m ≤ 1 → CleanLabel bytes (frame_path (f ∷ st)) c (tree r kids rest)))
 
   tree-block : BlockKind r.kind → Tree
-  unfolding Placed path_of in_link named
+  unfolding Placed frame_path in_link named
   tree-block kd =
       let y : Blocky r.kind = blocky r.kind kd in
-      let eb = of-block bytes r kids rest (path_of (f ∷ st)) k b y.a_block in
+      let eb = of-block bytes r kids rest (frame_path (f ∷ st)) k b y.a_block in
       let l = rw eb at s in
       let o = sub-left _ (sub-right _ l) in
       fits-map (λ x. (rw eb (clean-append (clean-append x.0.0 (clean-noise _ 15 _ _ refl)) (clean-append (clean-append x.0.1 x.0.2) x.1.0)), λ h g. label-none bytes _ c (tree r kids rest) (before-block r kids rest y.a_block)))
       (fits-tree f st i r kids rest
-      (block-fits bytes es f st i b r kids (path_of (f ∷ st) ++ k ∷ []) (path-indexed (fresh i r) (f ∷ st) y.is_indexed ∙ ap (λ (n : ℕ). path_of (f ∷ st) ++ n ∷ []) told.many) out placed.2 (told.lists r) (sub-left _ (sub-left _ l)) (sub-left _ o) (sub-right _ o) ihb ihi kd)
+      (block-fits bytes es f st i b r kids (frame_path (f ∷ st) ++ k ∷ []) (path-indexed (fresh i r) (f ∷ st) y.is_indexed ∙ ap (λ (n : ℕ). frame_path (f ∷ st) ++ n ∷ []) told.many) out placed.2 (told.lists r) (sub-left _ (sub-left _ l)) (sub-left _ o) (sub-right _ o) ihb ihi kd)
       (ihr es (with_kid r f) st (suc i + size kids) (rank r.kind) (suc k) (before_next b r.kind r.a r.b) c holder placed.3 (told-block told r y) out (sub-right _ (sub-right _ l)) (λ h g. absurd (let z : rank r.kind ≡ 2 = y.is_last in omega arith))))
 
   tree-inline : f.of.kind ≡ container_directive → InlineKind r.kind → Tree
-  unfolding Placed path_of in_link nearest beside named
+  unfolding Placed frame_path in_link nearest beside named
   tree-inline e kd =
       let y : Inliny r.kind = inliny r.kind kd in
       let low : m ≤ 1 = rw y.is_second at placed.1 in
       let next : rank r.kind ≤ 1 = let z : rank r.kind ≡ 1 = y.is_second in omega arith in
-      let eb = of_other bytes r kids rest (path_of (f ∷ st)) k b y.no_block in
+      let eb = of_other bytes r kids rest (frame_path (f ∷ st)) k b y.no_block in
       let ef = before-other r kids rest y.no_block in
-      let en = nodes-in bytes r kids (before_blocks rest) (path_of (f ∷ st)) y.an_inline c in
-      let el = line-in bytes r kids (before_blocks rest) (path_of (f ∷ st)) 23 in
+      let en = nodes-in bytes r kids (before_blocks rest) (frame_path (f ∷ st)) y.an_inline c in
+      let el = line-in bytes r kids (before_blocks rest) (frame_path (f ∷ st)) 23 in
       let n = rw (ef, en) at (t e low).nodes in
       let l = sub-left _ n in
       let o = rw (ef, el) at (t e low).line in
@@ -414,22 +416,22 @@ module _ (bytes : List ℕ) (es : List Entry) (f : Frame) (st : List Frame) (i m
             },
       ))
       (fits-tree f st i r kids rest
-      (node-fits bytes es f st i c (path_of (f ∷ st)) (begins (f ∷ st)) r kids (told.broke low) placed.2
+      (node-fits bytes es f st i c (frame_path (f ∷ st)) (begins (f ∷ st)) r kids (told.broke low) placed.2
       (record { broken = sub-left _ (sub-left _ l); own = sub-left _ (sub-right _ l); under = sub-right _ (sub-right _ l); lines = λ h. (23, refl, sub-left _ o, sub-left _ (sub-right _ o)); links = λ h. absurd (true≢false (sym h ∙ out)) })
       y (inlines-fit bytes kids) kd)
       (ihr es (with_kid r f) st (suc i + size kids) (rank r.kind) k b r.kind holder placed.3 (told-inline told r low y) out (rw eb at s) (λ h g. record { nodes = sub-right _ n; line = sub-right _ (sub-right _ o) })))
 
   tree-extra : Extra r.kind → Tree
-  unfolding Placed path_of in_link
+  unfolding Placed frame_path in_link
   tree-extra x =
       let y : Extras r.kind = extras r.kind x in
       let low : m ≤ 0 = rw y.is_first at placed.1 in
       let next : rank r.kind ≤ 1 = let z : rank r.kind ≡ 0 = y.is_first in omega arith in
       let z : kids ≡ none = extra-leaf r kids placed.2 x in
-      let eb = of_other bytes r kids rest (path_of (f ∷ st)) k b y.no_block in
+      let eb = of_other bytes r kids rest (frame_path (f ∷ st)) k b y.no_block in
       let ef = before-other r kids rest y.no_block in
-      let en = nodes-out bytes r kids (before_blocks rest) (path_of (f ∷ st)) y.no_inline c in
-      let el = line-out bytes r kids (before_blocks rest) (path_of (f ∷ st)) z y.no_break 23 in
+      let en = nodes-out bytes r kids (before_blocks rest) (frame_path (f ∷ st)) y.no_inline c in
+      let el = line-out bytes r kids (before_blocks rest) (frame_path (f ∷ st)) z y.no_break 23 in
       fits-map (λ x. (rw eb x.1.0, λ h g. let w = x.1.1 h next in record { nodes = rw (ef, en) w.nodes; line = rw (ef, el) w.line }))
       (fits-tree f st i r kids rest
       (extra-fits bytes es f st i r kids placed.2 x)

@@ -15,10 +15,10 @@ use Rattle.leaves.specs.Refusal.Formed.{Sound}
 use Rattle.leaves.specs.Refusal.Judge.{judge_sheet}
 use Rattle.leaves.proofs.refusal.FormedLaws.{accepted}
 use Rattle.blocks.specs.Walk.{validate_document}
-use Rattle.blocks.specs.Before.{first}
+use Rattle.blocks.specs.Before.{no_block}
 use Rattle.setter.specs.Steps.{the_sheet, Step, steps_of}
 use Rattle.setter.specs.Stops.{stop_of}
-use Rattle.setter.specs.Machine.{open_at, record_at_step, path_of, block_path, reached, stopped, run_of, run, StopsAt, StopsSomewhere}
+use Rattle.setter.specs.Machine.{opened_at, record_at_step, frame_path, block_path, reached, stopped, run_of, run, StopsAt, StopsSomewhere}
 use Rattle.setter.specs.Seen.{in_link}
 use Rattle.setter.specs.Agrees.{Some, Named, Told, Whole, Agrees, Demand}
 use Rattle.setter.specs.Stops.{Row, stops, beside_in, named_in, beside, named}
@@ -65,7 +65,7 @@ run-told bytes es (t ∷ ts) h s i p e = go (eqb (stop_of bytes t) 0) refl (run-
         let g : stopped (stop_of bytes t) t ≡ stopped s e.step = rw u at e.end in
         let a : stop_of bytes t ≡ s = cc in
         let b : t ≡ e.step = cc in
-        let c : block_path (open_at t) ≡ p = ap (λ (x : Step). block_path (open_at x)) b ∙ e.block in
+        let c : block_path (opened_at t) ≡ p = ap (λ (x : Step). block_path (opened_at x)) b ∙ e.block in
         ⊎_elim (λ z. absurd (eqb-false _ _ u z)) (λ f. rw (a, c) at f.is) h.0
 
 -- a run ends at a stop, or is all of the steps, none of which stops
@@ -81,16 +81,16 @@ run_ends bytes (t ∷ ts) = go (eqb (stop_of bytes t) 0) refl (run_ends bytes ts
     go : (b : Bool) → eqb (stop_of bytes t) 0 ≡ b → Ends bytes ts → Ends bytes (t ∷ ts)
     go true u (at-stop h) = at-stop (record { stop = h.stop; at = h.at; path = h.path; is = record { step = h.is.step; end = rw u h.is.end; at = h.is.at; block = h.is.block } })
     go true u (at-end q e) = at-end (eqb-true _ _ u, q) (rw (u, e))
-    go false u h = at-stop (record { stop = stop_of bytes t; at = record_at_step t; path = block_path (open_at t); is = record { step = t; end = rw u; at = refl; block = refl } })
+    go false u h = at-stop (record { stop = stop_of bytes t; at = record_at_step t; path = block_path (opened_at t); is = record { step = t; end = rw u; at = refl; block = refl } })
 
 module _ (w bytes : List ℕ) (a : Sound w bytes) where
   -- the whole run against the whole list
   fits_all : Fits bytes (validate_document w bytes) (steps_of w) (Clean (validate_document w bytes))
-  unfolding validate_document path_of in_link group_of
+  unfolding validate_document frame_path in_link group_of
   fits_all =
       rw (walk_of w (deep_of bytes 0 _ (forest_of w) a.tree))
       (fits-map (λ c. c.0)
-      ((blocks-fit bytes (forest_of w)).0 (validate_document w bytes) the_sheet [] 0 0 0 first 0 (hold-blocks the_sheet.of refl) (placed_of bytes (forest_of w) a.tree) told_none refl (sub-all _) (λ h. absurd (let z : ◌≡◌ {A = ℕ} 0 16 = h in omega arith))))
+      ((blocks-fit bytes (forest_of w)).0 (validate_document w bytes) the_sheet [] 0 0 0 no_block 0 (hold-blocks the_sheet.of refl) (placed_of bytes (forest_of w) a.tree) told_none refl (sub-all _) (λ h. absurd (let z : ◌≡◌ {A = ℕ} 0 16 = h in omega arith))))
 
   -- the run whose end is reached is of all openings and closings
   whole : run_of bytes (steps_of w) ≡ record { steps = steps_of w; end = reached } → Whole w (run w bytes)

@@ -11,7 +11,7 @@ use Rattle.leaves.specs.declared.sheet.records.Rec.{Rec}
 use Rattle.leaves.specs.declared.sheet.records.Span.{Span}
 use Rattle.leaves.specs.Report.Entries.{Entry, list_if, ◌⊕◌}
 use Rattle.setter.specs.Steps.{Frame, fresh, with_kid, Step, opens, closes}
-use Rattle.setter.specs.Machine.{open_at, block_path}
+use Rattle.setter.specs.Machine.{opened_at, block_path}
 use Rattle.setter.specs.Stops.{stop_of}
 use Rattle.setter.specs.Agrees.{Some, Told, Begins}
 use Rattle.setter.specs.Stops.{beside, named}
@@ -85,7 +85,7 @@ clean-noise false n sp p e = clean-none
 -- every stop of the steps is told of in es; and no step stops
 unfoldable pub Heard : List ℕ → List Entry → List Step → Type 0
 Heard bytes es [] = Unit {0}
-Heard bytes es (s ∷ ss) = ((stop_of bytes s ≡ 0) ⊎ Found es (stop_of bytes s) (block_path (open_at s))) × Heard bytes es ss
+Heard bytes es (s ∷ ss) = ((stop_of bytes s ≡ 0) ⊎ Found es (stop_of bytes s) (block_path (opened_at s))) × Heard bytes es ss
 
 unfoldable pub Quiet : List ℕ → List Step → Type 0
 Quiet bytes [] = Unit {0}
@@ -96,7 +96,7 @@ pub record Fits (bytes : List ℕ) (es : List Entry) (ss : List Step) (C : Type 
   pub quiet : Quiet bytes ss → C
 
 pub record Fit (bytes : List ℕ) (es : List Entry) (s : Step) (C : Type 0) : Type 0 where
-  pub heard : (stop_of bytes s ≡ 0) ⊎ Found es (stop_of bytes s) (block_path (open_at s))
+  pub heard : (stop_of bytes s ≡ 0) ⊎ Found es (stop_of bytes s) (block_path (opened_at s))
   pub quiet : stop_of bytes s ≡ 0 → C
 
 heard-append : (bytes : List ℕ) (es : List Entry) (a b : List Step) → Heard bytes es a → Heard bytes es b → Heard bytes es (a ++ b)
@@ -132,11 +132,11 @@ module _ {bytes : List ℕ} {es : List Entry} where
   pub still : {s : Step} → stop_of bytes s ≡ 0 → Fit bytes es s (Unit {0})
   still e = record { heard = inl e; quiet = λ h. tt }
 
-  pub one-stop : {s : Step} (b : Bool) (n : ℕ) → stop_of bytes s ≡ (when b then suc n else 0) → (b ≡ true → Found es (suc n) (block_path (open_at s))) → Fit bytes es s (b ≡ false)
+  pub one-stop : {s : Step} (b : Bool) (n : ℕ) → stop_of bytes s ≡ (when b then suc n else 0) → (b ≡ true → Found es (suc n) (block_path (opened_at s))) → Fit bytes es s (b ≡ false)
   one-stop true n e k = record { heard = inr (rw e (k refl)); quiet = λ h. absurd (let z : suc n ≡ 0 = sym e ∙ h in omega arith) }
   one-stop false n e k = record { heard = inl e; quiet = λ h. refl }
 
-  pub two-stops : {s : Step} (b c : Bool) (n m : ℕ) → stop_of bytes s ≡ (when b then suc n else when c then suc m else 0) → (b ≡ true → Found es (suc n) (block_path (open_at s))) → (c ≡ true → Found es (suc m) (block_path (open_at s))) → Fit bytes es s ((b ≡ false) × (c ≡ false))
+  pub two-stops : {s : Step} (b c : Bool) (n m : ℕ) → stop_of bytes s ≡ (when b then suc n else when c then suc m else 0) → (b ≡ true → Found es (suc n) (block_path (opened_at s))) → (c ≡ true → Found es (suc m) (block_path (opened_at s))) → Fit bytes es s ((b ≡ false) × (c ≡ false))
   two-stops true c n m e k l = record { heard = inr (rw e (k refl)); quiet = λ h. absurd (let z : suc n ≡ 0 = sym e ∙ h in omega arith) }
   two-stops false true n m e k l = record { heard = inr (rw e (l refl)); quiet = λ h. absurd (let z : suc m ≡ 0 = sym e ∙ h in omega arith) }
   two-stops false false n m e k l = record { heard = inl e; quiet = λ h. (refl, refl) }

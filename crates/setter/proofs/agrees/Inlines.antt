@@ -24,7 +24,7 @@ use Rattle.inlines.specs.Own.{validate_inline_values}
 use Rattle.inlines.specs.Node.{validate_emphasis_container, validate_inline}
 use Rattle.inlines.specs.Nodes.{validate_node, validate_inline_nodes_after}
 use Rattle.setter.specs.Steps.{Frame, fresh, with_kid, opens, closes}
-use Rattle.setter.specs.Machine.{path_of, block_path}
+use Rattle.setter.specs.Machine.{frame_path, block_path}
 use Rattle.setter.specs.Stops.{stop_of, stop_at}
 use Rattle.setter.specs.Seen.{nearest, in_link, behind_break, only_empty}
 use Rattle.setter.specs.Agrees.{Begins}
@@ -337,7 +337,7 @@ extra-fits bytes es f st i r kids placed (attr e) = fits-map (λ x. tt) (fits-al
 -- a tree and the trees after it
 module _ (bytes : List ℕ) (es : List Entry) (f : Frame) (st : List Frame) (i m b : ℕ) (p : List ℕ) (here : Begins (block_path (f ∷ st)) p) (r : Rec) (kids rest : Forest) (ih : Inlines bytes kids) (ihr : Inlines bytes rest) (holder : (k : ℕ) → Stands f.of k → InlineRoot k) (placed : Placed f.of m (tree r kids rest)) (broke : is_break b ≡ behind_break f.kids) (start : m ≤ 0 → b ≡ 0) (s : Shown bytes es p (lined (f ∷ st)) (in_link (f ∷ st)) b (tree r kids rest)) where
   inline-tree : InlineRoot r.kind → Fits bytes es (walk f st i (tree r kids rest)) (Spotless bytes p (lined (f ∷ st)) (in_link (f ∷ st)) b (tree r kids rest))
-  unfolding Placed path_of block_path nearest in_link
+  unfolding Placed frame_path block_path nearest in_link
   inline-tree (node kd) =
       let y : Inliny r.kind = inliny r.kind kd in
       fits-map (λ c. spotless-tree y.an_inline c.0 c.1)

@@ -1,10 +1,10 @@
 -- The entries of rules that no stop goes by: they are clean, whatever holds.
 use mathlib.Core.Path.{◌≡◌, refl}
 use mathlib.Core.Bool.{Bool, true, false, ◌&&◌, ◌||◌}
-use mathlib.Core.List.{List, [], ◌∷◌, ◌++◌}
+use mathlib.Core.List.{List, [], ◌∷◌, ◌++◌, map}
 use Prim.Native.Nat.{ℕ, suc}
 use lib.Dec.{eqb}
-use Rattle.leaves.specs.Text.Lists.{when◌then◌else◌}
+use Rattle.leaves.specs.Text.Lists.{when◌then◌else◌, last_or}
 use Rattle.leaves.specs.Sheet.Kinds.{is_inline, line_break, blank_line}
 use Rattle.leaves.specs.Sheet.Forest.{Forest, none, tree, count}
 use Rattle.leaves.specs.declared.sheet.records.Rec.{Rec}
@@ -15,12 +15,13 @@ use Rattle.inlines.specs.Single.{validate_destination, validate_identifier, vali
 use Rattle.inlines.specs.Literal.{validate_math_inline}
 use Rattle.inlines.specs.Attribute.{validate_directive_attributes}
 use Rattle.inlines.specs.Depth.{each_record, validate_cell_values}
-use Rattle.inlines.specs.Content.{final_break_after, final_break}
+use Rattle.inlines.specs.Content.{inlines_of, break_entries, final_break}
+use Rattle.inlines.proofs.ContentLaws.{last-none, last-tree}
 use Rattle.inlines.specs.Node.{validate_text_directive}
 use Rattle.blocks.specs.Heads.{validate_alert, validate_code_block, validate_definition}
 use Rattle.blocks.specs.Footnote.{blank_line_at, validate_footnote_definition}
 use Rattle.blocks.specs.Item.{validate_blank_line, validate_item_blank_lines, validate_task_item}
-use Rattle.blocks.specs.Html.{validate_tags, validate_html_container}
+use Rattle.blocks.specs.Html.{validate_tag_pair, validate_tags}
 use Rattle.setter.specs.Stops.{named}
 use Rattle.setter.proofs.agrees.Fits.{Clean, clean-none, clean-append, clean-noise}
 
@@ -66,8 +67,8 @@ module _ (bytes path : List ℕ) (span : Span) where
   unfolding validate_task_item named
   clean-task a kids = clean-noise _ 14 span path refl
 
-  pub clean-tags : (kids : Forest) → Clean (validate_html_container bytes path span kids)
-  unfolding validate_html_container validate_tags named
+  pub clean-tags : (kids : Forest) → Clean (validate_tags bytes path span kids)
+  unfolding validate_tags validate_tag_pair named
   clean-tags none = clean-none
   clean-tags (tree o k none) = clean-none
   clean-tags (tree o k (tree c l m)) =
@@ -110,10 +111,10 @@ pub clean-footnote : (path : List ℕ) (span : Span) (t : Text) (kids : Forest) 
 unfolding validate_footnote_definition named
 clean-footnote path span t kids = clean-append (clean-noise _ 3 span path refl) (clean_at path 0 kids)
 
-clean_after : (path : List ℕ) (ts : Forest) (last : List Entry) → Clean last → Clean (final_break_after path last ts)
-unfolding final_break_after named
-clean_after path none last h = h
-clean_after path (tree r kids rest) last h = clean_after path rest _ (clean-either (is_inline r.kind) (clean-noise (eqb r.kind line_break) 30 r.span path refl) h)
+clean_after : (path : List ℕ) (ts : Forest) (last : List Entry) → Clean last → Clean (last_or last (map (break_entries path) (inlines_of ts)))
+unfolding break_entries named
+clean_after path none last h = rw (last-none path last) h
+clean_after path (tree r kids rest) last h = rw (last-tree r kids rest path last) (clean_after path rest _ (clean-either (is_inline r.kind) (clean-noise (eqb r.kind line_break) 30 r.span path refl) h))
 
 pub clean-final : (path : List ℕ) (ts : Forest) → Clean (final_break path ts)
 unfolding final_break

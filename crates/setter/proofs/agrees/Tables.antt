@@ -18,7 +18,7 @@ use Rattle.inlines.specs.Nodes.{validate_inline_nodes, validate_inlines}
 use Rattle.blocks.specs.Table.{validate_cell, validate_cells, validate_rows, header_width, validate_table}
 use Rattle.setter.specs.Steps.{Frame, fresh, with_kid}
 use Rattle.setter.specs.Stops.{stop_of, stop_at}
-use Rattle.setter.specs.Machine.{path_of, block_path}
+use Rattle.setter.specs.Machine.{frame_path, block_path}
 use Rattle.setter.specs.Seen.{nearest, in_link, columns}
 use Rattle.setter.specs.Agrees.{Begins}
 use Rattle.setter.specs.Stops.{beside}
@@ -50,7 +50,7 @@ one_cell bytes es f st i q r kids e b out p s wide =
 
 -- the cells of a row, at the path q of its own
 cells_fit : (ts : Forest) (bytes : List ℕ) (es : List Entry) (f : Frame) (st : List Frame) (i m k : ℕ) (q : List ℕ) → f.of.kind ≡ row → Placed f.of m ts → Begins (block_path (f ∷ st)) q → in_link (f ∷ st) ≡ false → Sub (validate_cells bytes q k ts) es → (columns (f ∷ st) < length f.kids + count ts → Found es 1 (block_path (f ∷ st))) → Fits bytes es (walk f st i ts) (Clean (validate_cells bytes q k ts) × (length f.kids ≤ columns (f ∷ st) → length f.kids + count ts ≤ columns (f ∷ st)))
-unfolding walk validate_cells count Placed path_of block_path in_link columns
+unfolding walk validate_cells count Placed frame_path block_path in_link columns
 cells_fit none bytes es f st i m k q e p b out s wide = fits-map (λ c. (clean-none, λ h. omega arith)) fits-none
 cells_fit (tree r kids rest) bytes es f st i m k q e p b out s wide =
     let one : r.kind ≡ cell = under-row f.of r.kind p.0 (unfold group_of parent_group in rw e) in
@@ -90,7 +90,7 @@ one-row bytes es f st i w q r kids g e b out p s₁ s narrow =
 
 -- the rows of a table, at the path q of its own
 rows_fit : (ts : Forest) (bytes : List ℕ) (es : List Entry) (f : Frame) (st : List Frame) (i m k w : ℕ) (q : List ℕ) → f.of.kind ≡ table → Placed f.of m ts → Begins (block_path (f ∷ st)) q → in_link (f ∷ st) ≡ false → Sub (validate_rows bytes q w k ts) es → ((f.of.a ≡ w → ⊥) → (s : ℕ) → beside s 18 ≡ true → Found es s (block_path (f ∷ st))) → Fits bytes es (walk f st i ts) (Widths f.of.a ts × (w ≡ f.of.a → Clean (validate_rows bytes q w k ts)))
-unfolding walk validate_rows Placed path_of block_path in_link Widths
+unfolding walk validate_rows Placed frame_path block_path in_link Widths
 rows_fit none bytes es f st i m k w q e p b out s narrow = fits-map (λ c. (tt, λ h. clean-none)) fits-none
 rows_fit (tree r kids rest) bytes es f st i m k w q e p b out s narrow =
     let line : r.kind ≡ row = under_table f.of r.kind p.0 (unfold group_of parent_group in rw e) in
@@ -117,7 +117,7 @@ unfolding validate_table header_width count
 table-some bytes q sp a h cs rest = rw (ne_eqb (suc (count rest)) 0 (λ d. omega arith))
 
 -- a table, whose path is q
-pub table_fits : (bytes : List ℕ) (es : List Entry) (f : Frame) (st : List Frame) (i : ℕ) (q : List ℕ) (r : Rec) (kids : Forest) → r.kind ≡ table → path_of (fresh i r ∷ f ∷ st) ≡ q → in_link (f ∷ st) ≡ false → Placed r 0 kids → Sub (validate_table bytes q r.span r.a kids) es → Fits bytes es (alone f st i r kids) (Clean (validate_table bytes q r.span r.a kids))
+pub table_fits : (bytes : List ℕ) (es : List Entry) (f : Frame) (st : List Frame) (i : ℕ) (q : List ℕ) (r : Rec) (kids : Forest) → r.kind ≡ table → frame_path (fresh i r ∷ f ∷ st) ≡ q → in_link (f ∷ st) ≡ false → Placed r 0 kids → Sub (validate_table bytes q r.span r.a kids) es → Fits bytes es (alone f st i r kids) (Clean (validate_table bytes q r.span r.a kids))
 unfolding stop_of stop_at in_link beside pile walk Widths
 table_fits bytes es f st i q r none e d out p s =
     fits-map (λ c. absurd (true≢false c.2))

@@ -22,7 +22,7 @@ use Rattle.setter.specs.Answer.{Set, setting_answer, Answers}
 use Rattle.setter.specs.Setting.{after_run, setting_of}
 use Rattle.blocks.specs.Check.{outcome}
 use Rattle.blocks.proofs.CheckLaws.{no-entries}
-use Rattle.blocks.specs.Answer.{Checked, error_answer, checked_answer}
+use Rattle.blocks.specs.Answer.{Checked, check_error_answer, checked_answer}
 use Rattle.blocks.specs.declared.answer.CheckError.{CheckError}
 use Rattle.blocks.specs.declared.answer.CheckError.TheVariants.{Malformed, ShortReport}
 use Rattle.blocks.proofs.AnswerLaws.{value-word}
@@ -63,10 +63,10 @@ ran w bytes m a h = rw (a, le-ltb _ _ h)
 pub counted-answer : {k : Checked} {entries : ℕ} → k ≡ Ok entries → answer 0 entries ≡ checked_answer k
 counted-answer p = rw p
 
-pub error-answer : {k : Checked} {error : CheckError} {number value : ℕ} → k ≡ Err error → number ≡ (error_answer error).number → value ≡ (error_answer error).value → answer number value ≡ checked_answer k
+pub error-answer : {k : Checked} {error : CheckError} {number value : ℕ} → k ≡ Err error → number ≡ (check_error_answer error).number → value ≡ (check_error_answer error).value → answer number value ≡ checked_answer k
 error-answer p a b = rw (p, a, b)
 
-error-numbered : (error : CheckError) → (error_answer error).number ≡ 0 → ⊥
+error-numbered : (error : CheckError) → (check_error_answer error).number ≡ 0 → ⊥
 error-numbered (Malformed r) h = absurd (omega (arith, (refusal-numbered r).some))
 error-numbered ShortReport h = absurd (omega arith)
 
@@ -87,7 +87,7 @@ module _ (w bytes x : List ℕ) {y : List ℕ} {c : Answer} {number value : ℕ}
   pub value-fits : Fits w32 value
   value-fits = record { fits = rw (b, answer-is) (value-word w bytes x) }
 
-  pub refusal-printed : (error : CheckError) {old new : List ℕ} {r : ℕ} → number ≡ (error_answer error).number → Prints old (refusal_line number value) new r → Prints old (sheet_lines w bytes) new r
+  pub refusal-printed : (error : CheckError) {old new : List ℕ} {r : ℕ} → number ≡ (check_error_answer error).number → Prints old (refusal_line number value) new r → Prints old (sheet_lines w bytes) new r
   unfolding sheet_lines
   refusal-printed error n p = rw (checked-is, ← a, ← b, ne_eqb _ _ (λ z. error-numbered error (sym n ∙ z))) p
 

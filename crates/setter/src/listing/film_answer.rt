@@ -5,8 +5,8 @@ ghost use Rattle.setter.specs.Listing.FilmAnswer.{film_answer};
 // Why a film is refused.
 #[derive(Clone, Copy, Debug, PartialEq, Eq)]
 pub(crate) enum FilmError {
-    BadColumn,
-    BigFilm,
+    BadColumn = 13,
+    BigFilm = 14,
 }
 
 impl FilmError {
@@ -14,9 +14,6 @@ impl FilmError {
     pub(crate) fn number(self) -> u32
         ensures { result ≡ (film_answer (Err self)).number }
     {
-        match self {
-            FilmError::BadColumn => 13,
-            FilmError::BigFilm => 14,
-        }
+        self as u32
     }
 }

@@ -5,6 +5,7 @@ ghost use Rattle.leaves.specs.Text.Columns.{line, Writes};
 ghost use Rattle.setter.specs.Listing.Print.{refusal_line, report_words, Prints};
 ghost use Rattle.setter.specs.Listing.PrintInWords.{lines_in, front_words};
 
+use leaves::report::entries::HEAD;
 use leaves::text::columns::write_line;
 use leaves::text::field::PLACES;
 
@@ -13,9 +14,6 @@ pub(crate) const REPORT_WORDS: usize = 4096;
 
 // How many bytes the program prints at most: a field and an LF for each word of the report, and the last line.
 pub const OUTPUT_BYTES: usize = REPORT_WORDS * (PLACES + 1) + (3 * PLACES + 1);
-
-// How many words of an entry stand before its path; the last of them is the path's length.
-const HEAD: usize = 5;
 
 // How many words the entry at the front has: those of its head and of its path, and no more than there are.
 fn front_words(words: &[u32]) -> usize

@@ -18,7 +18,7 @@ pub(crate) fn behind(s: &[u8], at: usize) -> &[u8]
 }
 
 // Reads the lines of `n` records from the front of the slice into the sheet; answers whether they are well-formed. By
-// number: `n` is what the film says, and the words behind the last record stay.
+// number: `n` is what the film says, and the words behind the last record stay. A bool, as `read_line` has it.
 pub(crate) fn read_records(s: &[u8], n: usize, sheet: &mut [u32]) -> bool
     requires { (n ≤ most_film_records) × (n * record_words ≤ length sheet.old) }
     ensures { (result ≡ are_records n s.now)

@@ -1,14 +1,13 @@
 -- `blocks::html::validate_html_container` meets its contract.
-use mathlib.Core.Path.{sym, ◌∙◌}
-use Rattle.leaves.specs.Sheet.Trees.{trees}
-use Rattle.blocks.proofs.HtmlLaws.{html-none, html-one, html-two}
+use borrow.Author.Rules.{rules}
+use Rattle.leaves.proofs.report.ListedLaws.{adds_both, adds-none}
+use Rattle.blocks.specs.Html.{validate_html_container}
 use Rattle.blocks.proofs.html.validate_html_container.Goals as goal
 
-pub returns-in_default : goal.returns-in_default
-returns-in_default c = html-none _ _ _ (trees c.args.records.now c.args.report.now.level) (sym c.roots-tags.ensures ∙ c.in_default.ensures.steps.0)
-
-pub returns-in_default-next : goal.returns-in_default-next
-returns-in_default-next c = html-one _ _ _ (trees c.args.records.now c.args.report.now.level) (sym c.roots-tags.ensures ∙ c.in-Some.ensures.steps) c.in_default-next.ensures.steps.0
+pub returns-then-r-eq0 : goal.returns-then-r-eq0
+unfolding validate_html_container
+returns-then-r-eq0 c = adds_both c.validate_tags.ensures adds-none (search rules)
 
 pub returns : goal.returns
-returns c = html-two _ _ _ (trees c.args.records.now c.args.report.now.level) (sym c.roots-tags.ensures ∙ c.in-Some.ensures.steps) c.in-Some-next.ensures.steps c.validate_tags.ensures
+unfolding validate_html_container
+returns c = adds_both c.validate_tags.ensures c.validate_inlines.ensures.adds (search rules)

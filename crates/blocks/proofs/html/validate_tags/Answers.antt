@@ -1,6 +1,14 @@
 -- `blocks::html::validate_tags` meets its contract.
-use Rattle.blocks.proofs.HtmlLaws.{tags-law}
+use mathlib.Core.Path.{sym, ◌∙◌}
+use Rattle.leaves.specs.Sheet.Trees.{trees}
+use Rattle.blocks.proofs.HtmlLaws.{html-none, html-one, html-two}
 use Rattle.blocks.proofs.html.validate_tags.Goals as goal
 
+pub returns-in_default : goal.returns-in_default
+returns-in_default c = html-none _ _ _ (trees c.args.records.now c.args.report.now.level) (sym c.roots-tags.ensures ∙ c.in_default.ensures.steps.0)
+
+pub returns-in_default-next : goal.returns-in_default-next
+returns-in_default-next c = html-one _ _ _ (trees c.args.records.now c.args.report.now.level) (sym c.roots-tags.ensures ∙ c.in-Some.ensures.steps) c.in_default-next.ensures.steps.0
+
 pub returns : goal.returns
-returns c = tags-law _ _ _ _ c.is_empty.ensures c.list_if.ensures c.is_empty-2.ensures c.list_if-2.ensures c.text_of.ensures c.text_of-2.ensures c.same_bytes-same.ensures c.list_if-3.ensures c.is_empty-3.ensures c.list_if-4.ensures c.is_empty-4.ensures c.list_if-5.ensures
+returns c = html-two _ _ _ (trees c.args.records.now c.args.report.now.level) (sym c.roots-tags.ensures ∙ c.in-Some.ensures.steps) c.in-Some-next.ensures.steps c.validate_tag_pair.ensures

@@ -1,5 +1,4 @@
 -- `blocks::paragraph::all_empty` meets its contract.
-use mathlib.Core.Path.{refl}
 use mathlib.Core.Bool.{not, ◌||◌}
 use borrow.Author.Rules.{rules}
 use borrow.Author.Tests.{tests}
@@ -7,8 +6,8 @@ use Rattle.leaves.specs.Sheet.Kinds.{is_inline}
 use Rattle.leaves.specs.Sheet.Empty.{is_empty_text}
 use Rattle.leaves.proofs.sheet.RootLaws.{all-of}
 use Rattle.inlines.specs.Nodes.{all_empty}
+use Rattle.inlines.proofs.ContentLaws.{all_empty-none, all_empty-tree}
 use Rattle.blocks.proofs.paragraph.all_empty.Goals as goal
 
 pub returns : goal.returns
-unfolding all_empty
-returns c = all-of (λ r _. not (is_inline r.kind) || is_empty_text r) all_empty c.all.new.self _ c.all.ensures.ran c.roots.ensures (λ t b q k. search (rules, tests)) refl (λ r kids rest. refl)
+returns c = all-of (λ r _. not (is_inline r.kind) || is_empty_text r) all_empty c.all.new.self _ c.all.ensures.ran c.roots.ensures (λ t b q k. search (rules, tests)) all_empty-none all_empty-tree

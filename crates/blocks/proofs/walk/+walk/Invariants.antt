@@ -4,6 +4,8 @@ use Rattle.leaves.specs.Refusal.Limits.{levels_left}
 use Rattle.leaves.specs.Sheet.Trees.{trees}
 use Rattle.leaves.specs.Report.Listed.{path_of}
 use Rattle.inlines.proofs.PathLaws.{Paced}
+use Rattle.std.specs.Prelude.{unwrap_or}
+use Rattle.blocks.specs.Before.{no_block}
 use Rattle.blocks.specs.Walk.{validate_blocks, validate_list_items}
 use Rattle.blocks.proofs.walk.+walk.Given as goal
 
@@ -25,7 +27,7 @@ abbrev pub invariant-validate_blocks-loop-r : goal.invariant-validate_blocks-loo
 invariant-validate_blocks-loop-r l =
     let p = l.initial.report in
     let bytes = l.initial.records.bytes.now in
-    Paced (validate_blocks bytes (path_of p) 0 l.initial.before (trees l.initial.records p.level)) (validate_blocks bytes (path_of p) l.k l.before) l.initial.records l.records p l.report l.k
+    Paced (validate_blocks bytes (path_of p) 0 no_block (trees l.initial.records p.level)) (validate_blocks bytes (path_of p) l.k (unwrap_or l.before no_block)) l.initial.records l.records p l.report l.k
 
 abbrev pub decreases-validate_blocks-loop-r : goal.decreases-validate_blocks-loop-r
 decreases-validate_blocks-loop-r l = l.records.n - l.records.next
