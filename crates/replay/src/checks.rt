@@ -59,7 +59,7 @@ impl Format for Checks {
             + bytes::pair(head, 8) * 4
     }
 
-    // Replays both calls with the same sheet and text.
+    // Replays both calls with the same sheet and text, which are read as in `sheets`.
     #[tactic(auto, unfolding(crate::specs::Checks::checks_replayed, crate::specs::Checks::check_replayed, crate::specs::Checks::set_replayed, crate::specs::Checks::check_sheet, crate::specs::Checks::check_text, crate::specs::Checks::check_list, crate::specs::Checks::written_of, crate::specs::Sheets::sheet_in))]
     fn replay(&self, r: &[u8], tally: Tally) -> Tally {
         let mut sheet = [0u32; SHEET];

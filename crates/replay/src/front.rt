@@ -71,8 +71,8 @@ impl Call<'_> {
     }
 
     // Compares the answer, where the call `fits`, and each of the words: it is the one that is stored, and BEFORE
-    // behind those, also where it was not lent. A struct of what is stored would be made only to be taken apart here, and
-    // so would an Option of `answer` for `fits`.
+    // behind those, also where it was not lent. A struct of what is stored would be made only to be taken apart here,
+    // and so would an Option of `answer` for `fits`.
     #[tactic(auto, unfolding(crate::specs::Front::call_compared))]
     pub fn compare(
         &self,

@@ -61,7 +61,8 @@ impl Format for Lists {
         bytes::pair(head, 0) * 4 + bytes::pair(head, 2) + bytes::pair(head, 4) * 4
     }
 
-    // Compares the length of the list, and each word of the report. Behind the list each must be 0.
+    // Compares the length of the list, and each word of the report. Behind the list each must be 0. The sheet and the
+    // text are read as in `sheets`.
     fn replay(&self, r: &[u8], tally: Tally) -> Tally {
         let mut sheet = [0u32; MOST];
         let mut report = [0u32; MOST];

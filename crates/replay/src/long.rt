@@ -25,9 +25,9 @@ const TEXT: usize = 16777217;
 // A few words more than a mark for each record that a sheet may have.
 const LENT: usize = 65544;
 
-// The long sheet before it is filled, the long text, and what is lent before a call. They are three functions, since each
-// promises another list by its name, which no caller computes. The proofs of callers do not
-// unfold `unfilled`, `zeros` and `untouched_words`, and so do not compute such long lists.
+// The long sheet before it is filled, the long text, and what is lent before a call. They are three functions, since
+// each promises another list by its name, which no caller computes. The proofs of callers do not unfold `unfilled`,
+// `zeros` and `untouched_words`, and so do not compute such long lists.
 pub fn sheet(alloc: Global) -> Result<Vec<u32>, AllocError>
     ensures { IfOk result (λ sheet. sheet.items ≡ unfilled) }
 {

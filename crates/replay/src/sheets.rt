@@ -17,7 +17,8 @@ const HEAD: usize = 7;
 // The most words of a sheet.
 const MOST: usize = 800;
 
-// The answer for a stored sheet. A sheet of over MOST words is judged as a sheet of no words.
+// The answer for a stored sheet. A sheet of over MOST words is judged as a sheet of no words. Each format reads its
+// sheet and text where they stand in its records: one function for all would be handed the array, and where they stand.
 #[tactic(auto, unfolding(crate::specs::Sheets::judged_of, crate::specs::Sheets::sheet_in))]
 fn judged(r: &[u8]) -> Result<(), Malformed>
     ensures { result ≡ judged_of r.now }

@@ -7,7 +7,8 @@ ghost use Rattle.leaves.specs.Refusal.TagsPlaced.{Containers, tag_under};
 use crate::refusal::verdict::Malformed;
 use crate::sheet::{kinds, records};
 
-// Whether record `i` is there, is an HTML tag, and is deeper than `level`.
+// Whether record `i` is there, is an HTML tag, and is deeper than `level`. `n` stands beside the sheet, so that no test
+// divides its words by those of a record again.
 #[tactic(auto, unfolding(crate::specs::Refusal::TagsPlaced::tag_under))]
 fn tag_under(sheet: &[u32], n: usize, i: usize, level: u32) -> bool
     requires { n * record_words ≤ length sheet.now }

@@ -82,7 +82,8 @@ fn write_at(report: &mut [u32], at: usize, rule: u32, span: Span, path: &[u32])
 
 // A report that a walk writes, with the list's tally. The walk stands at a record of the level `level`, whose path is
 // the first `depth` words of `path`; before the first record both are 0. The path is an array with a length beside it,
-// since nothing may be allocated.
+// since nothing may be allocated. A report stands beside the `Records` or the text that a rule reads, and not in one
+// struct with them: it is written while they are read, and they are copied where they are read twice.
 #[derive(Drop)]
 pub struct Report<'a> {
     pub words: &'a mut [u32],

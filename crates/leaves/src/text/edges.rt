@@ -38,7 +38,7 @@ fn last_line_is_blank(s: &[u8]) -> bool
 }
 
 // The place of the last byte that is neither blank nor a line ending; 0 where there is none. The last line is blank
-// exactly where it is blank when read from there on.
+// exactly where it is blank when read from there on. (`is_trimmed_byte` of `name` is the same test, of another rule.)
 fn last_solid(s: &[u8]) -> usize
     ensures { Solid s.now result }
 {
