@@ -16,8 +16,8 @@ pub(crate) fn item_number(b: u32, c: u32) -> Option<u32>
     if b == 1 { Some(c) } else { None }
 }
 
-// Rule 49: an item of a bullet list has no number. Rule 50: a number has at most nine digits. `ordered` is the list's A,
-// as in the definition.
+// Rule 49: an item of a bullet list has no number. Rule 50: a number has at most nine digits. `ordered` is the list's
+// A, as in the definition.
 pub(crate) fn validate_item_number(
     report: &mut Report,
     span: Span,

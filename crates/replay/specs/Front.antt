@@ -1,5 +1,6 @@
 -- The exported functions, each lent the front of some words as its report or its marks.
-use Rattle.std.specs.Prelude.{ℕ, ◌+◌, ◌*◌, ◌^◌, Bool, ◌&&◌, List, ◌++◌, Option, Some, None, eqb, ltb, length, take, drop}
+use Rattle.std.specs.Prelude.{ℕ, ◌+◌, ◌*◌, ◌^◌, Bool, ◌&&◌, List, ◌++◌}
+use Rattle.std.specs.Prelude.{Option, Some, None, eqb, ltb, length, take, drop}
 use Rattle.leaves.specs.Text.Lists.{when◌then◌else◌}
 use Rattle.blocks.specs.Check.{outcome}
 use Rattle.leaves.specs.Refusal.Verdict.{Answer}

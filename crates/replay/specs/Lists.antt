@@ -47,5 +47,6 @@ list_of r =
 unfoldable pub list_replayed : List ℕ → Tally → Tally
 list_replayed r t =
     comparing (same_words (list_of r).1 (part_of r (list_head + pair_at r 0 * 4 + pair_at r 2) (pair_at r 4 * 4)) 0)
-    (comparing (leb (pair_at r 0) most_list_words && leb (pair_at r 4) most_list_words && eqb (list_of r).0 (pair_at r 4))
+    (comparing (leb (pair_at r 0) most_list_words
+    && leb (pair_at r 4) most_list_words && eqb (list_of r).0 (pair_at r 4))
     (recorded t))

@@ -1,5 +1,6 @@
 -- The words of a stored record.
-use Rattle.std.specs.Prelude.{ℕ, zero, suc, ◌*◌, Bool, true, ◌&&◌, ◌≡◌, List, [], ◌∷◌, ◌++◌, eqb, leb, ltb, length, take}
+use Rattle.std.specs.Prelude.{ℕ, zero, suc, ◌*◌, Bool, true, ◌&&◌, ◌≡◌}
+use Rattle.std.specs.Prelude.{List, [], ◌∷◌, ◌++◌, eqb, leb, ltb, length, take}
 use Rattle.leaves.specs.Text.Lists.{when◌then◌else◌}
 use Rattle.replay.specs.Bytes.{number_at}
 

@@ -1,6 +1,7 @@
 -- The report: its entries, their words, and what listing entries does to the report and to the tally.
 -- Document 01: "each diagnostic is written into what remains of the report".
-use Rattle.std.specs.Prelude.{Bool, true, false, cond, List, [], ◌∷◌, ◌++◌, ◌≡◌, ℕ, zero, suc, min, ◌+◌, ◌-◌, ◌^◌, leb, length, get_or, take, drop}
+use Rattle.std.specs.Prelude.{Bool, true, false, cond, List, [], ◌∷◌, ◌++◌, ◌≡◌, ℕ}
+use Rattle.std.specs.Prelude.{zero, suc, min, ◌+◌, ◌-◌, ◌^◌, leb, length, get_or, take, drop}
 use Rattle.leaves.specs.declared.sheet.records.Span.{Span}
 use Rattle.leaves.specs.declared.report.entries.Tally.{Tally}
 use Rattle.leaves.specs.Text.Lists.{over}

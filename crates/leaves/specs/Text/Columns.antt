@@ -1,6 +1,7 @@
 -- A line of fields, as it is written and as it is read.
 -- Document 01: "lines ended by LF".
-use Rattle.std.specs.Prelude.{ℕ, zero, suc, ◌+◌, ◌*◌, ◌≡◌, Bool, true, ◌&&◌, List, [], ◌∷◌, ◌++◌, eqb, length, get_or, take, drop, is_some, unwrap_or}
+use Rattle.std.specs.Prelude.{ℕ, zero, suc, ◌+◌, ◌*◌, ◌≡◌, Bool, true, ◌&&◌, List}
+use Rattle.std.specs.Prelude.{[], ◌∷◌, ◌++◌, eqb, length, get_or, take, drop, is_some, unwrap_or}
 use Rattle.leaves.specs.Text.Bytes.{lf}
 use Rattle.leaves.specs.Text.Lists.{over}
 use Rattle.leaves.specs.Text.Field.{places, field, read_field}

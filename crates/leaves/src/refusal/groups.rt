@@ -1,5 +1,5 @@
-// The groups of kinds: as parents, and as children. They are numbers, as in the definitions: rows and columns of a table.
-// Three have names here, those that the code asks for.
+// The groups of kinds: as parents, and as children. They are numbers, as in the definitions: rows and columns of a
+// table. Three have names here, those that the code asks for.
 ghost use Rattle.std.specs.Prelude.{◌≡◌, true};
 ghost use Rattle.leaves.specs.Sheet.Kinds.{is_kind};
 ghost use Rattle.leaves.specs.Refusal.Groups.{parent_group, child_group};

@@ -11,8 +11,8 @@ use crate::refusal::groups::{HOLDS_TAGS_AND_BLOCKS, HOLDS_TAGS_AND_INLINES};
 use crate::sheet::kinds;
 
 // The allowed places: a row for each group of parents, by what it holds; a column for each group of children, in the
-// order block, item, row, cell, HTML tag, attribute, inline. 0: not allowed; it is below each place, and a place is only
-// compared.
+// order block, item, row, cell, HTML tag, attribute, inline. 0: not allowed; it is below each place, and a place is
+// only compared.
 const PLACES: [[u32; 7]; 10] = [
     // blocks
     [1, 0, 0, 0, 0, 0, 0],

@@ -79,7 +79,8 @@ pub(crate) fn past<'a, T: ByteTest>(s: &'a [u8], test: &T) -> &'a [u8]
     ensures { Past (T.passing test.now) s.now result.now }
 {
     let mut rest = s;
-    // no iterator over chunks: what is left is handed back, and `chunks_exact` counted would have to be cut off after it
+    // no iterator over chunks: what is left is handed back, and chunks that were counted by `chunks_exact` would have to
+    // be cut off after it
     while begins(test, rest) {
         rest = &rest[CHUNK..];
     }
