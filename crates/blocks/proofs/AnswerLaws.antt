@@ -1,5 +1,5 @@
 -- Number and value tell which answer it is. How large they are: a refusal's record is one of the sheet, and a list has at most three entries for each record.
-use Rattle.std.specs.Prelude.{Err, Ok, is_ok}
+use Rattle.std.specs.Prelude.{Err, Ok, is_ok, if◌then◌else◌}
 use mathlib.Core.Path.{◌≡◌, refl, ap}
 use mathlib.Core.Bool.{Bool, true, false, not, ◌||◌}
 use mathlib.Core.List.{List}
@@ -8,7 +8,6 @@ use native.Mathlib.Omega.{arith}
 use borrow.Author.Tests.{ltb-false}
 use lib.Dec.{eqb, ltb}
 use lib.ListN.{length}
-use Rattle.leaves.specs.Text.Lists.{when◌then◌else◌}
 use Rattle.leaves.specs.Sheet.Kinds.{is_kind}
 use Rattle.leaves.specs.Sheet.Records.{record_words, records_of}
 use Rattle.leaves.specs.Refusal.Places.{misplaced}
@@ -26,7 +25,7 @@ use Rattle.leaves.specs.Refusal.Tags.{lacks_tags, tags_from}
 use Rattle.leaves.specs.declared.refusal.verdict.Malformed.TheVariants.{OddSheet, LongSheet, LongText, UnknownKind, BadLevel, Misplaced, BadField, TextOutside, NotUtf8, TagsMissing}
 use Rattle.leaves.proofs.refusal.VerdictLaws.{is-accepted, same_number, same-value, refusal-numbered, refusal-one}
 use Rattle.blocks.specs.Walk.{validate_document}
-use Rattle.blocks.specs.Check.{checked_answer, outcome}
+use Rattle.blocks.specs.Check.{checked_answer, check_outcome}
 use Rattle.blocks.proofs.CountLaws.{few-accepted}
 use Rattle.blocks.specs.Answer.{Checked}
 use Rattle.blocks.specs.declared.answer.CheckError.TheVariants.{Malformed, ShortReport}
@@ -44,7 +43,7 @@ checked-one (Err ShortReport) (Err (Malformed r)) e = absurd (omega (arith, same
 checked-one (Err ShortReport) (Err ShortReport) e = refl
 
 -- ---- the record of a refusal
-either : (b : Bool) (j k : Judged) (n : ℕ) → (judged_answer j).value ≤ n → (judged_answer k).value ≤ n → (judged_answer (when b then j else k)).value ≤ n
+either : (b : Bool) (j k : Judged) (n : ℕ) → (judged_answer j).value ≤ n → (judged_answer k).value ≤ n → (judged_answer (if b then j else k)).value ≤ n
 either true j k n g h = g
 either false j k n g h = h
 
@@ -52,15 +51,15 @@ texts-record : (bytes : List ℕ) (i : ℕ) (r : Rec) → (judged_answer (judge_
 unfolding judge_texts
 texts-record bytes i r =
     let ill = text_ill_formed bytes r.first || text_ill_formed bytes r.second in
-    either (text_outside bytes r.first || text_outside bytes r.second) (Err (TextOutside i)) (when ill then Err (NotUtf8 i) else Ok tt) i (omega arith) (either ill (Err (NotUtf8 i)) (Ok tt) i (omega arith) (omega arith))
+    either (text_outside bytes r.first || text_outside bytes r.second) (Err (TextOutside i)) (if ill then Err (NotUtf8 i) else Ok tt) i (omega arith) (either ill (Err (NotUtf8 i)) (Ok tt) i (omega arith) (omega arith))
 
 judge-record : (bytes : List ℕ) (i : ℕ) (r : Rec) (before : ℕ) (o : Open) → (judged_answer (judge bytes i r before o)).value ≤ i
 unfolding judge
 judge-record bytes i r before o =
     let texts = judge_texts bytes i r in
-    let field = when bad_field r then Err (BadField i) else texts in
-    let place = when misplaced o r.kind then Err (Misplaced i) else field in
-    let level = when bad_level before r.level then Err (BadLevel i) else place in
+    let field = if bad_field r then Err (BadField i) else texts in
+    let place = if misplaced o r.kind then Err (Misplaced i) else field in
+    let level = if bad_level before r.level then Err (BadLevel i) else place in
     either (not (is_kind r.kind)) (Err (UnknownKind i)) level i (omega arith)
     (either (bad_level before r.level) (Err (BadLevel i)) place i (omega arith)
     (either (misplaced o r.kind) (Err (Misplaced i)) field i (omega arith)
@@ -96,14 +95,14 @@ judged-record w bytes = go (ltb most_records (records_of w)) refl
         let one : (judged_answer (judge_from w bytes (records_of w) 0)).value ≤ 65535 = omega (arith, from-record w bytes (records_of w) 0) in
         let two : (judged_answer (tags_from w (records_of w) (records_of w) 0)).value ≤ 65535 = omega (arith, tags-record w (records_of w) (records_of w) 0) in
         let three : (judged_answer judged).value ≤ 65535 = else-record (judge_from w bytes (records_of w) 0) (tags_from w (records_of w) (records_of w) 0) 65535 one two in
-        rw e (either (not (eqb (length w % record_words) 0)) (Err OddSheet) (when ltb most_bytes (length bytes) then Err LongText else judged) 65535 (omega arith) (either (ltb most_bytes (length bytes)) (Err LongText) judged 65535 (omega arith) three))
+        rw e (either (not (eqb (length w % record_words) 0)) (Err OddSheet) (if ltb most_bytes (length bytes) then Err LongText else judged) 65535 (omega arith) (either (ltb most_bytes (length bytes)) (Err LongText) judged 65535 (omega arith) three))
 
 -- ---- the value of an answer: a list has at most three entries for each record, so that its count always fits in half of a number for C
-pub value-word : (w bytes x : List ℕ) → (outcome w bytes x).0.value < 2 ^ 32
-unfolding outcome
+pub value-word : (w bytes x : List ℕ) → (check_outcome w bytes x).0.value < 2 ^ 32
+unfolding check_outcome
 value-word w bytes x = go (is_ok (judge_sheet w bytes)) refl (ltb (length x) (length (flat (validate_document w bytes)))) refl
   where
-    go : (b : Bool) → is_ok (judge_sheet w bytes) ≡ b → (c : Bool) → ltb (length x) (length (flat (validate_document w bytes))) ≡ c → (outcome w bytes x).0.value < 2 ^ 32
+    go : (b : Bool) → is_ok (judge_sheet w bytes) ≡ b → (c : Bool) → ltb (length x) (length (flat (validate_document w bytes))) ≡ c → (check_outcome w bytes x).0.value < 2 ^ 32
     go false e c f = rw e (omega (arith, judged-record w bytes))
     go true e true f = rw (e, f) (omega arith)
     go true e false f =

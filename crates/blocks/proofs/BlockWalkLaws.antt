@@ -9,7 +9,7 @@ use native.Mathlib.Numerals.{add-one}
 use borrow.Author.Tests.{not-true, not-false, eq-eqb, ne_eqb}
 use lib.Dec.{eqb}
 use Rattle.leaves.specs.Sheet.Kinds.{is_block, list}
-use Rattle.leaves.specs.Sheet.Forest.{Forest, none, tree, count, size}
+use Rattle.leaves.specs.Sheet.Forest.{Forest, no_tree, tree, count_trees, size}
 use Rattle.leaves.specs.Sheet.Trees.{trees, Moved, ReadsNext}
 use Rattle.leaves.specs.declared.sheet.records.Rec.{Rec}
 use Rattle.leaves.specs.declared.sheet.trees.Records.{Records}
@@ -19,7 +19,7 @@ use Rattle.leaves.specs.declared.report.entries.Report.{Report}
 use Rattle.leaves.proofs.report.EntryLaws.{join-assoc, join-none, none-join}
 use Rattle.leaves.proofs.report.ListedLaws.{adds-none, adds-from}
 use Rattle.leaves.proofs.sheet.TreesLaws.{passing-tree, reads-tree, behind-next, trees-moved}
-use Rattle.inlines.specs.Walk.{Done}
+use Rattle.inlines.specs.Walk.{Walked}
 use Rattle.inlines.proofs.WalkLaws.{loop-bytes}
 use Rattle.inlines.proofs.PathLaws.{Paced, paced-path, paced-visit, paced-turn}
 use Rattle.blocks.specs.declared.before.Before.{Before}
@@ -57,25 +57,25 @@ module _ (bytes path : List ℕ) (r : Rec) (kids : Forest) where
 -- a block is done once its own rules and its children are: they are listed where the report stood, x, at its level
 module _ (k : Records) {x z : Report} (r : Rec) (own : Adds x z (validate_own k.bytes.now (path_of x) r (trees k x.level))) where
   -- what is listed of the children, behind that
-  under-law : {j : Records} {o : Report} (es : List ℕ → Forest → List Entry) → block_under k.bytes.now (path_of x) r (trees k x.level) ≡ validate_own k.bytes.now (path_of x) r (trees k x.level) ⊕ es (path_of x) (trees k x.level) → Done k j z.level z o (es (path_of z) (trees k z.level)) → Done k j x.level x o (block_under k.bytes.now (path_of x) r (trees k x.level))
+  under-law : {j : Records} {o : Report} (es : List ℕ → Forest → List Entry) → block_under k.bytes.now (path_of x) r (trees k x.level) ≡ validate_own k.bytes.now (path_of x) r (trees k x.level) ⊕ es (path_of x) (trees k x.level) → Walked k j z.level z o (es (path_of z) (trees k z.level)) → Walked k j x.level x o (block_under k.bytes.now (path_of x) r (trees k x.level))
   under-law {j} {o} es e d =
       let n : Moved k j (k.next + size (trees k x.level)) = subst (λ (m : ℕ). Moved k j (k.next + size (trees k m))) own.level d.moved in
       record { moved = n; adds = rw e (adds-from (λ path level. es path (trees k level)) own d.adds) }
 
-  pub block-items : {j : Records} {o : Report} → r.kind ≡ list → Done k j z.level z o (validate_list_items k.bytes.now (path_of z) 0 r.a r.c (trees k z.level)) → Done k j x.level x o (block_under k.bytes.now (path_of x) r (trees k x.level))
+  pub block-items : {j : Records} {o : Report} → r.kind ≡ list → Walked k j z.level z o (validate_list_items k.bytes.now (path_of z) 0 r.a r.c (trees k z.level)) → Walked k j x.level x o (block_under k.bytes.now (path_of x) r (trees k x.level))
   block-items q d = under-law (λ path kids. items_under k.bytes.now path r kids) (at-list k.bytes.now (path_of x) r (trees k x.level) (eq-eqb _ _ q)) d
 
   module _ {c : Bool} (q : r.kind ≡ list → ⊥) (l : c ≡ holds_blocks r.kind r.a) where
-    pub block-blocks : {j : Records} {o : Report} → c ≡ true → Done k j z.level z o (validate_blocks k.bytes.now (path_of z) 0 no_block (trees k z.level)) → Done k j x.level x o (block_under k.bytes.now (path_of x) r (trees k x.level))
+    pub block-blocks : {j : Records} {o : Report} → c ≡ true → Walked k j z.level z o (validate_blocks k.bytes.now (path_of z) 0 no_block (trees k z.level)) → Walked k j x.level x o (block_under k.bytes.now (path_of x) r (trees k x.level))
     block-blocks m d = under-law (λ path kids. blocks_under k.bytes.now path kids) (at-blocks k.bytes.now (path_of x) r (trees k x.level) (ne_eqb _ _ q) (rw l at m)) d
 
-    pub block-leaf : {j : Records} → c ≡ false → Moved k j (k.next + size (trees k z.level)) → Done k j x.level x z (block_under k.bytes.now (path_of x) r (trees k x.level))
+    pub block-leaf : {j : Records} → c ≡ false → Moved k j (k.next + size (trees k z.level)) → Walked k j x.level x z (block_under k.bytes.now (path_of x) r (trees k x.level))
     block-leaf {j} m d =
         let n : Moved k j (k.next + size (trees k x.level)) = subst (λ (m : ℕ). Moved k j (k.next + size (trees k m))) own.level d in
         record { moved = n; adds = rw (at_leaf k.bytes.now (path_of x) r (trees k x.level) (ne_eqb _ _ q) (rw l at m)) own }
 
 -- ---- one item
-pub item-done : (ordered tight outer : ℕ) (r : Rec) {k j : Records} {m : Option ℕ} {x y z a b : Report} → m ≡ item_number r.b r.c → Adds x y (validate_item_number (path_of x) r.span ordered m) → Adds y z (validate_item_blank_lines (path_of y) (eqb tight 1) (is_last k y.level outer) 0 (trees k y.level)) → Adds z a (validate_task_item (path_of z) r.span r.a (trees k z.level)) → Done k j a.level a b (validate_blocks k.bytes.now (path_of a) 0 no_block (trees k a.level)) → Done k j x.level x b (validate_item (path_of x) ordered tight (is_last k x.level outer) r (trees k x.level) (validate_blocks k.bytes.now (path_of x) 0 no_block (trees k x.level)))
+pub item-done : (ordered tight outer : ℕ) (r : Rec) {k j : Records} {m : Option ℕ} {x y z a b : Report} → m ≡ item_number r.b r.c → Adds x y (validate_item_number (path_of x) r.span ordered m) → Adds y z (validate_item_blank_lines (path_of y) (eqb tight 1) (is_last k y.level outer) 0 (trees k y.level)) → Adds z a (validate_task_item (path_of z) r.span r.a (trees k z.level)) → Walked k j a.level a b (validate_blocks k.bytes.now (path_of a) 0 no_block (trees k a.level)) → Walked k j x.level x b (validate_item (path_of x) ordered tight (is_last k x.level outer) r (trees k x.level) (validate_blocks k.bytes.now (path_of x) 0 no_block (trees k x.level)))
 unfolding validate_item
 item-done ordered tight outer r {k} {j} {x = x} {a = a} g l m t d =
     let one = adds-from (λ path level. validate_item_blank_lines path (eqb tight 1) (is_last k level outer) 0 (trees k level)) (rw g at l) m in
@@ -85,11 +85,11 @@ item-done ordered tight outer r {k} {j} {x = x} {a = a} g l m t d =
     record { moved = n; adds = rw (join-assoc, join-assoc) at all }
 
 -- ---- from one to the next
-pub blocks-none : (bytes path : List ℕ) (k : ℕ) (before : Before) → validate_blocks bytes path k before none ≡ []
+pub blocks-none : (bytes path : List ℕ) (k : ℕ) (before : Before) → validate_blocks bytes path k before no_tree ≡ []
 unfolding validate_blocks
 blocks-none bytes path k before = refl
 
-pub items-none : (bytes path : List ℕ) (k ordered tight : ℕ) → validate_list_items bytes path k ordered tight none ≡ []
+pub items-none : (bytes path : List ℕ) (k ordered tight : ℕ) → validate_list_items bytes path k ordered tight no_tree ≡ []
 unfolding validate_list_items
 items-none bytes path k ordered tight = refl
 
@@ -102,7 +102,7 @@ blocks-other : (bytes path : List ℕ) (k : ℕ) (before : Before) (r : Rec) (ki
 unfolding validate_blocks
 blocks-other bytes path k before r kids rest e = rw e (sym (none-join (validate_blocks bytes path k before rest)))
 
-items-tree : (bytes path : List ℕ) (k ordered tight : ℕ) (r : Rec) (kids rest : Forest) → validate_list_items bytes path k ordered tight (tree r kids rest) ≡ validate_item (path ++ k ∷ []) ordered tight (eqb (count rest) 0) r kids (blocks_under bytes (path ++ k ∷ []) kids) ⊕ validate_list_items bytes path (k + 1) ordered tight rest
+items-tree : (bytes path : List ℕ) (k ordered tight : ℕ) (r : Rec) (kids rest : Forest) → validate_list_items bytes path k ordered tight (tree r kids rest) ≡ validate_item (path ++ k ∷ []) ordered tight (eqb (count_trees rest) 0) r kids (blocks_under bytes (path ++ k ∷ []) kids) ⊕ validate_list_items bytes path (k + 1) ordered tight rest
 unfolding validate_list_items
 items-tree bytes path k ordered tight r kids rest = rw (add-one k)
 
@@ -116,7 +116,7 @@ other-turn {x = x} {z = z} {u = u} {p = p} {k = k} {r = r} before v reads g h m 
 
 -- a turn: the tree that was read is entered and left
 module _ {es : List Entry} {x y z u : Records} {p q a b o : Report} {k : ℕ} {r : Rec} (reads : ReadsNext y z p.level r) (n : Enters q a k r.level) (leaves : Leaves b o p.level) where
-  pub blocks-turn : {c : Report} {f : Bool} (before : Before) → Paced es (validate_blocks x.bytes.now (path_of p) k before) x y p q k → f ≡ is_block r.kind → not f ≡ false → Adds a c (validate_taken_block (path_of a) r.span before r.kind r.a r.b) → Done z u c.level c b (block_under z.bytes.now (path_of c) r (trees z c.level)) → {d : Before} → d ≡ before_next before r.kind r.a r.b → Paced es (validate_blocks x.bytes.now (path_of p) (k + 1) d) x u p o (k + 1)
+  pub blocks-turn : {c : Report} {f : Bool} (before : Before) → Paced es (validate_blocks x.bytes.now (path_of p) k before) x y p q k → f ≡ is_block r.kind → not f ≡ false → Adds a c (validate_taken_block (path_of a) r.span before r.kind r.a r.b) → Walked z u c.level c b (block_under z.bytes.now (path_of c) r (trees z c.level)) → {d : Before} → d ≡ before_next before r.kind r.a r.b → Paced es (validate_blocks x.bytes.now (path_of p) (k + 1) d) x u p o (k + 1)
   blocks-turn {c = c} before v g h taken d e =
       let l : c.level ≡ r.level = taken.level ∙ n.level in
       let m : Moved z u (z.next + size (trees z r.level)) = subst (λ (m : ℕ). Moved z u (z.next + size (trees z m))) l d.moved in
@@ -127,9 +127,9 @@ module _ {es : List Entry} {x y z u : Records} {p q a b o : Report} {k : ℕ} {r
       let t = blocks-tree x.bytes.now (path_of p) k before r (trees z r.level) (trees u p.level) (not-false _ (rw g at h)) in
       rw e (paced-turn v (passing-tree v.loop.passing reads m) (rw (reads-tree reads m) t) (paced-visit v n (rw (paced-path v n, loop-bytes v.loop reads) at both') leaves) (omega arith))
 
-  pub items-turn : (ordered tight : ℕ) → Paced es (validate_list_items x.bytes.now (path_of p) k ordered tight) x y p q k → Done z u a.level a b (validate_item (path_of a) ordered tight (is_last z a.level p.level) r (trees z a.level) (validate_blocks z.bytes.now (path_of a) 0 no_block (trees z a.level))) → Paced es (validate_list_items x.bytes.now (path_of p) (k + 1) ordered tight) x u p o (k + 1)
+  pub items-turn : (ordered tight : ℕ) → Paced es (validate_list_items x.bytes.now (path_of p) k ordered tight) x y p q k → Walked z u a.level a b (validate_item (path_of a) ordered tight (is_last z a.level p.level) r (trees z a.level) (validate_blocks z.bytes.now (path_of a) 0 no_block (trees z a.level))) → Paced es (validate_list_items x.bytes.now (path_of p) (k + 1) ordered tight) x u p o (k + 1)
   items-turn ordered tight v d =
-      let d' : Done z u r.level a b (validate_item (path_of a) ordered tight (is_last z r.level p.level) r (trees z r.level) (validate_blocks z.bytes.now (path_of a) 0 no_block (trees z r.level))) = subst (λ (m : ℕ). Done z u m a b (validate_item (path_of a) ordered tight (is_last z m p.level) r (trees z m) (validate_blocks z.bytes.now (path_of a) 0 no_block (trees z m)))) n.level d in
+      let d' : Walked z u r.level a b (validate_item (path_of a) ordered tight (is_last z r.level p.level) r (trees z r.level) (validate_blocks z.bytes.now (path_of a) 0 no_block (trees z r.level))) = subst (λ (m : ℕ). Walked z u m a b (validate_item (path_of a) ordered tight (is_last z m p.level) r (trees z m) (validate_blocks z.bytes.now (path_of a) 0 no_block (trees z m)))) n.level d in
       let i : u.next ≡ _ = behind-next reads d'.moved in
       let few = v.few in
       let s = trees-moved p.level d'.moved in

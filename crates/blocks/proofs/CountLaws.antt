@@ -1,5 +1,5 @@
 -- How long the list of a sheet is, from the number of its records. Each entry is charged to the record whose span it copies, so that a bound on what one record is charged with is a bound on the whole list.
-use Rattle.std.specs.Prelude.{Option, Some, None, Ok}
+use Rattle.std.specs.Prelude.{Option, Some, None, Ok, if◌then◌else◌}
 use mathlib.Core.Path.{◌≡◌, refl}
 use mathlib.Core.Bool.{Bool, true, false, not, ◌&&◌, ◌||◌}
 use mathlib.Core.List.{List, [], ◌∷◌, ◌++◌}
@@ -8,15 +8,14 @@ use native.Mathlib.Omega.{arith}
 use borrow.Author.Tests.{eqb-true}
 use lib.Dec.{eqb, ltb}
 use lib.ListN.{length}
-use Rattle.leaves.specs.Text.Lists.{when◌then◌else◌}
 use Rattle.leaves.specs.Text.Same.{same_bytes}
 use Rattle.leaves.specs.Sheet.Records.{records_of}
 use Rattle.leaves.specs.Sheet.Kinds.{is_block, is_inline, paragraph, heading, block_quote, alert, list, code_block, html_container, definition, footnote_definition, table, frontmatter, leaf_directive, container_directive, blank_line, html_tag}
 use Rattle.leaves.specs.Sheet.Empty.{is_empty}
 use Rattle.leaves.specs.Sheet.Texts.{text_of}
-use Rattle.leaves.specs.Sheet.Forest.{Forest, none, tree, count, size, forest_of}
+use Rattle.leaves.specs.Sheet.Forest.{Forest, no_tree, tree, count_trees, size, forest_of}
 use Rattle.leaves.specs.Refusal.Groups.{parent_group}
-use Rattle.leaves.specs.Refusal.Places.{opened, joined}
+use Rattle.leaves.specs.Refusal.Places.{before_children, after_child}
 use Rattle.leaves.specs.Refusal.Formed.{Formed}
 use Rattle.leaves.specs.Refusal.Judge.{judge_sheet}
 use Rattle.leaves.specs.declared.refusal.places.Open.{Open}
@@ -62,61 +61,61 @@ unfoldable pub empty_parts : Rec → ℕ
 empty_parts r = bit (is_empty r.first) + bit (is_empty r.second)
 
 unfoldable pub tag_faults : Rec → ℕ
-tag_faults r = when eqb r.kind html_tag then empty_parts r else 0
+tag_faults r = if eqb r.kind html_tag then empty_parts r else 0
 
 unfoldable pub stray_faults : Rec → ℕ
-stray_faults r = when eqb r.kind html_tag then 0 else empty_parts r
+stray_faults r = if eqb r.kind html_tag then 0 else empty_parts r
 
 unfoldable pub strays : Forest → ℕ
-strays none = 0
-strays (tree opening _ none) = 0
+strays no_tree = 0
+strays (tree opening _ no_tree) = 0
 strays (tree opening _ (tree closing _ _)) = stray_faults opening + stray_faults closing
 
 -- 7 of a container
 unfoldable pub names_entries : List ℕ → List ℕ → Span → Forest → List Entry
-names_entries bytes path span none = []
-names_entries bytes path span (tree opening _ none) = []
+names_entries bytes path span no_tree = []
+names_entries bytes path span (tree opening _ no_tree) = []
 names_entries bytes path span (tree opening _ (tree closing _ _)) =
     list_if (not (same_bytes (text_of bytes opening.first) (text_of bytes closing.first))) Rules.tag_names_differ span path
 
 -- 16, or 17 and 18, of a table
 unfoldable pub table_entries : List ℕ → Span → ℕ → Forest → List Entry
 table_entries path span a rows =
-    when eqb (count rows) 0
+    if eqb (count_trees rows) 0
     then list_if true Rules.table_without_row span path
     else (list_if (eqb (header_width rows) 0) Rules.table_without_cell span path ⊕ list_if (not (eqb a (header_width rows))) Rules.alignment_count span path)
 
 -- of the entries of `validate_own` those with the block's own span
 unfoldable pub own_entries : List ℕ → List ℕ → Rec → Forest → List Entry
 own_entries bytes path r kids =
-    when eqb r.kind footnote_definition
+    if eqb r.kind footnote_definition
     then list_if (is_empty r.first) Rules.empty_footnote_definition r.span path
-    else when eqb r.kind table
+    else if eqb r.kind table
     then table_entries path r.span r.a kids
-    else when eqb r.kind alert
+    else if eqb r.kind alert
     then validate_alert bytes path r.span r.a r.first
-    else when eqb r.kind list
+    else if eqb r.kind list
     then validate_list path r.span r.c kids
-    else when eqb r.kind html_container
+    else if eqb r.kind html_container
     then names_entries bytes path r.span kids
-    else when eqb r.kind container_directive
+    else if eqb r.kind container_directive
     then validate_directive_name bytes path r.span r.first
-    else when eqb r.kind paragraph
+    else if eqb r.kind paragraph
     then list_if (all_empty kids) Rules.empty_paragraph r.span path
-    else when eqb r.kind heading
+    else if eqb r.kind heading
     then list_if (eqb r.a 0 || ltb 6 r.a) Rules.heading_depth r.span path
-    else when eqb r.kind code_block
+    else if eqb r.kind code_block
     then validate_code_block bytes path r.span r.a r.b r.first r.second
-    else when eqb r.kind definition
+    else if eqb r.kind definition
     then validate_definition bytes path r.span r.a r.first r.second
-    else when eqb r.kind frontmatter
+    else if eqb r.kind frontmatter
     then validate_frontmatter bytes path r.span r.level r.a r.first
-    else when eqb r.kind leaf_directive
+    else if eqb r.kind leaf_directive
     then validate_directive_name bytes path r.span r.first
     else []
 
 abbrev pub strays_of : Rec → Forest → ℕ
-strays_of r kids = when eqb r.kind html_container then strays kids else 0
+strays_of r kids = if eqb r.kind html_container then strays kids else 0
 
 -- a record among the blocks, behind the block `before`: 1 and 15, its own, and what its parent lists of it
 unfoldable pub block_charge : List ℕ → List ℕ → Before → Rec → Forest → ℕ
@@ -133,7 +132,7 @@ item_entries path ordered r kids = validate_item_number path r.span ordered (ite
 
 -- ---- what is listed of a block's children besides their own walk
 
-roots-none : (each : Rec → ℕ) → sum_roots each none ≡ 0
+roots-none : (each : Rec → ℕ) → sum_roots each no_tree ≡ 0
 unfolding sum_roots
 roots-none each = refl
 
@@ -151,27 +150,27 @@ parts-split r = go (eqb r.kind html_tag) refl
 
 tags-few : (bytes path : List ℕ) (span : Span) (kids : Forest) → length (validate_tags bytes path span kids) ≤ length (names_entries bytes path span kids) + strays kids + sum_roots tag_faults kids
 unfolding validate_tags validate_tag_pair names_entries strays empty_parts
-tags-few bytes path span none = omega arith
-tags-few bytes path span (tree opening _ none) = omega arith
+tags-few bytes path span no_tree = omega arith
+tags-few bytes path span (tree opening _ no_tree) = omega arith
 tags-few bytes path span (tree opening under (tree closing under' rest)) =
     simp (length-join, length-if)
     (omega (arith, parts-split opening, parts-split closing, roots-tree tag_faults opening under (tree closing under' rest), roots-tree tag_faults closing under' rest))
 
-when-both : (b c : Bool) (x y : List Entry) → length x ≤ 1 → length (when b && c then x else y) ≤ bit b + length y
-when-both true true x y h = omega arith
-when-both true false x y h = omega arith
-when-both false c x y h = omega arith
+if-both : (b c : Bool) (x y : List Entry) → length x ≤ 1 → length (if b && c then x else y) ≤ bit b + length y
+if-both true true x y h = omega arith
+if-both true false x y h = omega arith
+if-both false c x y h = omega arith
 
 blank-few : (path : List ℕ) (k : ℕ) (f : Forest) → length (blank_line_at path k f) ≤ sum_roots blank_of f
 unfolding blank_line_at
-blank-few path k none = omega arith
+blank-few path k no_tree = omega arith
 blank-few path k (tree r kids rest) =
     let here = list_if true Rules.blank_line_in_footnote r.span (path ++ k ∷ []) in
     omega (
       arith,
       roots-tree blank_of r kids rest,
       blank-few path (suc k) rest,
-      when-both (eqb r.kind blank_line) (eqb k 0 || eqb (count rest) 0) here (blank_line_at path (suc k) rest) (few-if true Rules.blank_line_in_footnote r.span (path ++ k ∷ [])),
+      if-both (eqb r.kind blank_line) (eqb k 0 || eqb (count_trees rest) 0) here (blank_line_at path (suc k) rest) (few-if true Rules.blank_line_in_footnote r.span (path ++ k ∷ [])),
     )
 
 one-blank : (path : List ℕ) (span : Span) (blank tight first last : Bool) → length (validate_blank_line path span blank tight first last) ≤ bit blank
@@ -183,14 +182,14 @@ one-blank path span true false false last = simp (length-join, length-if false) 
 
 item-blanks : (path : List ℕ) (tight last : Bool) (k : ℕ) (f : Forest) → length (validate_item_blank_lines path tight last k f) ≤ sum_roots blank_of f
 unfolding validate_item_blank_lines
-item-blanks path tight last k none = omega arith
+item-blanks path tight last k no_tree = omega arith
 item-blanks path tight last k (tree r kids rest) =
     simp length-join
     (omega (
       arith,
       roots-tree blank_of r kids rest,
       item-blanks path tight last (suc k) rest,
-      one-blank (path ++ k ∷ []) r.span (eqb r.kind blank_line) tight (eqb k 0) (last && eqb (count rest) 0),
+      one-blank (path ++ k ∷ []) r.span (eqb r.kind blank_line) tight (eqb k 0) (last && eqb (count_trees rest) 0),
     ))
 
 -- ---- a bound for one record is a bound for all
@@ -207,27 +206,27 @@ module _ (bytes : List ℕ) (most : ℕ) (inline : EachInline bytes tag_faults m
 
   cells-most : (path : List ℕ) (k : ℕ) (f : Forest) → length (validate_cells bytes path k f) ≤ most * size f
   unfolding validate_cells validate_cell size
-  cells-most path k none = omega arith
+  cells-most path k no_tree = omega arith
   cells-most path k (tree r kids rest) = simp length-join (omega (arith, under-most (path ++ k ∷ []) Rules.break_in_cell kids, cells-most path (suc k) rest))
 
   module _ (row : 1 ≤ most) where
     rows-most : (path : List ℕ) (width k : ℕ) (f : Forest) → length (validate_rows bytes path width k f) ≤ most * size f
     unfolding validate_rows size
-    rows-most path width k none = omega arith
+    rows-most path width k no_tree = omega arith
     rows-most path width k (tree r kids rest) =
         simp length-join
         (omega (
           arith,
-          few-if (not (eqb (count kids) width)) Rules.row_width r.span (path ++ k ∷ []),
+          few-if (not (eqb (count_trees kids) width)) Rules.row_width r.span (path ++ k ∷ []),
           cells-most (path ++ k ∷ []) 0 kids,
           rows-most path width (suc k) rest,
         ))
 
     table-few : (path : List ℕ) (span : Span) (a : ℕ) (rows : Forest) → length (validate_table bytes path span a rows) ≤ length (table_entries path span a rows) + most * size rows
     unfolding validate_table table_entries
-    table-few path span a rows = go (eqb (count rows) 0) refl
+    table-few path span a rows = go (eqb (count_trees rows) 0) refl
       where
-        go : (b : Bool) → eqb (count rows) 0 ≡ b → length (validate_table bytes path span a rows) ≤ length (table_entries path span a rows) + most * size rows
+        go : (b : Bool) → eqb (count_trees rows) 0 ≡ b → length (validate_table bytes path span a rows) ≤ length (table_entries path span a rows) + most * size rows
         go true e = rw e (omega arith)
         go false e = rw e (simp length-join (omega (arith, rows-most path (header_width rows) 0 rows)))
 
@@ -265,7 +264,7 @@ module _ (bytes : List ℕ) (most : ℕ) (inline : EachInline bytes tag_faults m
           (λ e11. kind-cases Counts k block_quote (simp length-join (omega arith))
           (λ e12. rw (e0, e1, e2, e3, e4, e5, e6, e7, e8, e9, e10, e11, e12) (simp length-join (omega arith)))))))))))))))
 
-    counted_none : Counted bytes most none
+    counted_none : Counted bytes most no_tree
     unfolding validate_blocks validate_list_items before_blocks sum_roots
     counted_none =
         record {
@@ -326,7 +325,7 @@ module _ (bytes : List ℕ) (most : ℕ) (inline : EachInline bytes tag_faults m
                 spent-step bytes own rule tag_faults behind r kids (before_blocks rest),
                 inline own rule behind r kids,
                 spent-most bytes tag_faults most inline own rule 0 kids,
-                beside.label own path rule (when is_inline r.kind then r.kind else behind) k before,
+                beside.label own path rule (if is_inline r.kind then r.kind else behind) k before,
               ))
 
       tree-items : (path : List ℕ) (k ordered tight : ℕ) → length (validate_list_items bytes path k ordered tight (tree r kids rest)) ≤ most * size (tree r kids rest)
@@ -336,7 +335,7 @@ module _ (bytes : List ℕ) (most : ℕ) (inline : EachInline bytes tag_faults m
           (omega (
             arith,
             simp length-join at (item (path ++ k ∷ []) ordered),
-            item-blanks (path ++ k ∷ []) (eqb tight 1) (eqb (count rest) 0) 0 kids,
+            item-blanks (path ++ k ∷ []) (eqb tight 1) (eqb (count_trees rest) 0) 0 kids,
             inside.blocks (path ++ k ∷ []) 0 no_block,
             beside.items path (suc k) ordered tight,
           ))
@@ -347,7 +346,7 @@ module _ (bytes : List ℕ) (most : ℕ) (inline : EachInline bytes tag_faults m
     -- `Fine` is what the bounds for one record may go by: a property of a forest that holds of the forests inside and beside each tree too
     module _ (Fine : Forest → Type 0) (inside : (r : Rec) (kids rest : Forest) → Fine (tree r kids rest) → Fine kids) (beside : (r : Rec) (kids rest : Forest) → Fine (tree r kids rest) → Fine rest) (block : (path : List ℕ) (before : Before) (r : Rec) (kids rest : Forest) → Fine (tree r kids rest) → block_charge bytes path before r kids ≤ most) (item : (path : List ℕ) (ordered : ℕ) (r : Rec) (kids : Forest) → length (item_entries path ordered r kids) ≤ most) where
       pub counted : (f : Forest) → Fine f → Counted bytes most f
-      counted none fine = counted_none
+      counted no_tree fine = counted_none
       counted (tree r kids rest) fine =
           counted-tree r kids rest (λ path before. block path before r kids rest fine) (λ path ordered. item path ordered r kids) (counted kids (inside r kids rest fine)) (counted rest (beside r kids rest fine))
 
@@ -388,44 +387,44 @@ taken-most path span before k a b = few-then (middle-entry (eqb before.kind list
 
 names-most : (bytes path : List ℕ) (span : Span) (kids : Forest) → Few (names_entries bytes path span kids) 1
 unfolding names_entries
-names-most bytes path span none = record { few = omega arith }
-names-most bytes path span (tree opening _ none) = record { few = omega arith }
+names-most bytes path span no_tree = record { few = omega arith }
+names-most bytes path span (tree opening _ no_tree) = record { few = omega arith }
 names-most bytes path span (tree opening _ (tree closing _ _)) = one_entry _ _ _ _
 
 table-most : (path : List ℕ) (span : Span) (a : ℕ) (rows : Forest) → Few (table_entries path span a rows) 2
 unfolding table_entries
-table-most path span a rows = go (eqb (count rows) 0) refl
+table-most path span a rows = go (eqb (count_trees rows) 0) refl
   where
-    go : (b : Bool) → eqb (count rows) 0 ≡ b → Few (table_entries path span a rows) 2
+    go : (b : Bool) → eqb (count_trees rows) 0 ≡ b → Few (table_entries path span a rows) 2
     go true e = record { few = rw (e, length-if) (omega arith) }
     go false e = rw e (few-then (one_entry _ _ _ _) (one_entry _ _ _ _))
 
 -- a block's own entries
 unfoldable own_most : ℕ → ℕ
 own_most k =
-    when eqb k footnote_definition
+    if eqb k footnote_definition
     then 1
-    else when eqb k table
+    else if eqb k table
     then 2
-    else when eqb k alert
+    else if eqb k alert
     then 1
-    else when eqb k list
+    else if eqb k list
     then 2
-    else when eqb k html_container
+    else if eqb k html_container
     then 1
-    else when eqb k container_directive
+    else if eqb k container_directive
     then 1
-    else when eqb k paragraph
+    else if eqb k paragraph
     then 1
-    else when eqb k heading
+    else if eqb k heading
     then 1
-    else when eqb k code_block
+    else if eqb k code_block
     then 2
-    else when eqb k definition
+    else if eqb k definition
     then 2
-    else when eqb k frontmatter
+    else if eqb k frontmatter
     then 2
-    else when eqb k leaf_directive
+    else if eqb k leaf_directive
     then 1
     else 0
 
@@ -488,17 +487,17 @@ item-most path ordered r kids = (few-then (number-most (item_number r.b r.c)) (o
     number-most (Some number) = few-then (one_entry _ _ _ _) (one_entry _ _ _ _)
 
 -- ---- an accepted sheet: the first two children of a container are tags
-container-strays : (bytes : List ℕ) (l a : ℕ) (kids : Forest) → Formed bytes l (opened (parent_group html_container a)) kids → strays kids ≡ 0
-unfolding Formed strays stray_faults opened joined
-container-strays bytes l a none h = refl
-container-strays bytes l a (tree opening _ none) h = refl
+container-strays : (bytes : List ℕ) (l a : ℕ) (kids : Forest) → Formed bytes l (before_children (parent_group html_container a)) kids → strays kids ≡ 0
+unfolding Formed strays stray_faults before_children after_child
+container-strays bytes l a no_tree h = refl
+container-strays bytes l a (tree opening _ no_tree) h = refl
 container-strays bytes l a (tree opening _ (tree closing _ _)) h =
-    let o = opened (parent_group html_container a) in
+    let o = before_children (parent_group html_container a) in
     let p : eqb opening.kind html_tag ≡ true = container-tag o opening.kind (container-group a) refl h.0.place in
-    let q : eqb closing.kind html_tag ≡ true = container-tag (joined o html_tag) closing.kind (container-group a) refl (rw (eqb-true opening.kind html_tag p) at h.2.0.place) in
+    let q : eqb closing.kind html_tag ≡ true = container-tag (after_child o html_tag) closing.kind (container-group a) refl (rw (eqb-true opening.kind html_tag p) at h.2.0.place) in
     rw (p, q)
 
-no-strays : (bytes : List ℕ) (l : ℕ) (r : Rec) (kids : Forest) → Formed bytes l (opened (parent_group r.kind r.a)) kids → strays_of r kids ≡ 0
+no-strays : (bytes : List ℕ) (l : ℕ) (r : Rec) (kids : Forest) → Formed bytes l (before_children (parent_group r.kind r.a)) kids → strays_of r kids ≡ 0
 no-strays bytes l r kids h = go (eqb r.kind html_container) refl
   where
     go : (b : Bool) → eqb r.kind html_container ≡ b → strays_of r kids ≡ 0
@@ -516,8 +515,8 @@ unfolding validate_document Formed
 few-accepted w bytes a =
     rw (← size_of w)
     (walk-few bytes entries_of_one (inline-most bytes tag_faults tag-most) (omega arith) (Stands bytes)
-    (λ r kids rest fine. record { level = fine.level + 1; state = opened (parent_group r.kind r.a); formed = fine.formed.1 })
-    (λ r kids rest fine. record { level = fine.level; state = joined fine.state r.kind; formed = fine.formed.2 })
+    (λ r kids rest fine. record { level = fine.level + 1; state = before_children (parent_group r.kind r.a); formed = fine.formed.1 })
+    (λ r kids rest fine. record { level = fine.level; state = after_child fine.state r.kind; formed = fine.formed.2 })
     (λ path before r kids rest fine. omega (arith, block-most bytes path before r kids, no-strays bytes (fine.level + 1) r kids fine.formed.1))
     item-most
     (forest_of w) (record { level = 0; state = _; formed = (accepted w bytes a).tree }))

@@ -10,7 +10,7 @@ use Rattle.leaves.specs.declared.sheet.records.Rec.{Rec}
 use Rattle.leaves.specs.Report.Rules
 use Rattle.blocks.specs.Footnote.{blank_line_at}
 use mathlib.Core.Path.{◌≡◌, refl}
-use Rattle.leaves.specs.Sheet.Forest.{Forest, none, tree, count, size}
+use Rattle.leaves.specs.Sheet.Forest.{Forest, no_tree, tree, count_trees, size}
 use Rattle.leaves.specs.Sheet.Trees.{trees, Moved, ReadsNext}
 use Rattle.leaves.specs.Report.Entries.{Entry, list_if, ◌⊕◌}
 use Rattle.leaves.specs.Report.Listed.{path_of, Adds, Enters, Leaves}
@@ -21,7 +21,7 @@ use Rattle.leaves.proofs.report.ListedLaws.{adds-none}
 use Rattle.leaves.proofs.sheet.TreesLaws.{passing-tree, reads-tree, behind-next}
 use Rattle.inlines.proofs.PathLaws.{Paced, paced-path, paced-visit, paced-turn, paced-last}
 
-pub blank_none : (path : List ℕ) (k : ℕ) → blank_line_at path k none ≡ []
+pub blank_none : (path : List ℕ) (k : ℕ) → blank_line_at path k no_tree ≡ []
 unfolding blank_line_at
 blank_none path k = refl
 
@@ -30,20 +30,20 @@ abbrev is_fault : ℕ → ℕ → Bool → Bool
 is_fault kind k last = eqb kind blank_line && (eqb k 0 || last)
 
 module _ (path : List ℕ) (k : ℕ) (r : Rec) (kids rest : Forest) where
-  blank-found : is_fault r.kind k (eqb (count rest) 0) ≡ true → blank_line_at path k (tree r kids rest) ≡ list_if true Rules.blank_line_in_footnote r.span (path ++ k ∷ [])
+  blank-found : is_fault r.kind k (eqb (count_trees rest) 0) ≡ true → blank_line_at path k (tree r kids rest) ≡ list_if true Rules.blank_line_in_footnote r.span (path ++ k ∷ [])
   unfolding blank_line_at
   blank-found e = rw e
 
-  blank-later : is_fault r.kind k (eqb (count rest) 0) ≡ false → blank_line_at path k (tree r kids rest) ≡ [] ⊕ blank_line_at path (k + 1) rest
+  blank-later : is_fault r.kind k (eqb (count_trees rest) 0) ≡ false → blank_line_at path k (tree r kids rest) ≡ [] ⊕ blank_line_at path (k + 1) rest
   unfolding blank_line_at
   blank-later e = rw (none-join, e, add-one k)
 
 module _ {es : List Entry} {x y z u : Records} {p q : Report} {k : ℕ} {r : Rec} (v : Paced es (blank_line_at (path_of p) k) x y p q k) (reads : ReadsNext y z p.level r) (behind : Moved z u (z.next + size (trees z r.level))) where
-  pub blank-listed : {a b o : Report} → Enters q a k r.level → Adds a b (list_if true Rules.blank_line_in_footnote r.span (path_of a)) → Leaves b o p.level → is_fault r.kind k (eqb (count (trees u p.level)) 0) ≡ true → Adds p o es
+  pub blank-listed : {a b o : Report} → Enters q a k r.level → Adds a b (list_if true Rules.blank_line_in_footnote r.span (path_of a)) → Leaves b o p.level → is_fault r.kind k (eqb (count_trees (trees u p.level)) 0) ≡ true → Adds p o es
   blank-listed n l c e =
       paced-last v (rw (reads-tree reads behind) (blank-found (path_of p) k r _ _ e)) (paced-visit v n (rw (paced-path v n) at l) c)
 
-  pub blank-passed : is_fault r.kind k (eqb (count (trees u p.level)) 0) ≡ false → Paced es (blank_line_at (path_of p) (k + 1)) x u p q (k + 1)
+  pub blank-passed : is_fault r.kind k (eqb (count_trees (trees u p.level)) 0) ≡ false → Paced es (blank_line_at (path_of p) (k + 1)) x u p q (k + 1)
   blank-passed e =
       let n : u.next ≡ y.next + 1 + size (trees z r.level) = behind-next reads behind in
       paced-turn v (passing-tree v.loop.passing reads behind) (rw (reads-tree reads behind) (blank-later (path_of p) k r _ _ e)) adds-none (omega (arith, v.few))

@@ -10,7 +10,7 @@ use Rattle.leaves.specs.declared.sheet.records.Span.{Span}
 use Rattle.leaves.specs.Report.Rules
 use Rattle.leaves.specs.Sheet.Empty.{is_empty}
 use Rattle.blocks.specs.Html.{validate_tag_pair, validate_tags}
-use Rattle.leaves.specs.Sheet.Forest.{Forest, none, tree}
+use Rattle.leaves.specs.Sheet.Forest.{Forest, no_tree, tree}
 use Rattle.leaves.specs.Sheet.Roots.{roots}
 use Rattle.leaves.specs.Report.Entries.{Entry, list_if}
 use Rattle.leaves.specs.Report.Listed.{path_of, Adds}
@@ -32,8 +32,8 @@ tags-of bytes path span (o ∷ c ∷ ts) = validate_tag_pair bytes path span o.0
 
 tags-roots : (bytes path : List ℕ) (span : Span) (f : Forest) → tags-of bytes path span (roots f) ≡ validate_tags bytes path span f
 unfolding roots validate_tags
-tags-roots bytes path span none = refl
-tags-roots bytes path span (tree o kids none) = refl
+tags-roots bytes path span no_tree = refl
+tags-roots bytes path span (tree o kids no_tree) = refl
 tags-roots bytes path span (tree o kids (tree c under rest)) = refl
 
 module _ (bytes path : List ℕ) (span : Span) (f : Forest) where

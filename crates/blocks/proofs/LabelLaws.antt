@@ -18,19 +18,19 @@ use Rattle.leaves.proofs.sheet.ForestLaws.{behind_kids}
 use Rattle.inlines.specs.Nodes.{validate_inlines}
 use Rattle.blocks.specs.Label.{before_blocks, validate_directive}
 use mathlib.Core.Path.{◌≡◌, refl, sym, ap, ◌∙◌}
-use Rattle.leaves.specs.Sheet.Forest.{Forest, none, tree, under, size}
+use Rattle.leaves.specs.Sheet.Forest.{Forest, no_tree, tree, under, size}
 use Rattle.leaves.specs.Sheet.Trees.{trees, Until, Moved, ReadsNext, Ends}
 use Rattle.leaves.specs.Report.Listed.{path_of, Adds}
 use Rattle.leaves.specs.declared.sheet.trees.Records.{Records}
 use Rattle.leaves.specs.declared.report.entries.Report.{Report}
 use Rattle.leaves.proofs.report.ListedLaws.{adds-then}
 use Rattle.leaves.proofs.sheet.TreesLaws.{moved-not, moved-then, reads-tree, reads-first, behind-next, behind-moved}
-use Rattle.inlines.specs.Walk.{Done}
+use Rattle.inlines.specs.Walk.{Walked}
 
 -- ---- cutting a sheet behind some trees leaves them as they are
-none_of : (f : Forest) → size f ≤ 0 → f ≡ none
+none_of : (f : Forest) → size f ≤ 0 → f ≡ no_tree
 unfolding size
-none_of none h = refl
+none_of no_tree h = refl
 none_of (tree r kids rest) h = absurd (omega arith)
 
 module _ (w : List ℕ) (n m : ℕ) (fits : m ≤ n) where
@@ -55,19 +55,19 @@ module _ (w : List ℕ) (n m : ℕ) (fits : m ≤ n) where
 -- ---- the label
 fewer : (f : Forest) → size (before_blocks f) ≤ size f
 unfolding before_blocks size
-fewer none = omega arith
+fewer no_tree = omega arith
 fewer (tree r kids rest) = go (is_block r.kind) refl (fewer rest)
   where
     go : (b : Bool) → is_block r.kind ≡ b → size (before_blocks rest) ≤ size rest → size (before_blocks (tree r kids rest)) ≤ size (tree r kids rest)
     go true e h = rw e (omega arith)
     go false e h = rw e (omega arith)
 
-label-stop : (w : List ℕ) (a l : ℕ) (f : Forest) → f ≡ none → under w (a + size f) a l ≡ f
+label-stop : (w : List ℕ) (a l : ℕ) (f : Forest) → f ≡ no_tree → under w (a + size f) a l ≡ f
 unfolding size
 label-stop w a l f e = rw e (under-end w (a + 0) a l (omega arith))
 
 module _ (r : Rec) (kids rest : Forest) where
-  label-block : is_block r.kind ≡ true → before_blocks (tree r kids rest) ≡ none
+  label-block : is_block r.kind ≡ true → before_blocks (tree r kids rest) ≡ no_tree
   unfolding before_blocks
   label-block e = rw e
 
@@ -75,7 +75,7 @@ module _ (r : Rec) (kids rest : Forest) where
   unfolding before_blocks
   label-other e = rw e
 
-label-none : before_blocks none ≡ none
+label-none : before_blocks no_tree ≡ no_tree
 unfolding before_blocks
 label-none = refl
 
@@ -84,13 +84,13 @@ module _ (w : List ℕ) (n l : ℕ) where
   label a = before_blocks (under w n a l)
 
   module _ (a : ℕ) where
-    label-end : n ≤ a → label a ≡ none
+    label-end : n ≤ a → label a ≡ no_tree
     label-end h = rw (under-end w n a l h) label-none
 
-    label-out : a < n → (record_at w a).level ≤ l → label a ≡ none
+    label-out : a < n → (record_at w a).level ≤ l → label a ≡ no_tree
     label-out h d = rw (under-out w n a l h d) label-none
 
-    label_at : a < n → l < (record_at w a).level → is_block (record_at w a).kind ≡ true → label a ≡ none
+    label_at : a < n → l < (record_at w a).level → is_block (record_at w a).kind ≡ true → label a ≡ no_tree
     label_at h d e = rw (under-in w n a l h d) (label-block (record_at w a) _ _ e)
 
     label-in : a < n → l < (record_at w a).level → is_block (record_at w a).kind ≡ false → label a ≡ tree (record_at w a) (under w n (a + 1) (record_at w a).level) (label (behind_kids w n a))
@@ -130,12 +130,12 @@ module _ {level : ℕ} {x : Records} where
   labelling-start = record { moved = moved-not x level; gone = refl }
 
   module _ {y : Records} (v : Labelling level x y) where
-    stop : before_blocks (trees y level) ≡ none → y.next ≡ x.next + size (before_blocks (trees x level))
+    stop : before_blocks (trees y level) ≡ no_tree → y.next ≡ x.next + size (before_blocks (trees x level))
     unfolding size
     stop e = let z : size (before_blocks (trees y level)) ≡ 0 = rw e in omega (arith, v.gone)
 
     pub labelling-end : {z : Records} → Ends y z level → y.next ≡ x.next + size (before_blocks (trees x level))
-    labelling-end e = stop (rw e.none label-none)
+    labelling-end e = stop (rw e.empty label-none)
 
     module _ {z : Records} {r : Rec} {b : Bool} (reads : ReadsNext y z level r) (g : b ≡ is_block r.kind) where
       pub labelling-block : b ≡ true → y.next ≡ x.next + size (before_blocks (trees x level))
@@ -165,7 +165,7 @@ module _ (k : Records) (level : ℕ) {m : ℕ} (e : m ≡ k.next + size (before_
       let c : under k.sheet.now (k.next + size (before_blocks (trees k level))) k.next level ≡ before_blocks (trees k level) = label-cut k.sheet.now k.n level k.n k.next (omega arith) i in
       rw (u.sheet, u.n, u.next, e) c
 
-pub directive-done : (rule : ℕ) (span : Span) (name : Text) {k j a b c : Records} {level m : ℕ} {x y z o p : Report} → m ≡ k.next + size (before_blocks (trees k level)) → Adds x y (validate_directive_name k.bytes.now (path_of x) span name) → Until k j m → Done j a level y z (validate_directive_attributes j.bytes.now (path_of y) (trees j level)) → Done j b level z o (validate_inlines j.bytes.now (path_of z) (trees j level)) → Done j c level o p (validate_one_line rule (path_of o) (trees j level)) → Adds x p (validate_directive k.bytes.now (path_of x) rule span name (trees k level))
+pub directive-done : (rule : ℕ) (span : Span) (name : Text) {k j a b c : Records} {level m : ℕ} {x y z o p : Report} → m ≡ k.next + size (before_blocks (trees k level)) → Adds x y (validate_directive_name k.bytes.now (path_of x) span name) → Until k j m → Walked j a level y z (validate_directive_attributes j.bytes.now (path_of y) (trees j level)) → Walked j b level z o (validate_inlines j.bytes.now (path_of z) (trees j level)) → Walked j c level o p (validate_one_line rule (path_of o) (trees j level)) → Adds x p (validate_directive k.bytes.now (path_of x) rule span name (trees k level))
 unfolding validate_directive
 directive-done rule span name {k} {level = level} e l u f g h =
     let t = label-trees k level e u in

@@ -6,14 +6,14 @@ use Prim.Native.Nat.{ℕ, suc}
 use borrow.Author.Tests.{ne_eqb}
 use lib.Dec.{eqb, ltb}
 use lib.ListN.{length}
-use Rattle.leaves.specs.Text.Lists.{when◌then◌else◌}
+use Rattle.std.specs.Prelude.{if◌then◌else◌}
 use Rattle.leaves.specs.Sheet.Kinds.{blank_line}
 use Rattle.leaves.specs.declared.sheet.records.Rec.{Rec}
 use Rattle.leaves.specs.declared.sheet.records.Span.{Span}
 use Rattle.leaves.proofs.report.EntryLaws.{join-none}
 use Rattle.leaves.specs.Report.Rules
 use Rattle.blocks.specs.List.{count_full, holds_one_block, validate_list}
-use Rattle.leaves.specs.Sheet.Forest.{Forest, none, tree, count}
+use Rattle.leaves.specs.Sheet.Forest.{Forest, no_tree, tree, count_trees}
 use Rattle.leaves.specs.Sheet.Roots.{roots}
 use Rattle.leaves.specs.Report.Entries.{list_if}
 use Rattle.leaves.specs.Report.Listed.{path_of, Adds}
@@ -22,11 +22,11 @@ use Rattle.leaves.proofs.report.ListedLaws.{adds-then}
 use Rattle.leaves.proofs.sheet.RootLaws.{length-roots}
 
 -- ---- how many blocks
-pub full-tree : (r : Rec) (kids rest : Forest) → count_full (tree r kids rest) ≡ (when not (eqb r.kind blank_line) then suc (count_full rest) else count_full rest)
+pub full-tree : (r : Rec) (kids rest : Forest) → count_full (tree r kids rest) ≡ (if not (eqb r.kind blank_line) then suc (count_full rest) else count_full rest)
 unfolding count_full
 full-tree r kids rest = go (eqb r.kind blank_line)
   where
-    go : (b : Bool) → (when b then count_full rest else suc (count_full rest)) ≡ (when not b then suc (count_full rest) else count_full rest)
+    go : (b : Bool) → (if b then count_full rest else suc (count_full rest)) ≡ (if not b then suc (count_full rest) else count_full rest)
     go true = refl
     go false = refl
 
@@ -37,7 +37,7 @@ holds-of (t ∷ ts) = eqb (length ts) 0 && ltb (count_full t.1) 2
 
 holds-roots : (f : Forest) → holds-of (roots f) ≡ holds_one_block f
 unfolding roots holds_one_block
-holds-roots none = refl
+holds-roots no_tree = refl
 holds-roots (tree r kids rest) = rw (length-roots rest) refl
 
 module _ (f : Forest) where
@@ -55,7 +55,7 @@ module _ (f : Forest) where
     holds-more t = rw t (rw t at holds-first)
 
 -- ---- the list
-module _ (span : Span) (tight : ℕ) (kids : Forest) {f : Bool} {x y : Report} (e : f ≡ eqb (count kids) 0) (l : Adds x y (list_if f Rules.empty_list span (path_of x))) where
+module _ (span : Span) (tight : ℕ) (kids : Forest) {f : Bool} {x y : Report} (e : f ≡ eqb (count_trees kids) 0) (l : Adds x y (list_if f Rules.empty_list span (path_of x))) where
   pub list-tight : tight ≡ 1 → Adds x y (validate_list (path_of x) span tight kids)
   unfolding validate_list list_if
   list-tight h = rw (h, join-none) (rw e at l)

@@ -6,12 +6,12 @@ use Prim.Native.Nat.{ℕ, suc, ◌+◌}
 use native.Mathlib.Omega.{arith}
 use borrow.Author.Tests.{lt-ltb, le-ltb, ltb-true, ltb-false, eqb-true}
 use lib.Dec.{eqb, ltb}
-use Rattle.leaves.specs.Text.Lists.{when◌then◌else◌}
+use Rattle.std.specs.Prelude.{if◌then◌else◌}
 use Rattle.leaves.specs.Sheet.Kinds.{is_kind, is_block, list, item}
-use Rattle.leaves.specs.Sheet.Forest.{Forest, none, tree, forest_of}
+use Rattle.leaves.specs.Sheet.Forest.{Forest, no_tree, tree, forest_of}
 use Rattle.leaves.specs.declared.sheet.records.Rec.{Rec}
-use Rattle.leaves.specs.Refusal.Groups.{holds_blocks, holds_items, parent_group}
-use Rattle.leaves.specs.Refusal.Places.{opened, joined, misplaced}
+use Rattle.leaves.specs.Refusal.Groups.{parent_of_blocks, parent_of_items, parent_group}
+use Rattle.leaves.specs.Refusal.Places.{before_children, after_child, misplaced}
 use Rattle.leaves.specs.declared.refusal.places.Open.{Open}
 use Rattle.leaves.proofs.refusal.PlacedLaws.{items-only, joined-group, opened-group}
 use Rattle.leaves.specs.Refusal.Formed.{Formed, Sound}
@@ -24,7 +24,7 @@ Agree group l depth = (o : Open) (k : ℕ) → o.group ≡ group → is_kind k �
 no_item : (k : ℕ) → is_block k ≡ true → eqb k item ≡ true → ⊥
 no_item k b e = true≢false (sym b ∙ ap is_block (eqb-true k item e))
 
-list-items : (kind a : ℕ) → eqb kind list ≡ true → parent_group kind a ≡ holds_items
+list-items : (kind a : ℕ) → eqb kind list ≡ true → parent_group kind a ≡ parent_of_items
 unfolding parent_group
 list-items kind a e = rw (eqb-true kind list e)
 
@@ -33,7 +33,7 @@ agree-under : (r : Rec) (l depth : ℕ) → Agree (parent_group r.kind r.a) (l +
 unfolding depth_under
 agree-under r l depth o k g known b m = go (eqb r.kind list) refl
   where
-    go : (t : Bool) → eqb r.kind list ≡ t → ltb 0 (l + 1) ≡ ltb 0 (when t then depth else suc depth)
+    go : (t : Bool) → eqb r.kind list ≡ t → ltb 0 (l + 1) ≡ ltb 0 (if t then depth else suc depth)
     go true e = absurd (no_item k b (items-only o k (g ∙ list-items r.kind r.a e) known m))
     go false e = lt-ltb 0 (l + 1) (omega arith) ∙ sym (lt-ltb 0 (suc depth) (omega arith))
 
@@ -46,14 +46,14 @@ shift l = go (ltb 0 l) refl
 
 counted : (bytes : List ℕ) (l depth : ℕ) (o : Open) (ts : Forest) → Formed bytes l o ts → Agree o.group l depth → Counted depth ts
 unfolding Formed Counted
-counted bytes l depth o none f a = tt
+counted bytes l depth o no_tree f a = tt
 counted bytes l depth o (tree r kids rest) f a =
-    let below : Agree (opened (parent_group r.kind r.a)).group (l + 1) (depth_under depth r) = rw (opened-group (parent_group r.kind r.a)) (agree-under r l depth) in
-    let beside : Agree (joined o r.kind).group l depth = rw (joined-group o r.kind) a in (
+    let below : Agree (before_children (parent_group r.kind r.a)).group (l + 1) (depth_under depth r) = rw (opened-group (parent_group r.kind r.a)) (agree-under r l depth) in
+    let beside : Agree (after_child o r.kind).group l depth = rw (joined-group o r.kind) a in (
       λ b. rw f.0.level (shift l ∙ a o r.kind refl f.0.kind b f.0.place),
-      counted bytes (l + 1) (depth_under depth r) (opened (parent_group r.kind r.a)) kids f.1 below,
-      counted bytes l depth (joined o r.kind) rest f.2 beside,
+      counted bytes (l + 1) (depth_under depth r) (before_children (parent_group r.kind r.a)) kids f.1 below,
+      counted bytes l depth (after_child o r.kind) rest f.2 beside,
     )
 
 pub depth-counted : (w bytes : List ℕ) → Sound w bytes → Counted 0 (forest_of w)
-depth-counted w bytes s = counted bytes 0 0 (opened holds_blocks) (forest_of w) s.tree (λ o k g known b m. refl)
+depth-counted w bytes s = counted bytes 0 0 (before_children parent_of_blocks) (forest_of w) s.tree (λ o k g known b m. refl)

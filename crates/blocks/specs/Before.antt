@@ -1,7 +1,6 @@
 -- What a block reports because of the block before it, and which block stands before the next one. A definition has
 -- the name of its function in validate.rs. `path` is the block's own.
-use Rattle.std.specs.Prelude.{ℕ, Bool, ◌&&◌, ◌||◌, List, eqb}
-use Rattle.leaves.specs.Text.Lists.{when◌then◌else◌}
+use Rattle.std.specs.Prelude.{ℕ, Bool, ◌&&◌, ◌||◌, List, eqb, if◌then◌else◌}
 use Rattle.leaves.specs.Sheet.Kinds.{no_kind, list, code_block, footnote_definition, blank_line}
 use Rattle.leaves.specs.Report.Entries.{Entry, list_if, ◌⊕◌}
 use Rattle.leaves.specs.declared.sheet.records.Span.{Span}
@@ -29,4 +28,4 @@ no_block = record { kind = no_kind; a = 0; b = 0 }
 -- The block before the next one. validate.rs: "Blank lines beyond the separator change how no block reads, so the
 -- block before each one is the last one before them."
 unfoldable pub before_next : Before → ℕ → ℕ → ℕ → Before
-before_next before kind a b = when eqb kind blank_line then before else record { kind = kind; a = a; b = b }
+before_next before kind a b = if eqb kind blank_line then before else record { kind = kind; a = a; b = b }

@@ -1,6 +1,5 @@
 -- The entries that validate.rs reports for frontmatter, in its order. `path` is the block's own.
-use Rattle.std.specs.Prelude.{ℕ, List, eqb, ltb}
-use Rattle.leaves.specs.Text.Lists.{when◌then◌else◌}
+use Rattle.std.specs.Prelude.{ℕ, List, eqb, ltb, if◌then◌else◌}
 use Rattle.leaves.specs.Text.Fence.{holds_fence_line}
 use Rattle.leaves.specs.declared.text.fence.FrontmatterKind.{FrontmatterKind}
 use Rattle.leaves.specs.declared.text.fence.FrontmatterKind.TheVariants.{Yaml, Toml}
@@ -12,7 +11,7 @@ use Rattle.leaves.specs.Report.Rules
 
 -- document 01: "frontmatter 0 YAML, 1 TOML"
 unfoldable pub frontmatter_kind : ℕ → FrontmatterKind
-frontmatter_kind a = when eqb a 1 then Toml else Yaml
+frontmatter_kind a = if eqb a 1 then Toml else Yaml
 
 -- `validate_frontmatter`: 28, 29. For 28 validate.rs tests that the depth, the number of containers around the block,
 -- is above 0. On an accepted sheet that is a level above 1 (`depth-counted` in `proofs/WalkDepthLaws.antt`).

@@ -1,9 +1,8 @@
 -- `validate_html_container`, up to the walk of its blocks. `path` is the container's own.
-use Rattle.std.specs.Prelude.{ℕ, not, List, [], eqb}
-use Rattle.leaves.specs.Text.Lists.{when◌then◌else◌}
+use Rattle.std.specs.Prelude.{ℕ, not, List, [], eqb, if◌then◌else◌}
 use Rattle.leaves.specs.Text.Same.{same_bytes}
 use Rattle.leaves.specs.Sheet.Texts.{text_of}
-use Rattle.leaves.specs.Sheet.Forest.{Forest, none, tree}
+use Rattle.leaves.specs.Sheet.Forest.{Forest, no_tree, tree}
 use Rattle.leaves.specs.Report.Entries.{Entry, list_if, ◌⊕◌}
 use Rattle.leaves.specs.declared.sheet.records.Rec.{Rec}
 use Rattle.leaves.specs.declared.sheet.records.Span.{Span}
@@ -24,11 +23,11 @@ validate_tag_pair bytes path span opening closing =
 -- The tags are the first two children. Document 01: "HTML container: opening tag, closing tag, content of its sort."
 -- A sheet whose container has fewer tags is refused (10).
 unfoldable pub validate_tags : List ℕ → List ℕ → Span → Forest → List Entry
-validate_tags bytes path span none = []
-validate_tags bytes path span (tree opening _ none) = []
+validate_tags bytes path span no_tree = []
+validate_tags bytes path span (tree opening _ no_tree) = []
 validate_tags bytes path span (tree opening _ (tree closing _ _)) = validate_tag_pair bytes path span opening closing
 
 -- The tags, and the inlines where the container holds inlines (A is not 0).
 unfoldable pub validate_html_container : List ℕ → List ℕ → Span → ℕ → Forest → List Entry
 validate_html_container bytes path span a kids =
-    validate_tags bytes path span kids ⊕ (when eqb a 0 then [] else validate_inlines bytes path kids)
+    validate_tags bytes path span kids ⊕ (if eqb a 0 then [] else validate_inlines bytes path kids)

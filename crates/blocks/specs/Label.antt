@@ -1,8 +1,7 @@
 -- Leaf and container directives, up to the walk of their blocks. `path` is the directive's own.
-use Rattle.std.specs.Prelude.{ℕ, List}
-use Rattle.leaves.specs.Text.Lists.{when◌then◌else◌}
+use Rattle.std.specs.Prelude.{ℕ, List, if◌then◌else◌}
 use Rattle.leaves.specs.Sheet.Kinds.{is_block}
-use Rattle.leaves.specs.Sheet.Forest.{Forest, none, tree}
+use Rattle.leaves.specs.Sheet.Forest.{Forest, no_tree, tree}
 use Rattle.leaves.specs.Report.Entries.{Entry, ◌⊕◌}
 use Rattle.leaves.specs.declared.sheet.records.Span.{Span}
 use Rattle.leaves.specs.declared.sheet.records.Text.{Text}
@@ -15,10 +14,10 @@ use Rattle.inlines.specs.Nodes.{validate_inlines}
 -- The children of a directive before its blocks: its attributes and the inlines of its label. Document 01:
 -- "Directives: attributes, then inlines, then (container only) blocks."
 unfoldable pub before_blocks : Forest → Forest
-before_blocks none = none
+before_blocks no_tree = no_tree
 before_blocks (tree r kids rest) =
     let later = tree r kids (before_blocks rest) in
-    when is_block r.kind then none else later
+    if is_block r.kind then no_tree else later
 
 -- A directive up to the walk of its blocks: 54, 55, the label's inlines, and `rule` for each break in the label. 55
 -- passes over the inlines, and the last two pass over the attributes.

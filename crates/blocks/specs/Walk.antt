@@ -2,10 +2,9 @@
 -- out.
 -- A path has an index for each block, item, row and cell from the sheet down. Document 01: "Path indices count blocks,
 -- items, rows and cells only."
-use Rattle.std.specs.Prelude.{ℕ, suc, Bool, List, [], ◌∷◌, ◌++◌, eqb}
-use Rattle.leaves.specs.Text.Lists.{when◌then◌else◌}
+use Rattle.std.specs.Prelude.{ℕ, suc, Bool, List, [], ◌∷◌, ◌++◌, eqb, if◌then◌else◌}
 use Rattle.leaves.specs.Sheet.Kinds.{is_block, list}
-use Rattle.leaves.specs.Sheet.Forest.{Forest, none, tree, count, forest_of}
+use Rattle.leaves.specs.Sheet.Forest.{Forest, no_tree, tree, count_trees, forest_of}
 use Rattle.leaves.specs.Report.Entries.{Entry, ◌⊕◌}
 use Rattle.leaves.specs.declared.sheet.records.Rec.{Rec}
 use Rattle.blocks.specs.declared.before.Before.{Before}
@@ -20,7 +19,7 @@ use Rattle.blocks.specs.Number.{item_number, validate_item_number}
 unfoldable pub validate_block : List ℕ → List ℕ → Rec → Forest → List Entry → List Entry → List Entry
 validate_block bytes path r kids items blocks =
     validate_own bytes path r kids
-    ⊕ (when eqb r.kind list then items else when holds_blocks r.kind r.a then blocks else [])
+    ⊕ (if eqb r.kind list then items else if holds_blocks r.kind r.a then blocks else [])
 
 -- One item. `ordered` and `tight` are the list's A and C: 1 for an ordered list, and 1 for a tight one. `last`: the
 -- item is the list's last. `blocks` are the entries of its blocks.
@@ -35,13 +34,13 @@ unfoldable mutual
   -- `validate_blocks`: the blocks among the trees, the first of them the k-th. `before` is the block before them. Trees
   -- of another sort (tags, attributes, a label's inlines) are passed over.
   pub validate_blocks : List ℕ → List ℕ → ℕ → Before → Forest → List Entry
-  validate_blocks bytes path k before none = []
+  validate_blocks bytes path k before no_tree = []
   validate_blocks bytes path k before (tree r kids rest) =
       let items = validate_list_items bytes (path ++ k ∷ []) 0 r.a r.c kids in
       let blocks = validate_blocks bytes (path ++ k ∷ []) 0 no_block kids in
       let later = validate_blocks bytes path (suc k) (before_next before r.kind r.a r.b) rest in
       let passed = validate_blocks bytes path k before rest in
-      when is_block r.kind
+      if is_block r.kind
       then (validate_taken_block (path ++ k ∷ []) r.span before r.kind r.a r.b
       ⊕ validate_block bytes (path ++ k ∷ []) r kids items blocks
       ⊕ later)
@@ -49,11 +48,11 @@ unfoldable mutual
 
   -- the items of a list, the first of them the k-th
   pub validate_list_items : List ℕ → List ℕ → ℕ → ℕ → ℕ → Forest → List Entry
-  validate_list_items bytes path k ordered tight none = []
+  validate_list_items bytes path k ordered tight no_tree = []
   validate_list_items bytes path k ordered tight (tree r kids rest) =
       let blocks = validate_blocks bytes (path ++ k ∷ []) 0 no_block kids in
       let later = validate_list_items bytes path (suc k) ordered tight rest in
-      validate_item (path ++ k ∷ []) ordered tight (eqb (count rest) 0) r kids blocks ⊕ later
+      validate_item (path ++ k ∷ []) ordered tight (eqb (count_trees rest) 0) r kids blocks ⊕ later
 
 -- `validate_document`: the whole list of a sheet and its text
 unfoldable pub validate_document : List ℕ → List ℕ → List Entry

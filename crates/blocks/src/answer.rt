@@ -44,8 +44,8 @@ impl CheckError {
     }
 }
 
-// Document 01's number of the answer; 0 where the sheet is accepted. A function and no `From`: the type is the
-// library's, and the number alone is not the answer.
+// Document 01's number of the answer; 0 where the sheet is accepted. This is a function and no `From`: the type, a
+// `Result`, is the library's, and the number alone is not the whole answer.
 pub fn answer_number(checked: Result<usize, CheckError>) -> u32
     ensures { result ≡ (checked_answer checked).number }
 {

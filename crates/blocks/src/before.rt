@@ -43,8 +43,8 @@ pub(crate) fn validate_taken_block(report: &mut Report, before: Option<Before>, 
     report.list_if(taken, Rule::IndentedCodeTaken, r.span);
 }
 
-// The block before the next one. Blank lines do not count. A `Before` is made of a record here alone, so it has no
-// `From<Rec>`.
+// The block before the next one. Blank lines do not count. Only this function makes a `Before` of a record, so there is
+// no `From<Rec>`.
 #[tactic(auto, unfolding(crate::specs::Before::before_next))]
 pub(crate) fn before_next(before: Option<Before>, r: Rec) -> Option<Before>
     ensures { unwrap_or result no_block ≡ before_next (unwrap_or before no_block) r.kind r.a r.b }

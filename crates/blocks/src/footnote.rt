@@ -17,8 +17,8 @@ fn blank_line_at(records: &Records, report: &mut Report)
 {
     let level = report.level;
     let mut records = *records;
-    // the index that goes into the path, counted by hand: to ask what stands behind a tree, `roots` would be enumerated
-    // and looked ahead in, which is no plainer
+    // the index that goes into the path, counted by hand: with `roots` the loop would have to enumerate and to look
+    // ahead, to know whether a tree stands behind, which is no plainer
     let mut k: u32 = 0;
     while let Some(r) = records.next_under(level) {
         records.skip(r.level);

@@ -9,8 +9,8 @@ use leaves::sheet::records::Rec;
 use leaves::sheet::texts::text_of;
 use leaves::text::fence::{FrontmatterKind, holds_fence_line};
 
-// Every A but 1 is YAML: nothing can fail, so this is no TryFrom; and of other records A is no such kind, so it is no
-// `From<u32>`.
+// Every A but 1 is YAML, so this cannot fail and is no `TryFrom`. It is no `From<u32>` either: in other records A means
+// something else.
 #[tactic(auto, unfolding(crate::specs::Frontmatter::frontmatter_kind))]
 fn frontmatter_kind(a: u32) -> FrontmatterKind
     ensures { result ≡ frontmatter_kind a }

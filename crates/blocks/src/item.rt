@@ -46,7 +46,8 @@ pub(crate) fn validate_item_blank_lines(
 {
     let level = report.level;
     let mut records = *records;
-    // the index that goes into the path; the loop asks what stands behind each tree, which `roots` does not tell
+    // the index that goes into the path, counted by hand: the loop asks what stands behind each tree, which `roots`
+    // does not tell
     let mut k: u32 = 0;
     while let Some(r) = records.next_under(level) {
         records.skip(r.level);

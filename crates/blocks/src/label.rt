@@ -21,7 +21,7 @@ fn label_end(records: &Records, level: u32) -> usize
     ensures { result ≡ records.now.next + size (before_blocks (trees records.now level)) }
 {
     let mut records = *records;
-    // no `roots`: it tells of trees, and not where the last of them ends
+    // not by `roots`, which gives the trees, but not the record where the last of them ends
     let mut end = records.next;
     while let Some(r) = records.next_under(level) {
         if kinds::is_block(r.kind) {

@@ -20,7 +20,7 @@ fn count_full(records: &Records, level: u32) -> usize
         .count()
 }
 
-// Whether there is one item alone, and it holds at most one block beside blank lines.
+// Whether there is exactly one item, and it holds at most one block beside blank lines.
 fn holds_one_block(records: &Records, level: u32) -> bool
     ensures { result ≡ holds_one_block (trees records.now level) }
 {

@@ -1,7 +1,7 @@
 // A table with its rows and cells.
 ghost use Rattle.leaves.specs.Sheet.Trees.{trees};
 ghost use Rattle.leaves.specs.Report.Listed.{path_of, Adds};
-ghost use Rattle.inlines.specs.Walk.{Done};
+ghost use Rattle.inlines.specs.Walk.{Walked};
 ghost use Rattle.blocks.specs.Table.{validate_cell, validate_cells, validate_rows, validate_table};
 
 use inlines::depth;
@@ -13,7 +13,7 @@ use leaves::sheet::trees::Records;
 
 // A cell's inlines, then rule 21, then 20.
 fn validate_cell(records: &mut Records, report: &mut Report)
-    ensures { Done records.old records.new report.old.level report.old report.new
+    ensures { Walked records.old records.new report.old.level report.old report.new
         (validate_cell records.old.bytes.now (path_of report.old)
         (trees records.old report.old.level)) }
 {
@@ -27,7 +27,7 @@ fn validate_cell(records: &mut Records, report: &mut Report)
 
 // The cells of a row.
 fn validate_cells(records: &mut Records, report: &mut Report)
-    ensures { Done records.old records.new report.old.level report.old report.new
+    ensures { Walked records.old records.new report.old.level report.old report.new
         (validate_cells records.old.bytes.now (path_of report.old) 0
         (trees records.old report.old.level)) }
 {
@@ -44,7 +44,7 @@ fn validate_cells(records: &mut Records, report: &mut Report)
 
 // The rows of a table whose header has `width` cells: for each rule 19, then its cells.
 fn validate_rows(records: &mut Records, report: &mut Report, width: usize)
-    ensures { Done records.old records.new report.old.level report.old report.new
+    ensures { Walked records.old records.new report.old.level report.old report.new
         (validate_rows records.old.bytes.now (path_of report.old) width 0
         (trees records.old report.old.level)) }
 {
@@ -53,7 +53,7 @@ fn validate_rows(records: &mut Records, report: &mut Report, width: usize)
     let mut k: u32 = 0;
     while let Some(row) = records.next_under(level) {
         report.enter(k, row.level);
-        let other = records.count(row.level) != width;
+        let other = records.count_trees(row.level) != width;
         report.list_if(other, Rule::RowWidth, row.span);
         validate_cells(records, report);
         report.leave(level);
@@ -71,7 +71,7 @@ pub(crate) fn validate_table(records: &Records, report: &mut Report, r: Rec)
         report.list_if(true, Rule::TableWithoutRow, r.span);
         return;
     };
-    let width = header.kids.count(header.root.level);
+    let width = header.kids.count_trees(header.root.level);
     report.list_if(width == 0, Rule::TableWithoutCell, r.span);
     report.list_if(r.a as usize != width, Rule::AlignmentCount, r.span);
     let mut rows = *records;

@@ -1,10 +1,10 @@
 // The walk of blocks. Document 01: "Blocks hold items, items hold blocks, and levels left fall at each call."
 ghost use Rattle.std.specs.Prelude.{◌≤◌};
 ghost use Rattle.leaves.specs.Sheet.Trees.{trees};
-ghost use Rattle.leaves.specs.Report.Entries.{Lists, start};
+ghost use Rattle.leaves.specs.Report.Entries.{WritesEntries, empty_tally};
 ghost use Rattle.leaves.specs.Report.Listed.{path_of};
 ghost use Rattle.leaves.specs.Refusal.Formed.{Sound};
-ghost use Rattle.inlines.specs.Walk.{Done};
+ghost use Rattle.inlines.specs.Walk.{Walked};
 ghost use Rattle.blocks.specs.Before.{no_block};
 ghost use Rattle.blocks.specs.Walk.{validate_block, validate_blocks, validate_list_items, validate_item};
 ghost use Rattle.blocks.specs.Walk.{validate_document};
@@ -21,7 +21,7 @@ use leaves::sheet::records::Rec;
 use leaves::sheet::trees::Records;
 
 // The block walk (`validate_blocks`, `validate_block`), the list walk (`validate_list_items`) and the item walk
-// (`validate_item`) call each other. They end because the levels left below 64 (`levels_left`) fall:
+// (`validate_item`) call each other. They end because the number of levels left below 64 (`levels_left`) falls:
 // - A loop over children (`validate_blocks`, `validate_list_items`) enters each child, which is deeper, and calls
 //   `validate_block` or `validate_item` for it.
 // - A record (`validate_block`, `validate_item`) calls the loop over its children at its own level: nothing is deeper
@@ -32,7 +32,7 @@ use leaves::sheet::trees::Records;
 // label's inlines) are passed over, and have no index.
 #[cycle(walk)]
 fn validate_blocks(records: &mut Records, report: &mut Report)
-    ensures { Done records.old records.new report.old.level report.old report.new
+    ensures { Walked records.old records.new report.old.level report.old report.new
         (validate_blocks records.old.bytes.now (path_of report.old) 0 no_block
         (trees records.old report.old.level)) }
 {
@@ -57,7 +57,7 @@ fn validate_blocks(records: &mut Records, report: &mut Report)
 // The block `r`, at which the report stands and whose children are next: its own rules, then its items or blocks.
 #[cycle(walk)]
 fn validate_block(records: &mut Records, report: &mut Report, r: Rec)
-    ensures { Done records.old records.new report.old.level report.old report.new
+    ensures { Walked records.old records.new report.old.level report.old report.new
         (validate_block records.old.bytes.now (path_of report.old) r
         (trees records.old report.old.level)
         (validate_list_items records.old.bytes.now (path_of report.old) 0 r.a r.c
@@ -80,7 +80,7 @@ fn validate_block(records: &mut Records, report: &mut Report, r: Rec)
 // The items of the list `list`, at which the report stands. It is ordered where its A is 1, and tight where its C is 1.
 #[cycle(walk)]
 fn validate_list_items(records: &mut Records, report: &mut Report, list: Rec)
-    ensures { Done records.old records.new report.old.level report.old report.new
+    ensures { Walked records.old records.new report.old.level report.old report.new
         (validate_list_items records.old.bytes.now (path_of report.old) 0 list.a list.c
         (trees records.old report.old.level)) }
 {
@@ -99,7 +99,7 @@ fn validate_list_items(records: &mut Records, report: &mut Report, list: Rec)
 #[cycle(walk)]
 fn validate_item(records: &mut Records, report: &mut Report, outer: u32, list: Rec, r: Rec)
     requires { outer ≤ report.old.level }
-    ensures { Done records.old records.new report.old.level report.old report.new
+    ensures { Walked records.old records.new report.old.level report.old report.new
         (validate_item (path_of report.old) list.a list.c
         (is_last records.old report.old.level outer) r
         (trees records.old report.old.level)
@@ -115,7 +115,7 @@ fn validate_item(records: &mut Records, report: &mut Report, outer: u32, list: R
 // The whole list of an accepted sheet.
 pub(crate) fn validate_document(sheet: &[u32], bytes: &[u8], report: &mut [u32]) -> Tally
     requires { Sound sheet.now bytes.now }
-    ensures { Lists start result report.old report.new
+    ensures { WritesEntries empty_tally result report.old report.new
         (validate_document sheet.now bytes.now) }
 {
     let mut records = Records::of_sheet(sheet, bytes);

@@ -3,7 +3,7 @@ use mathlib.Core.Path.{◌≡◌, refl}
 use mathlib.Core.Bool.{Bool}
 use mathlib.Core.List.{List, []}
 use Prim.Native.Nat.{ℕ, ◌+◌}
-use Rattle.leaves.specs.Sheet.Forest.{Forest, none, tree, size}
+use Rattle.leaves.specs.Sheet.Forest.{Forest, no_tree, tree, size}
 use Rattle.leaves.specs.Sheet.Trees.{trees, Moved, ReadsNext}
 use Rattle.leaves.specs.Report.Entries.{Entry, list_if, ◌⊕◌}
 use Rattle.leaves.specs.Report.Rules
@@ -18,7 +18,7 @@ use Rattle.inlines.specs.Values.{is_bad_attribute}
 use Rattle.inlines.specs.Attribute.{validate_directive_attributes}
 use Rattle.inlines.proofs.WalkLaws.{Loop, loop-turn, loop-path, loop-bytes}
 
-pub attributes-none : (bytes path : List ℕ) → validate_directive_attributes bytes path none ≡ []
+pub attributes-none : (bytes path : List ℕ) → validate_directive_attributes bytes path no_tree ≡ []
 unfolding validate_directive_attributes
 attributes-none bytes path = refl
 

@@ -8,10 +8,10 @@ use native.Mathlib.Omega.{arith}
 use borrow.Author.Tests.{eqb-true}
 use lib.Dec.{eqb}
 use lib.ListN.{length}
-use Rattle.leaves.specs.Text.Lists.{when◌then◌else◌}
+use Rattle.std.specs.Prelude.{if◌then◌else◌}
 use Rattle.leaves.specs.Sheet.Kinds.{is_inline, html_tag, attribute, text, escape, emphasis, strong, delete, mark, code, link, autolink, image, link_reference, image_reference, html, soft_break, line_break, math, footnote_reference, inline_footnote, wiki_link, text_directive}
 use Rattle.leaves.specs.Sheet.Classes.{is_break, is_link, is_emphasis_container, names_own_value, names_label}
-use Rattle.leaves.specs.Sheet.Forest.{Forest, none, tree, size}
+use Rattle.leaves.specs.Sheet.Forest.{Forest, no_tree, tree, size, records_in}
 use Rattle.leaves.specs.Report.Entries.{Entry, list_if, ◌⊕◌}
 use Rattle.leaves.specs.Report.Rules
 use Rattle.leaves.specs.declared.sheet.records.Rec.{Rec}
@@ -29,30 +29,31 @@ use Rattle.inlines.specs.Content.{no_inline, all_empty, starts_with_whitespace, 
 use Rattle.inlines.proofs.ContentLaws.{final_break-none, final_break-tree}
 use Rattle.inlines.specs.Node.{validate_text_directive, validate_emphasis_container, validate_inline}
 use Rattle.inlines.specs.Nodes.{validate_node, validate_inline_nodes_after, validate_inline_nodes, validate_inlines}
+use Rattle.inlines.proofs.DepthLaws.{each-tree}
 
 -- ---- what is charged to one record
 
 -- of the entries of `validate_inline` those with the inline's own span: all but those of its children (30, 42, 55)
 unfoldable pub own_entries : List ℕ → List ℕ → Rec → Forest → List Entry
 own_entries bytes path r kids =
-    when is_emphasis_container r.kind
+    if is_emphasis_container r.kind
     then (list_if (all_empty kids) Rules.empty_emphasis r.span path
     ⊕ list_if (not (all_empty kids) && (starts_with_whitespace bytes kids || ends_with_whitespace bytes kids)) Rules.white_emphasis r.span path
     ⊕ list_if (holds_joined r.kind r.a kids) Rules.joined_emphasis r.span path)
-    else when eqb r.kind link
+    else if eqb r.kind link
     then validate_destination path r.span r.a r.first
-    else when eqb r.kind link_reference
+    else if eqb r.kind link_reference
     then validate_identifier path Rules.empty_link_reference r.span r.first
-    else when eqb r.kind text_directive
+    else if eqb r.kind text_directive
     then validate_directive_name bytes path r.span r.first
-    else when eqb r.kind inline_footnote
+    else if eqb r.kind inline_footnote
     then list_if (no_inline kids) Rules.empty_inline_footnote r.span path
     else validate_inline_values bytes path r
 
 -- as one of the inlines side by side, behind an inline of the kind `before`: 37, 38 and its own
 unfoldable pub node_entries : List ℕ → List ℕ → ℕ → Rec → Forest → List Entry
 node_entries bytes path before r kids =
-    when is_inline r.kind then validate_siblings path r.span before r.kind r.a ⊕ own_entries bytes path r kids else []
+    if is_inline r.kind then validate_siblings path r.span before r.kind r.a ⊕ own_entries bytes path r kids else []
 
 -- as the last of them: `break_entries` of `Content` (30)
 
@@ -83,7 +84,7 @@ charged bytes path rule before r kids =
 
 -- a number for each tree of those side by side
 unfoldable pub sum_roots : (Rec → ℕ) → Forest → ℕ
-sum_roots each none = 0
+sum_roots each no_tree = 0
 sum_roots each (tree r kids rest) = each r + sum_roots each rest
 
 -- ---- what a forest of inlines lists at most, whatever is asked of it: `extra` is what another walk charges to its trees
@@ -97,14 +98,14 @@ spent bytes path rule extra before f =
     + length (validate_cell_values bytes path f)
     + sum_roots extra f
 
-either-length : (b : Bool) (x y : List Entry) → length (when b then x else y) ≤ length x + length y
+either-length : (b : Bool) (x y : List Entry) → length (if b then x else y) ≤ length x + length y
 either-length true x y = omega arith
 either-length false x y = omega arith
 
 -- at most one of the trees side by side is the last
 pub final-few : (path : List ℕ) (f : Forest) → length (final_break path f) ≤ sum_roots (λ r. length (break_entries path r)) f
 unfolding sum_roots
-final-few path none = rw (final_break-none path) (omega arith)
+final-few path no_tree = rw (final_break-none path) (omega arith)
 final-few path (tree r kids rest) = rw (final_break-tree r kids rest path) (omega (arith, final-few path rest, either-length (is_inline r.kind && no_inline rest) (break_entries path r) (final_break path rest)))
 
 -- ---- one inline: what it lists of its children is charged to them
@@ -123,7 +124,7 @@ module _ (bytes path : List ℕ) (r : Rec) (kids : Forest) where
 
   -- the links under it, where it is a link itself
   abbrev held_links : ℕ
-  held_links = when is_link r.kind then length (validate_link_text path kids) else 0
+  held_links = if is_link r.kind then length (validate_link_text path kids) else 0
 
   held : is_link r.kind ≡ true → length (validate_link_text path kids) ≤ held_links
   held e = rw e (le_refl _)
@@ -156,7 +157,7 @@ module _ (bytes path : List ℕ) (r : Rec) (kids : Forest) where
 
 -- ---- the trees of a forest, one after the other
 module _ (bytes path : List ℕ) (rule : ℕ) (extra : Rec → ℕ) where
-  nodes-step : (before : ℕ) (r : Rec) (kids rest : Forest) → length (validate_inline_nodes_after bytes path before (tree r kids rest)) ≡ length (validate_node bytes path before r kids (validate_inline_nodes_after bytes path 0 kids)) + length (validate_inline_nodes_after bytes path (when is_inline r.kind then r.kind else before) rest)
+  nodes-step : (before : ℕ) (r : Rec) (kids rest : Forest) → length (validate_inline_nodes_after bytes path before (tree r kids rest)) ≡ length (validate_node bytes path before r kids (validate_inline_nodes_after bytes path 0 kids)) + length (validate_inline_nodes_after bytes path (if is_inline r.kind then r.kind else before) rest)
   unfolding validate_inline_nodes_after
   nodes-step before r kids rest = length-join _ _
 
@@ -165,12 +166,12 @@ module _ (bytes path : List ℕ) (rule : ℕ) (extra : Rec → ℕ) where
   attributes-step r kids rest = length-join _ _
 
   line_step : (r : Rec) (kids rest : Forest) → length (validate_one_line rule path (tree r kids rest)) ≡ length (line_entries rule path r) + length (validate_one_line rule path kids) + length (validate_one_line rule path rest)
-  unfolding validate_one_line each_record line_entries
-  line_step r kids rest = simp length-join (omega arith)
+  unfolding validate_one_line line_entries
+  line_step r kids rest = rw (each-tree _ r kids rest) (simp length-join (omega arith))
 
   cell-step : (r : Rec) (kids rest : Forest) → length (validate_cell_values bytes path (tree r kids rest)) ≡ length (cell_entries bytes path r) + length (validate_cell_values bytes path kids) + length (validate_cell_values bytes path rest)
-  unfolding validate_cell_values each_record cell_entries
-  cell-step r kids rest = simp length-join (omega arith)
+  unfolding validate_cell_values cell_entries
+  cell-step r kids rest = rw (each-tree _ r kids rest) (simp length-join (omega arith))
 
   roots-step : (each : Rec → ℕ) (r : Rec) (kids rest : Forest) → sum_roots each (tree r kids rest) ≡ each r + sum_roots each rest
   unfolding sum_roots
@@ -180,11 +181,11 @@ module _ (bytes path : List ℕ) (rule : ℕ) (extra : Rec → ℕ) where
   unfolding charged
   charged-is before r kids = simp length-join (omega arith)
 
-  pub spent-none : (before : ℕ) → spent bytes path rule extra before none ≡ 0
-  unfolding spent validate_inline_nodes_after sum_roots validate_directive_attributes validate_link_text validate_one_line validate_cell_values each_record
+  pub spent-none : (before : ℕ) → spent bytes path rule extra before no_tree ≡ 0
+  unfolding spent validate_inline_nodes_after sum_roots validate_directive_attributes validate_link_text validate_one_line validate_cell_values each_record records_in
   spent-none before = refl
 
-  pub spent-step : (before : ℕ) (r : Rec) (kids rest : Forest) → spent bytes path rule extra before (tree r kids rest) ≤ length (charged bytes path rule before r kids) + extra r + spent bytes path rule extra 0 kids + spent bytes path rule extra (when is_inline r.kind then r.kind else before) rest
+  pub spent-step : (before : ℕ) (r : Rec) (kids rest : Forest) → spent bytes path rule extra before (tree r kids rest) ≤ length (charged bytes path rule before r kids) + extra r + spent bytes path rule extra 0 kids + spent bytes path rule extra (if is_inline r.kind then r.kind else before) rest
   unfolding spent
   spent-step before r kids rest =
       omega (
@@ -209,9 +210,9 @@ EachInline bytes extra most = (path : List ℕ) (rule before : ℕ) (r : Rec) (k
 module _ (bytes : List ℕ) (extra : Rec → ℕ) (most : ℕ) (one : EachInline bytes extra most) (path : List ℕ) (rule : ℕ) where
   pub spent-most : (before : ℕ) (f : Forest) → spent bytes path rule extra before f ≤ most * size f
   unfolding size
-  spent-most before none = omega (arith, spent-none bytes path rule extra before)
+  spent-most before no_tree = omega (arith, spent-none bytes path rule extra before)
   spent-most before (tree r kids rest) =
-      omega (arith, spent-step bytes path rule extra before r kids rest, one path rule before r kids, spent-most 0 kids, spent-most (when is_inline r.kind then r.kind else before) rest)
+      omega (arith, spent-step bytes path rule extra before r kids rest, one path rule before r kids, spent-most 0 kids, spent-most (if is_inline r.kind then r.kind else before) rest)
 
 -- the lists that are asked for of one forest
 pub inlines-spent : (bytes path : List ℕ) (rule : ℕ) (extra : Rec → ℕ) (f : Forest) → length (validate_inlines bytes path f) + length (validate_directive_attributes bytes path f) + length (validate_one_line rule path f) + length (validate_cell_values bytes path f) + sum_roots extra f ≤ spent bytes path rule extra 0 f
@@ -223,31 +224,31 @@ inlines-spent bytes path rule extra f = simp length-join (omega (arith, final-fe
 -- an inline's own entries
 unfoldable own_most : ℕ → ℕ
 own_most k =
-    when is_emphasis_container k
+    if is_emphasis_container k
     then 2
-    else when eqb k link
+    else if eqb k link
     then 1
-    else when eqb k link_reference
+    else if eqb k link_reference
     then 1
-    else when eqb k text_directive
+    else if eqb k text_directive
     then 1
-    else when eqb k inline_footnote
+    else if eqb k inline_footnote
     then 1
-    else when eqb k text
+    else if eqb k text
     then 1
-    else when eqb k image
+    else if eqb k image
     then 1
-    else when eqb k image_reference
+    else if eqb k image_reference
     then 1
-    else when eqb k escape
+    else if eqb k escape
     then 1
-    else when eqb k footnote_reference
+    else if eqb k footnote_reference
     then 1
-    else when eqb k wiki_link
+    else if eqb k wiki_link
     then 1
-    else when eqb k code
+    else if eqb k code
     then 2
-    else when eqb k math
+    else if eqb k math
     then 2
     else 0
 
@@ -264,7 +265,7 @@ one_entry b rule span path = record { few = few-if b rule span path }
 pub few-then : {x y : List Entry} {m n : ℕ} → Few x m → Few y n → Few (x ⊕ y) (m + n)
 few-then p q = record { few = simp length-join (omega arith) }
 
-pub few-either : (b : Bool) {x y : List Entry} {m n : ℕ} → Few x m → Few y n → Few (when b then x else y) (when b then m else n)
+pub few-either : (b : Bool) {x y : List Entry} {m n : ℕ} → Few x m → Few y n → Few (if b then x else y) (if b then m else n)
 few-either true p q = p
 few-either false p q = q
 
@@ -304,7 +305,7 @@ own-most bytes path r kids =
 
 -- as one of the inlines side by side: 37 is of a break, and 38 of a strikethrough
 unfoldable siblings_most : ℕ → ℕ
-siblings_most k = when is_break k then 1 else when eqb k delete then 1 else 0
+siblings_most k = if is_break k then 1 else if eqb k delete then 1 else 0
 
 siblings-most : (path : List ℕ) (span : Span) (before k a : ℕ) → Few (validate_siblings path span before k a) (siblings_most k)
 unfolding validate_siblings siblings_most
@@ -315,7 +316,7 @@ siblings-most path span before k a =
     (λ f. kind-cases Most k delete (one_of_two _ _ _ _ _ _ _ (λ e. absurd (false≢true (sym (and-false (is_break before)) ∙ e))))
     (λ g. record { few = rw (e, f, g) (simp (and-false, length-join, length-if) (omega arith)) })))
 
-few-where : (b : Bool) {x : List Entry} {n : ℕ} → Few x n → Few (when b then x else []) n
+few-where : (b : Bool) {x : List Entry} {n : ℕ} → Few x n → Few (if b then x else []) n
 few-where true p = p
 few-where false p = record { few = omega arith }
 
@@ -324,10 +325,10 @@ unfolding node_entries
 node-most bytes path before r kids = few-where (is_inline r.kind) (few-then (siblings-most path r.span before r.kind r.a) (own-most bytes path r kids))
 
 -- as any other
-pub test-entry : (b : Bool) (rule : ℕ) (span : Span) (path : List ℕ) → Few (list_if b rule span path) (when b then 1 else 0)
+pub test-entry : (b : Bool) (rule : ℕ) (span : Span) (path : List ℕ) → Few (list_if b rule span path) (if b then 1 else 0)
 test-entry b rule span path = record { few = rw length-if (le_refl _) }
 
-pub both_entry : (b c : Bool) (rule : ℕ) (span : Span) (path : List ℕ) → Few (list_if (b && c) rule span path) (when b then 1 else 0)
+pub both_entry : (b c : Bool) (rule : ℕ) (span : Span) (path : List ℕ) → Few (list_if (b && c) rule span path) (if b then 1 else 0)
 both_entry true c rule span path = one_entry c rule span path
 both_entry false c rule span path = test-entry false rule span path
 
@@ -335,14 +336,14 @@ both_entry false c rule span path = test-entry false rule span path
 unfoldable in_cell : ℕ → Bool
 in_cell k = names_own_value k || names_label k || eqb k wiki_link
 
-cell-entry : (own label wiki b c : Bool) (rule : ℕ) (span : Span) (path : List ℕ) → Few (list_if ((own || wiki) && b || (label || wiki) && c) rule span path) (when own || label || wiki then 1 else 0)
+cell-entry : (own label wiki b c : Bool) (rule : ℕ) (span : Span) (path : List ℕ) → Few (list_if ((own || wiki) && b || (label || wiki) && c) rule span path) (if own || label || wiki then 1 else 0)
 cell-entry true label wiki b c rule span path = one_entry _ rule span path
 cell-entry false true wiki b c rule span path = one_entry _ rule span path
 cell-entry false false true b c rule span path = one_entry _ rule span path
 cell-entry false false false b c rule span path = test-entry false rule span path
 
 abbrev pub bit : Bool → ℕ
-bit b = when b then 1 else 0
+bit b = if b then 1 else 0
 
 unfoldable charged_most : ℕ → ℕ
 charged_most k = siblings_most k + own_most k + (bit (eqb k line_break) + (bit (eqb k attribute) + (bit (is_link k) + (bit (is_break k) + bit (in_cell k)))))
@@ -363,7 +364,7 @@ entries_of_inline = 3
 
 -- what a container may list of one of its tags
 abbrev pub tag_most : ℕ → ℕ
-tag_most k = when eqb k html_tag then 2 else 0
+tag_most k = if eqb k html_tag then 2 else 0
 
 kind-most : (k : ℕ) → charged_most k + tag_most k ≤ entries_of_inline
 unfolding charged_most siblings_most own_most in_cell

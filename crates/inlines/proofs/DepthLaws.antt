@@ -1,10 +1,11 @@
 -- Loops over every record of the trees deeper than a level.
 use mathlib.Core.Path.{◌≡◌, refl, sym, ap, ◌∙◌}
 use mathlib.Core.Bool.{Bool}
-use mathlib.Core.List.{List, []}
+use mathlib.Core.List.{List, [], ◌∷◌, ◌++◌, append_assoc}
 use Prim.Native.Nat.{ℕ, ◌+◌, ◌<◌}
 use Rattle.leaves.specs.Sheet.Records.{record_at}
-use Rattle.leaves.specs.Sheet.Forest.{Forest, none, tree, under}
+use Rattle.std.specs.List.{flat_map}
+use Rattle.leaves.specs.Sheet.Forest.{Forest, no_tree, tree, under, records_in}
 use Rattle.leaves.specs.Sheet.Trees.{trees, ReadsNext}
 use Rattle.leaves.specs.Report.Entries.{Entry, list_if, ◌⊕◌}
 use Rattle.leaves.specs.declared.sheet.records.Rec.{Rec}
@@ -16,19 +17,26 @@ use Rattle.inlines.specs.Depth.{each_record}
 use Rattle.leaves.specs.Report.Listed.{path_of, Adds}
 use Rattle.leaves.specs.declared.report.entries.Report.{Report}
 
-pub each_none : (entries : Rec → List Entry) → each_record entries none ≡ []
-unfolding each_record
+pub each_none : (entries : Rec → List Entry) → each_record entries no_tree ≡ []
+unfolding each_record records_in
 each_none entries = refl
 
-each-tree : (entries : Rec → List Entry) (r : Rec) (kids rest : Forest) → each_record entries (tree r kids rest) ≡ (entries r ⊕ each_record entries kids) ⊕ each_record entries rest
-unfolding each_record
-each-tree entries r kids rest = sym (join-assoc (entries r) (each_record entries kids) (each_record entries rest))
+flat-append : (entries : Rec → List Entry) (rs qs : List Rec) → flat_map entries (rs ++ qs) ≡ flat_map entries rs ++ flat_map entries qs
+flat-append entries [] qs = refl
+flat-append entries (r ∷ rs) qs = ap (λ es. entries r ++ es) (flat-append entries rs qs) ∙ sym (append_assoc (entries r) (flat_map entries rs) (flat_map entries qs))
+
+pub each-tree : (entries : Rec → List Entry) (r : Rec) (kids rest : Forest) → each_record entries (tree r kids rest) ≡ (entries r ⊕ (each_record entries kids ⊕ each_record entries rest))
+unfolding each_record records_in ◌⊕◌
+each-tree entries r kids rest = ap (λ es. entries r ++ es) (flat-append entries (records_in kids) (records_in rest))
+
+of-tree : (entries : Rec → List Entry) (r : Rec) (kids rest : Forest) → each_record entries (tree r kids rest) ≡ (entries r ⊕ each_record entries kids) ⊕ each_record entries rest
+of-tree entries r kids rest = each-tree entries r kids rest ∙ sym (join-assoc (entries r) (each_record entries kids) (each_record entries rest))
 
 each_step : (entries : Rec → List Entry) (w : List ℕ) (n i l : ℕ) → i < n → l < (record_at w i).level → each_record entries (under w n i l) ≡ entries (record_at w i) ⊕ each_record entries (under w n (i + 1) l)
 each_step entries w n i l b d =
-    spine-tree (each_record entries) (λ r kids. entries r ⊕ each_record entries kids) (each_none entries) (each-tree entries) w n i l b d
+    spine-tree (each_record entries) (λ r kids. entries r ⊕ each_record entries kids) (each_none entries) (of-tree entries) w n i l b d
     ∙ join-assoc (entries (record_at w i)) _ _
-    ∙ ap (λ es. entries (record_at w i) ⊕ es) (sym (spine-kids (each_record entries) (λ r kids. entries r ⊕ each_record entries kids) (each_none entries) (each-tree entries) w n i l b d))
+    ∙ ap (λ es. entries (record_at w i) ⊕ es) (sym (spine-kids (each_record entries) (λ r kids. entries r ⊕ each_record entries kids) (each_none entries) (of-tree entries) w n i l b d))
 
 -- a record is read, and the records behind it are those that are left
 each-read : (entries : Rec → List Entry) {y z : Records} {level : ℕ} {r : Rec} → ReadsNext y z level r → each_record entries (trees y level) ≡ entries r ⊕ each_record entries (trees z level)

@@ -4,8 +4,8 @@ use mathlib.Core.Bool.{Bool, true, false}
 use mathlib.Core.List.{List, []}
 use Prim.Native.Nat.{ℕ, ◌+◌}
 use native.Mathlib.Nat.{add-zero}
-use Rattle.leaves.specs.Text.Lists.{when◌then◌else◌}
-use Rattle.leaves.specs.Sheet.Forest.{Forest, none, tree, size}
+use Rattle.std.specs.Prelude.{if◌then◌else◌}
+use Rattle.leaves.specs.Sheet.Forest.{Forest, no_tree, tree, size}
 use Rattle.leaves.specs.Sheet.Trees.{trees, Moved, ReadsNext}
 use Rattle.leaves.specs.Sheet.Classes.{is_link}
 use Rattle.leaves.specs.Report.Entries.{Entry, list_if, ◌⊕◌}
@@ -20,12 +20,12 @@ use Rattle.inlines.specs.Link.{validate_link_text}
 use Rattle.leaves.specs.Report.Listed.{path_of, Adds}
 use Rattle.leaves.specs.declared.report.entries.Report.{Report}
 
-pub links-none : (path : List ℕ) → validate_link_text path none ≡ []
+pub links-none : (path : List ℕ) → validate_link_text path no_tree ≡ []
 unfolding validate_link_text
 links-none path = refl
 
 abbrev links_of : List ℕ → Rec → Forest → List Entry
-links_of path r kids = when is_link r.kind then list_if true Rules.link_in_link r.span path else validate_link_text path kids
+links_of path r kids = if is_link r.kind then list_if true Rules.link_in_link r.span path else validate_link_text path kids
 
 links-tree : (path : List ℕ) (r : Rec) (kids rest : Forest) → validate_link_text path (tree r kids rest) ≡ links_of path r kids ⊕ validate_link_text path rest
 unfolding validate_link_text
@@ -37,7 +37,7 @@ none-listed span path es = none-join es
 
 -- where the loop goes on: behind all that a link holds, else at the next record
 abbrev Past : Records → Records → ℕ → Bool → Type 0
-Past z u level found = Moved z u (z.next + (when found then size (trees z level) else 0))
+Past z u level found = Moved z u (z.next + (if found then size (trees z level) else 0))
 
 module _ (path : List ℕ) {y z u : Records} {level : ℕ} {r : Rec} (reads : ReadsNext y z level r) where
   links-step : (t : Bool) → is_link r.kind ≡ t → Past z u r.level t → validate_link_text path (trees y level) ≡ list_if t Rules.link_in_link r.span path ⊕ validate_link_text path (trees u level)

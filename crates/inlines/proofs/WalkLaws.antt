@@ -11,7 +11,7 @@ use lib.ListN.{length}
 use Rattle.leaves.specs.Refusal.Limits.{most_records, most_level}
 use Rattle.leaves.specs.Refusal.Formed.{Sound}
 use Rattle.leaves.specs.Sheet.Records.{record_at, records_of, record_words}
-use Rattle.leaves.specs.Sheet.Forest.{Forest, none, tree, deeper, past, forest_at, under, size}
+use Rattle.leaves.specs.Sheet.Forest.{Forest, no_tree, tree, deeper, after_deeper, forest_at, under, size}
 use Rattle.leaves.specs.Sheet.Trees.{trees, ReadsNext, Ends}
 use Rattle.leaves.specs.Report.Entries.{Entry, ◌⊕◌}
 use Rattle.leaves.specs.Report.Listed.{path_of, Adds}
@@ -22,20 +22,20 @@ use Rattle.leaves.proofs.sheet.ForestLaws.{past-in, past-out, deeper-in, deeper-
 use Rattle.leaves.proofs.sheet.TreesLaws.{Passing, passing-start, passing-end, reads-deep, reads-kids, trees-moved}
 use Rattle.leaves.proofs.report.EntryLaws.{join-assoc, join-none, none-join}
 use Rattle.leaves.proofs.report.ListedLaws.{adds-none, adds-then}
-use Rattle.inlines.specs.Walk.{Done}
+use Rattle.inlines.specs.Walk.{Walked}
 
 -- ---- a list that goes from tree to tree
-module _ (h : Forest → List Entry) (g : Rec → Forest → List Entry) (at_none : h none ≡ []) (at-tree : (r : Rec) (kids rest : Forest) → h (tree r kids rest) ≡ g r kids ⊕ h rest) where
+module _ (h : Forest → List Entry) (g : Rec → Forest → List Entry) (at_none : h no_tree ≡ []) (at-tree : (r : Rec) (kids rest : Forest) → h (tree r kids rest) ≡ g r kids ⊕ h rest) where
   -- the trees deeper than l are those deeper than m, and then the rest of them
-  spine-split : (l m : ℕ) → l ≤ m → (f : Forest) → h (deeper l f) ≡ h (deeper m f) ⊕ h (deeper l (past m f))
-  unfolding past deeper
-  spine-split l m b none = rw at_none (sym (none-join []))
+  spine-split : (l m : ℕ) → l ≤ m → (f : Forest) → h (deeper l f) ≡ h (deeper m f) ⊕ h (deeper l (after_deeper m f))
+  unfolding after_deeper deeper
+  spine-split l m b no_tree = rw at_none (sym (none-join []))
   spine-split l m b (tree r kids rest) = go (ltb m r.level) refl (spine-split l m b rest)
     where
-      go : (t : Bool) → ltb m r.level ≡ t → h (deeper l rest) ≡ h (deeper m rest) ⊕ h (deeper l (past m rest)) → h (deeper l (tree r kids rest)) ≡ h (deeper m (tree r kids rest)) ⊕ h (deeper l (past m (tree r kids rest)))
+      go : (t : Bool) → ltb m r.level ≡ t → h (deeper l rest) ≡ h (deeper m rest) ⊕ h (deeper l (after_deeper m rest)) → h (deeper l (tree r kids rest)) ≡ h (deeper m (tree r kids rest)) ⊕ h (deeper l (after_deeper m (tree r kids rest)))
       go true e ih =
           let d : m < r.level = ltb-true _ _ e in
-          rw (past-in m r kids rest d, deeper-in l r kids rest (omega arith), deeper-in m r kids rest d, at-tree r kids (deeper l rest), at-tree r kids (deeper m rest), ih) (sym (join-assoc (g r kids) (h (deeper m rest)) (h (deeper l (past m rest)))))
+          rw (past-in m r kids rest d, deeper-in l r kids rest (omega arith), deeper-in m r kids rest d, at-tree r kids (deeper l rest), at-tree r kids (deeper m rest), ih) (sym (join-assoc (g r kids) (h (deeper m rest)) (h (deeper l (after_deeper m rest)))))
       go false e ih = rw (past-out m r kids rest (ltb-false _ _ e), deeper-out m r kids rest (ltb-false _ _ e), at_none) (sym (none-join (h (deeper l (tree r kids rest)))))
 
   module _ (w : List ℕ) (n i l : ℕ) (b : i < n) (d : l < (record_at w i).level) where
@@ -88,9 +88,9 @@ module _ {level : ℕ} {x : Records} {p : Report} where
           rest = join-assoc v.before fs (g (trees u level)) ∙ ap (λ gs. v.before ⊕ gs) (sym e) ∙ v.rest;
         }
 
-    pub loop-end : {z : Records} → h none ≡ [] → Ends y z level → Done x z level p q es
+    pub loop-end : {z : Records} → h no_tree ≡ [] → Ends y z level → Walked x z level p q es
     loop-end e k =
-        let r : v.before ≡ es = sym (join-none v.before) ∙ rw (k.none, e) at v.rest in
+        let r : v.before ≡ es = sym (join-none v.before) ∙ rw (k.empty, e) at v.rest in
         record { moved = passing-end v.passing k; adds = rw r at v.adds }
 
 -- ---- the levels left. `left` levels are enough below `level`; then one less is enough below a deeper record, of the level
@@ -106,12 +106,12 @@ levels-fall enough most d = record { some = omega arith; rest = omega arith; les
 
 -- ---- what acceptance gives a walk of the first n records of a sheet from record `from` on, with a path of at most 64
 -- words: what `Records` and `Report` keep of them
-pub record Start (w path : List ℕ) (n from : ℕ) : Type 0 where
+pub record WalkStart (w path : List ℕ) (n from : ℕ) : Type 0 where
   pub whole : n * record_words ≤ length w
   pub few : n ≤ most_records
   pub shallow : (i : ℕ) → i < n → (record_at w i).level ≤ most_level
   pub inside : from ≤ n
   pub short : length path ≤ most_level
 
-pub start_of : {w bytes path : List ℕ} {n from : ℕ} → Sound w bytes → n ≡ records_of w → from ≤ n → length path ≤ 64 → Start w path n from
+pub start_of : {w bytes path : List ℕ} {n from : ℕ} → Sound w bytes → n ≡ records_of w → from ≤ n → length path ≤ 64 → WalkStart w path n from
 start_of sound e b s = rw e (record { whole = omega (arith, sound.whole); few = sound.few; shallow = sound.shallow; inside = rw e at b; short = s })

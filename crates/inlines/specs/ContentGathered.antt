@@ -1,9 +1,8 @@
 -- What the code gathers in one pass over inlines side by side. No contract of a public function cites these
 -- definitions: `ContentLaws` proves that they agree with those of `Content`.
-use Rattle.std.specs.Prelude.{Option, Some, None, ℕ, true, false, not, ◌&&◌, ◌||◌, List, [], eqb}
-use Rattle.leaves.specs.Text.Lists.{when◌then◌else◌}
+use Rattle.std.specs.Prelude.{Option, Some, None, ℕ, true, false, not, ◌&&◌, ◌||◌, List, [], eqb, if◌then◌else◌}
 use Rattle.leaves.specs.Sheet.Kinds.{is_inline, line_break}
-use Rattle.leaves.specs.Sheet.Forest.{Forest, none, tree}
+use Rattle.leaves.specs.Sheet.Forest.{Forest, no_tree, tree}
 use Rattle.leaves.specs.Report.Entries.{Entry, list_if}
 use Rattle.leaves.specs.Report.Rules
 use Rattle.leaves.specs.declared.sheet.records.Rec.{Rec}
@@ -28,20 +27,20 @@ no_content = record {
 -- changes nothing.
 unfoldable pub with_inline : List ℕ → ℕ → ℕ → Content → Rec → Content
 with_inline bytes outer a c r =
-    when is_inline r.kind
+    if is_inline r.kind
     then record {
       some = true;
       empty = c.empty && is_empty_text r;
       starts = c.starts || c.empty && not (is_empty_text r) && starts_white bytes r;
-      ends = when is_empty_text r then c.ends else ends_white bytes r;
+      ends = if is_empty_text r then c.ends else ends_white bytes r;
       joined = not c.some && is_joined outer a r.kind r.a;
-      last_break = when eqb r.kind line_break then Some r.span else None;
+      last_break = if eqb r.kind line_break then Some r.span else None;
     }
     else c
 
 -- `c` with all of the trees added
 unfoldable pub content_after : List ℕ → ℕ → ℕ → Content → Forest → Content
-content_after bytes outer a c none = c
+content_after bytes outer a c no_tree = c
 content_after bytes outer a c (tree r kids rest) = content_after bytes outer a (with_inline bytes outer a c r) rest
 
 unfoldable pub content_of : List ℕ → ℕ → ℕ → Forest → Content

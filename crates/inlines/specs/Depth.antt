@@ -1,8 +1,8 @@
 -- The functions of validate.rs that look at every record of some trees. Each definition has its function's name and
 -- gives its entries in its order. `path` is the path of the enclosing block or cell.
-use Rattle.std.specs.Prelude.{ℕ, List, []}
-use Rattle.leaves.specs.Sheet.Forest.{Forest, none, tree}
-use Rattle.leaves.specs.Report.Entries.{Entry, list_if, ◌⊕◌}
+use Rattle.std.specs.Prelude.{ℕ, List, flat_map}
+use Rattle.leaves.specs.Sheet.Forest.{Forest, records_in}
+use Rattle.leaves.specs.Report.Entries.{Entry, list_if}
 use Rattle.leaves.specs.declared.sheet.records.Rec.{Rec}
 use Rattle.leaves.specs.Report.Rules
 use Rattle.inlines.specs.Values.{is_unwritable}
@@ -10,8 +10,7 @@ use Rattle.leaves.specs.Sheet.Classes.{is_break}
 
 -- the entries of each record of the trees, in the sheet's order
 unfoldable pub each_record : (Rec → List Entry) → Forest → List Entry
-each_record entries none = []
-each_record entries (tree r kids rest) = entries r ⊕ each_record entries kids ⊕ each_record entries rest
+each_record entries f = flat_map entries (records_in f)
 
 -- `validate_cell_values`: 21
 unfoldable pub validate_cell_values : List ℕ → List ℕ → Forest → List Entry

@@ -1,8 +1,7 @@
 -- The entries that validate.rs reports for one inline, without those of its children. Each definition has its
 -- function's name and gives its entries in its order. `kids` are the trees under the inline, and `path` is the path
 -- of the enclosing block or cell.
-use Rattle.std.specs.Prelude.{ℕ, not, ◌&&◌, ◌||◌, List, eqb}
-use Rattle.leaves.specs.Text.Lists.{when◌then◌else◌}
+use Rattle.std.specs.Prelude.{ℕ, not, ◌&&◌, ◌||◌, List, eqb, if◌then◌else◌}
 use Rattle.leaves.specs.Sheet.Kinds.{link, link_reference, inline_footnote, text_directive}
 use Rattle.leaves.specs.Sheet.Forest.{Forest}
 use Rattle.leaves.specs.Report.Entries.{Entry, list_if, ◌⊕◌}
@@ -33,19 +32,19 @@ validate_emphasis_container bytes path span kind a kids =
     ⊕ list_if (holds_joined kind a kids) Rules.joined_emphasis span path
     ⊕ final_break path kids
 
--- The match of `validate_inline_nodes` on one inline, up to the walk of its children. It answers the kinds whose
--- rules look at what they hold: emphasis, strong, delete, mark, link, link reference, text directive and inline
--- footnote. `validate_inline_values` takes the rest.
+-- The match of `validate_inline_nodes` on one inline, up to the walk of its children. The kinds whose rules look at
+-- what they hold stand here: emphasis, strong, delete, mark, link, link reference, text directive and inline footnote.
+-- `validate_inline_values` takes the rest.
 unfoldable pub validate_inline : List ℕ → List ℕ → Rec → Forest → List Entry
 validate_inline bytes path r kids =
-    when is_emphasis_container r.kind
+    if is_emphasis_container r.kind
     then validate_emphasis_container bytes path r.span r.kind r.a kids
-    else when eqb r.kind link
+    else if eqb r.kind link
     then validate_destination path r.span r.a r.first ⊕ validate_link_text path kids
-    else when eqb r.kind link_reference
+    else if eqb r.kind link_reference
     then validate_identifier path Rules.empty_link_reference r.span r.first ⊕ validate_link_text path kids
-    else when eqb r.kind text_directive
+    else if eqb r.kind text_directive
     then validate_text_directive bytes path r.span r.first kids
-    else when eqb r.kind inline_footnote
+    else if eqb r.kind inline_footnote
     then list_if (no_inline kids) Rules.empty_inline_footnote r.span path
     else validate_inline_values bytes path r

@@ -2,10 +2,9 @@
 -- The inlines are trees of a forest; trees of another sort (attributes, tags, blocks) are passed over.
 -- `path` is the path of the enclosing block or cell. The definitions of `Content`, `Own` and `Node` can be used from
 -- here too.
-use Rattle.std.specs.Prelude.{ℕ, List, []}
-use Rattle.leaves.specs.Text.Lists.{when◌then◌else◌}
-use Rattle.leaves.specs.Sheet.Kinds.{is_inline}
-use Rattle.leaves.specs.Sheet.Forest.{Forest, none, tree}
+use Rattle.std.specs.Prelude.{ℕ, List, [], if◌then◌else◌}
+use Rattle.leaves.specs.Sheet.Kinds.{no_kind, is_inline}
+use Rattle.leaves.specs.Sheet.Forest.{Forest, no_tree, tree}
 use Rattle.leaves.specs.Report.Entries.{Entry, ◌⊕◌}
 use Rattle.leaves.specs.declared.sheet.records.Rec.{Rec}
 use Rattle.inlines.specs.Single.{validate_siblings}
@@ -19,20 +18,20 @@ unfoldable pub use Rattle.inlines.specs.Node.{validate_text_directive, validate_
 -- of its children. Every kind that has children walks them last.
 unfoldable pub validate_node : List ℕ → List ℕ → ℕ → Rec → Forest → List Entry → List Entry
 validate_node bytes path before r kids under =
-    when is_inline r.kind
+    if is_inline r.kind
     then validate_siblings path r.span before r.kind r.a ⊕ validate_inline bytes path r kids ⊕ under
     else []
 
--- `validate_inline_nodes`. `before` is the kind of the inline before these trees, 0 where there is none.
+-- `validate_inline_nodes`. `before` is the kind of the inline before these trees, `no_kind` where there is none.
 unfoldable pub validate_inline_nodes_after : List ℕ → List ℕ → ℕ → Forest → List Entry
-validate_inline_nodes_after bytes path before none = []
+validate_inline_nodes_after bytes path before no_tree = []
 validate_inline_nodes_after bytes path before (tree r kids rest) =
-    let under = validate_inline_nodes_after bytes path 0 kids in
+    let under = validate_inline_nodes_after bytes path no_kind kids in
     validate_node bytes path before r kids under
-    ⊕ validate_inline_nodes_after bytes path (when is_inline r.kind then r.kind else before) rest
+    ⊕ validate_inline_nodes_after bytes path (if is_inline r.kind then r.kind else before) rest
 
 unfoldable pub validate_inline_nodes : List ℕ → List ℕ → Forest → List Entry
-validate_inline_nodes bytes path f = validate_inline_nodes_after bytes path 0 f
+validate_inline_nodes bytes path f = validate_inline_nodes_after bytes path no_kind f
 
 -- `validate_inlines`: 30, then the nodes
 unfoldable pub validate_inlines : List ℕ → List ℕ → Forest → List Entry

@@ -1,7 +1,6 @@
 -- The entries that validate.rs reports for one inline by its own values, in its order.
 -- `path` is the path of the enclosing block or cell.
-use Rattle.std.specs.Prelude.{ℕ, List, [], eqb}
-use Rattle.leaves.specs.Text.Lists.{when◌then◌else◌}
+use Rattle.std.specs.Prelude.{ℕ, List, [], eqb, if◌then◌else◌}
 use Rattle.leaves.specs.Sheet.Kinds.{text, escape, code, image, image_reference, math, footnote_reference, wiki_link}
 use Rattle.leaves.specs.Report.Entries.{Entry}
 use Rattle.leaves.specs.declared.sheet.records.Rec.{Rec}
@@ -14,20 +13,20 @@ use Rattle.inlines.specs.Literal.{validate_text, validate_code_inline, validate_
 -- none.
 unfoldable pub validate_inline_values : List ℕ → List ℕ → Rec → List Entry
 validate_inline_values bytes path r =
-    when eqb r.kind text
+    if eqb r.kind text
     then validate_text bytes path r.span r.first
-    else when eqb r.kind image
+    else if eqb r.kind image
     then validate_destination path r.span r.a r.first
-    else when eqb r.kind image_reference
+    else if eqb r.kind image_reference
     then validate_identifier path Rules.empty_image_reference r.span r.first
-    else when eqb r.kind escape
+    else if eqb r.kind escape
     then validate_escape path r.span r.a
-    else when eqb r.kind footnote_reference
+    else if eqb r.kind footnote_reference
     then validate_identifier path Rules.empty_footnote_reference r.span r.first
-    else when eqb r.kind wiki_link
+    else if eqb r.kind wiki_link
     then validate_identifier path Rules.empty_wiki_link r.span r.first
-    else when eqb r.kind code
+    else if eqb r.kind code
     then validate_code_inline bytes path r.span r.first
-    else when eqb r.kind math
+    else if eqb r.kind math
     then validate_math_inline bytes path r.span r.a r.b r.first
     else []

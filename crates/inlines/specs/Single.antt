@@ -31,7 +31,7 @@ unfoldable pub validate_directive_name : List ℕ → List ℕ → Span → Text
 validate_directive_name bytes path span name =
     list_if (not (is_directive_name (text_of bytes name))) Rules.directive_name span path
 
--- `validate_siblings`: 37, 38. `before` is the kind of the inline before, 0 where there is none.
+-- `validate_siblings`: 37, 38. `before` is the kind of the inline before, `no_kind` where there is none.
 unfoldable pub validate_siblings : List ℕ → Span → ℕ → ℕ → ℕ → List Entry
 validate_siblings path span before kind a =
     list_if (is_break before && is_plain_break kind a) Rules.break_after_break span path

@@ -9,6 +9,6 @@ use Rattle.leaves.specs.declared.report.entries.Report.{Report}
 
 -- A walk over the trees that are deeper than `level` made y of the records x, and q of the report p: it has gone on
 -- behind those trees, and has listed the entries es.
-pub record Done (x y : Records) (level : ℕ) (p q : Report) (es : List Entry) : Type 0 where
+pub record Walked (x y : Records) (level : ℕ) (p q : Report) (es : List Entry) : Type 0 where
   pub moved : Moved x y (x.next + size (trees x level))
   pub adds : Adds p q es

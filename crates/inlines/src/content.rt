@@ -22,7 +22,7 @@ pub(crate) struct Content {
     // the first that is not an empty text starts with white space, and the last such ends with it
     pub starts: bool,
     pub ends: bool,
-    // there is one alone, and it is written with the container's delimiter
+    // there is exactly one, and it is written with the container's delimiter
     pub joined: bool,
     // the span of the last, where that is a line break
     pub last_break: Option<Span>,
@@ -94,7 +94,7 @@ pub(crate) fn validate_last_break(report: &mut Report, last_break: Option<Span>)
 pub(crate) fn final_break(records: &Records, report: &mut Report, level: u32)
     ensures { Adds report.old report.new (final_break (path_of report.old) (trees records.now level)) }
 {
-    // no container: 0 is no kind, and whether one is joined is not asked here
+    // no container is known here: 0 stands for its kind and its A, since `joined` is not asked
     let c = gather(records, level, kinds::NO_KIND, 0);
     validate_last_break(report, c.last_break);
 }

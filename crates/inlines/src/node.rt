@@ -76,8 +76,8 @@ fn validate_inline_footnote(records: &Records, report: &mut Report, r: Rec)
     report.list_if(!c.some, Rule::EmptyInlineFootnote, r.span);
 }
 
-// What one inline reports, up to the walk of its children, which are next. It answers the kinds whose rules look at
-// what they hold: emphasis, strong, delete, mark, link, link reference, text directive and inline footnote.
+// What one inline reports, up to the walk of its children, which are next. The kinds whose rules look at what they hold
+// are handled here: emphasis, strong, delete, mark, link, link reference, text directive and inline footnote.
 // `validate_inline_values` takes the rest.
 #[tactic(auto, unfolding(crate::specs::Node::validate_inline))]
 pub(crate) fn validate_inline(records: &Records, report: &mut Report, r: Rec)

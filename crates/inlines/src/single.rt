@@ -1,5 +1,6 @@
 // The rules of one inline and its own values, and of two side by side.
 ghost use Rattle.std.specs.Prelude.{unwrap_or};
+ghost use Rattle.leaves.specs.Sheet.Kinds.{no_kind};
 ghost use Rattle.leaves.specs.Report.Listed.{path_of, Adds};
 ghost use Rattle.leaves.specs.Report.RuleNumbers.{rule_number};
 ghost use Rattle.inlines.specs.Single.{
@@ -59,7 +60,7 @@ pub fn validate_directive_name(bytes: &[u8], report: &mut Report, span: Span, na
 // `before` is the kind of the inline before.
 pub(crate) fn validate_siblings(report: &mut Report, before: Option<u32>, r: Rec)
     ensures { Adds report.old report.new
-        (validate_siblings (path_of report.old) r.span (unwrap_or before 0) r.kind r.a) }
+        (validate_siblings (path_of report.old) r.span (unwrap_or before no_kind) r.kind r.a) }
 {
     let Some(before) = before else {
         return;

@@ -7,6 +7,7 @@ pub mod FenceExamples
 pub mod FenceLaws
 pub mod FieldLaws
 pub mod FieldReadLaws
+pub mod LastLaws
 pub mod LineExamples
 pub mod LineLaws
 pub mod LineTestLaws

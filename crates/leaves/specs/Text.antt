@@ -7,10 +7,10 @@ pub mod Fence
 pub mod FenceScans
 pub mod Field
 pub mod Lines
-pub mod Lists
 pub mod Marker
 pub mod Math
 pub mod Name
+pub mod Over
 pub mod Part
 pub mod Pipe
 pub mod Punctuation

@@ -1,10 +1,9 @@
 -- The exported functions, each lent the front of some words as its report or its marks.
-use Rattle.std.specs.Prelude.{ℕ, ◌+◌, ◌*◌, ◌^◌, Bool, ◌&&◌, List, ◌++◌}
+use Rattle.std.specs.Prelude.{ℕ, ◌+◌, ◌*◌, ◌^◌, Bool, ◌&&◌, List, ◌++◌, if◌then◌else◌}
 use Rattle.std.specs.Prelude.{Option, Some, None, eqb, ltb, length, take, drop}
-use Rattle.leaves.specs.Text.Lists.{when◌then◌else◌}
-use Rattle.blocks.specs.Check.{outcome}
+use Rattle.blocks.specs.Check.{check_outcome}
 use Rattle.leaves.specs.Refusal.Verdict.{Answer}
-use Rattle.setter.specs.Setting.{setting_of}
+use Rattle.setter.specs.SetOutcome.{set_outcome}
 use Rattle.replay.specs.declared.front.Function.{Function}
 use Rattle.replay.specs.declared.front.Function.TheVariants.{Check, Set}
 use Rattle.replay.specs.declared.tally.Tally.{Tally}
@@ -32,19 +31,19 @@ the_machine = 1
 
 -- the function that has a number, if there is one
 unfoldable pub function_of : ℕ → Option Function
-function_of n = when eqb n the_check then Some Check else when eqb n the_machine then Some Set else None
+function_of n = if eqb n the_check then Some Check else if eqb n the_machine then Some Set else None
 
 -- the answer of a function for a sheet, its text and the words that it is lent, and those words after it
 unfoldable pub called_of : Function → List ℕ → List ℕ → List ℕ → ℕ × List ℕ
-called_of Check w bytes lent = (packed (outcome w bytes lent).0, (outcome w bytes lent).1)
-called_of Set w bytes lent = (packed (setting_of w bytes lent).0, (setting_of w bytes lent).1)
+called_of Check w bytes lent = (packed (check_outcome w bytes lent).0, (check_outcome w bytes lent).1)
+called_of Set w bytes lent = (packed (set_outcome w bytes lent).0, (set_outcome w bytes lent).1)
 
 -- the same where the first m words are lent, and those behind them stay. Where there are fewer, or no function: no
 -- answer, and the words as they were.
 unfoldable pub answered_of : Option Function → List ℕ → List ℕ → List ℕ → ℕ → ℕ × List ℕ
 answered_of None w bytes lent m = (no_answer, lent)
 answered_of (Some function) w bytes lent m =
-    when ltb (length lent) m
+    if ltb (length lent) m
     then (no_answer, lent)
     else ((called_of function w bytes (take m lent)).0, (called_of function w bytes (take m lent)).1 ++ drop m lent)
 

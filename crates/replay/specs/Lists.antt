@@ -1,11 +1,10 @@
 -- Stored sheets of one paragraph, each with the list of its inlines.
-use Rattle.std.specs.Prelude.{ℕ, ◌+◌, ◌*◌, ◌&&◌, List, [], ◌∷◌, eqb, leb, ltb, replicate, is_ok}
-use Rattle.leaves.specs.Text.Lists.{when◌then◌else◌}
+use Rattle.std.specs.Prelude.{ℕ, ◌+◌, ◌*◌, ◌&&◌, List, [], ◌∷◌, eqb, leb, ltb, replicate, is_ok, if◌then◌else◌}
 use Rattle.leaves.specs.Text.Part.{part_of}
 use Rattle.leaves.specs.Sheet.Records.{records_of}
 use Rattle.leaves.specs.Sheet.Forest.{under}
 use Rattle.leaves.specs.Refusal.Judge.{judge_sheet}
-use Rattle.leaves.specs.Report.Entries.{Entry, start, after, put}
+use Rattle.leaves.specs.Report.Entries.{Entry, empty_tally, after, put}
 use Rattle.inlines.specs.Nodes.{validate_inlines}
 use Rattle.replay.specs.declared.tally.Tally.{Tally}
 use Rattle.replay.specs.Bytes.{pair_at}
@@ -14,17 +13,17 @@ use Rattle.replay.specs.Words.{same_words}
 use Rattle.replay.specs.Sheets.{sheet_in}
 
 -- the list of the first block's inlines
-abbrev pub inlines_of : List ℕ → List ℕ → List Entry
-inlines_of w bytes = validate_inlines bytes (0 ∷ []) (under w (records_of w) 1 1)
+abbrev pub paragraph_list : List ℕ → List ℕ → List Entry
+paragraph_list w bytes = validate_inlines bytes (0 ∷ []) (under w (records_of w) 1 1)
 
 -- how many words the list has, and the report after it is written. Where the sheet has no record or is refused: 0, and
 -- the report as it was.
 unfoldable pub listed_of : List ℕ → List ℕ → List ℕ → ℕ × List ℕ
 listed_of w bytes report =
-    when ltb (records_of w) 1
+    if ltb (records_of w) 1
     then (0, report)
-    else when is_ok (judge_sheet w bytes)
-    then ((after start (inlines_of w bytes)).words, put report start (inlines_of w bytes))
+    else if is_ok (judge_sheet w bytes)
+    then ((after empty_tally (paragraph_list w bytes)).words, put report empty_tally (paragraph_list w bytes))
     else (0, report)
 
 -- how many bytes the head has

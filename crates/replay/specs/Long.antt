@@ -1,6 +1,5 @@
 -- Stored calls with a long sheet or a long text.
-use Rattle.std.specs.Prelude.{ℕ, ◌%◌, List, eqb, leb, length, replicate}
-use Rattle.leaves.specs.Text.Lists.{when◌then◌else◌}
+use Rattle.std.specs.Prelude.{ℕ, ◌%◌, List, eqb, leb, length, replicate, if◌then◌else◌}
 use Rattle.leaves.specs.Text.Part.{part_of}
 use Rattle.leaves.specs.Sheet.Kinds.{thematic_break}
 use Rattle.leaves.specs.Sheet.Records.{record_words}
@@ -12,7 +11,7 @@ use Rattle.replay.specs.Front.{before_word, function_of, call_compared}
 
 -- a word of a thematic break at level 1, by its field: the kind, the level, and 0 for each field behind them
 unfoldable pub break_word : ℕ → ℕ
-break_word field = when eqb field 0 then thematic_break else when eqb field 1 then 1 else 0
+break_word field = if eqb field 0 then thematic_break else if eqb field 1 then 1 else 0
 
 -- n words of thematic breaks at level 1, one after another
 unfoldable pub breaks_of : ℕ → List ℕ
@@ -34,8 +33,9 @@ zeros = replicate 16777217 0
 unfoldable pub untouched_words : List ℕ
 untouched_words = replicate 65544 before_word
 
--- The answer is compared, and every lent word: as many bytes as the record says are the text's (zeros), and every word
--- behind them is as before. The sheet and the text are the fronts of the long ones; the record has their lengths.
+-- The answer is compared, and every lent word: at the front as many bytes as the record says are zeros (taken from the
+-- text), and every word behind them is as before. The sheet and the text are the fronts of the long ones; the record
+-- has their lengths.
 unfoldable pub call_replayed : List ℕ → List ℕ → List ℕ → Tally → Tally
 call_replayed r sheet text t =
     call_compared (function_of (number_at r 0))

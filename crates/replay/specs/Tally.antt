@@ -1,6 +1,5 @@
 -- What is counted: records, answers that are compared, and those that differ.
-use Rattle.std.specs.Prelude.{ℕ, ◌+◌, Bool, true, false, leb}
-use Rattle.leaves.specs.Text.Lists.{when◌then◌else◌}
+use Rattle.std.specs.Prelude.{ℕ, ◌+◌, Bool, true, false, leb, if◌then◌else◌}
 use Rattle.replay.specs.declared.tally.Tally.{Tally}
 
 -- where sums stop; no file comes near it
@@ -9,7 +8,7 @@ most = 0x1000000000000000
 
 -- a sum of two counts, and `most` where one of them is `most` or more
 unfoldable pub sum_of : ℕ → ℕ → ℕ
-sum_of a b = when leb most a then most else when leb most b then most else a + b
+sum_of a b = if leb most a then most else if leb most b then most else a + b
 
 -- how many differences a comparison adds: none where the two are the same, and one where they are not
 unfoldable pub differences_of : Bool → ℕ

@@ -1,9 +1,8 @@
--- Stored texts, each with the fourteen answers of the functions that take a text.
-use Rattle.std.specs.Prelude.{ℕ, suc, ◌/◌, ◌%◌, ◌^◌, Bool, List, [], ◌∷◌, eqb}
+-- Stored texts, each with the thirteen answers of the functions that take a text.
+use Rattle.std.specs.Prelude.{ℕ, suc, ◌/◌, ◌%◌, ◌^◌, Bool, List, [], ◌∷◌, eqb, if◌then◌else◌}
 use Rattle.std.specs.Bool.{beq}
-use Rattle.leaves.specs.Text.Lists.{when◌then◌else◌}
 use Rattle.leaves.specs.Text.Fence.{holds_fence_line}
-use Rattle.leaves.specs.Text.Lines.{holds_line_ending, is_blank}
+use Rattle.leaves.specs.Text.Lines.{holds_line_ending}
 use Rattle.leaves.specs.Text.Edges.{has_blank_edge_line}
 use Rattle.leaves.specs.Text.Math.{holds_backtick_dollar}
 use Rattle.leaves.specs.Text.Name.{is_directive_name, is_attribute_name, is_blank_identifier}
@@ -23,7 +22,7 @@ is_bit_set bits k = eqb (bits / 2 ^ k % 2) 1
 
 -- an answer is compared with bit k of `bits` where that bit is set in `mask`
 unfoldable pub compared_with_bit : ℕ → ℕ → ℕ → Bool → Tally → Tally
-compared_with_bit mask bits k answer t = when is_bit_set mask k then comparing (beq answer (is_bit_set bits k)) t else t
+compared_with_bit mask bits k answer t = if is_bit_set mask k then comparing (beq answer (is_bit_set bits k)) t else t
 
 -- each answer is compared with its bit; the first answer's bit is bit k
 unfoldable pub compared_bits : List Bool → ℕ → ℕ → ℕ → Tally → Tally
@@ -38,7 +37,6 @@ answers_for s =
     ∷ starts_with_white s
     ∷ ends_with_white s
     ∷ holds_line_ending s
-    ∷ is_blank s
     ∷ has_blank_edge_line s
     ∷ holds_fence_line Yaml s
     ∷ holds_fence_line Toml s

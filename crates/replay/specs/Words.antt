@@ -1,7 +1,6 @@
 -- The words of a stored record.
-use Rattle.std.specs.Prelude.{ℕ, zero, suc, ◌*◌, Bool, true, ◌&&◌, ◌≡◌}
+use Rattle.std.specs.Prelude.{ℕ, zero, suc, ◌*◌, Bool, true, ◌&&◌, ◌≡◌, if◌then◌else◌}
 use Rattle.std.specs.Prelude.{List, [], ◌∷◌, ◌++◌, eqb, leb, ltb, length, take}
-use Rattle.leaves.specs.Text.Lists.{when◌then◌else◌}
 use Rattle.replay.specs.Bytes.{number_at}
 
 -- what `f` gives at 0, 1 and so on, n of them
@@ -24,11 +23,11 @@ words_of n s = up_to n (word_of s)
 
 -- the first n words; none where there are fewer
 unfoldable pub first_of : List ℕ → ℕ → List ℕ
-first_of w n = when leb n (length w) then take n w else []
+first_of w n = if leb n (length w) then take n w else []
 
 -- the word whose bytes begin at a place; `rest` behind the bytes
 unfoldable pub word_or : List ℕ → ℕ → ℕ → ℕ
-word_or s rest at = when ltb at (length s) then number_at s at else rest
+word_or s rest at = if ltb at (length s) then number_at s at else rest
 
 -- every word is the one whose bytes stand at its place, and `rest` behind the bytes
 unfoldable pub same_words : List ℕ → List ℕ → ℕ → Bool

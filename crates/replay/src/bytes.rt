@@ -44,7 +44,7 @@ pub fn large(s: &[u8], at: usize) -> usize
     number(s, at) as usize
 }
 
-// A number of eight bytes, of two numbers as in the definition: by `u64::from_le_bytes` it was not proved.
+// A number of eight bytes, made of two numbers as in the definition; with `u64::from_le_bytes` it could not be proved.
 #[tactic(auto, unfolding(crate::specs::Bytes::long_at))]
 pub fn long_number(s: &[u8], at: usize) -> u64
     requires { at < 128 }

@@ -68,8 +68,8 @@ fn replay_opened<R: Read, F: Format>(file: &mut R, format: &F) -> Tally
     ensures { Found (F.replayed format.now) result }
 {
     let mut buffer = room();
-    let mut tally = Tally::none();
-    // a `for` and no `loop`: each run ends, and a file does not say how many records it has
+    let mut tally = Tally::empty();
+    // a `for`, so that each run ends: a file does not say how many records it has
     for _ in 0..RECORDS {
         match read_record(file, format, &mut buffer) {
             Ok(Some(n)) => tally = format.replay(&buffer[..n], tally),
@@ -86,7 +86,7 @@ pub fn replay<R: Read + Drop, F: Format>(file: Option<R>, format: &F) -> Tally
 {
     match file {
         Some(mut file) => replay_opened(&mut file, format),
-        None => Tally::none().differs(),
+        None => Tally::empty().differs(),
     }
 }
 

@@ -21,8 +21,8 @@ pub const BEFORE: u32 = 0xA5A5_A5A5;
 const NONE: u64 = 0xFFFF_FFFF_FFFF_FFFF;
 
 impl Function {
-    // The function that has this number, if there is one. As TryFrom it would be no plainer: the one caller wants an
-    // Option, and would throw the error away.
+    // The function that has this number, if there is one. It is no `TryFrom`: its one caller wants an Option, and would
+    // throw the error away.
     #[tactic(auto, unfolding(crate::specs::Front::function_of))]
     pub fn numbered(number: usize) -> Option<Function>
         ensures { result ≡ function_of number }
@@ -70,9 +70,9 @@ impl Call<'_> {
         function.call(self.sheet, self.text, &mut words[..self.lent])
     }
 
-    // Compares the answer, where the call `fits`, and each of the words: it is the one that is stored, and BEFORE
-    // behind those, also where it was not lent. A struct of what is stored would be made only to be taken apart here,
-    // and so would an Option of `answer` for `fits`.
+    // Compares the answer, where the call `fits`, and each of the words: at the front with the stored ones, and behind
+    // those with BEFORE, also where the word was not lent. It has six parameters: a struct of what is stored, or an
+    // Option for `answer` and `fits`, would be made only to be taken apart here.
     #[tactic(auto, unfolding(crate::specs::Front::call_compared))]
     pub fn compare(
         &self,

@@ -61,7 +61,7 @@ fn word(field: usize) -> u32
 
 // Fills the words with thematic breaks at level 1, one after another.
 #[tactic(auto, using(crate::proofs::WordLaws::words), unfolding(crate::specs::Long::breaks_of))]
-pub fn breaks(words: &mut [u32])
+pub fn fill_with_breaks(words: &mut [u32])
     ensures { words.new ≡ breaks_of (length words.old) }
 {
     for (k, filled) in words.iter_mut().enumerate() {

@@ -1,6 +1,6 @@
 // Replays the stored answers in data/, which rust/vectors writes, and counts those that differ. The answers for the
-// text leaves and the inline walk are the Rust's; those for refusals, checks, settings and films are of plain readings
-// of document 01.
+// text leaves and all lists of entries are the Rust's; refusals, settings and what is printed for films come from plain
+// readings of document 01.
 #![tactic(auto)]
 
 mod bytes;
@@ -61,7 +61,7 @@ fn replay_calls<R: Files + Print + Eprint>(
     requires text { text.now ≡ zeros }
     ensures { AddsFile long_replayed total result }
 {
-    long::breaks(sheet);
+    long::fill_with_breaks(sheet);
     replay(rt, name, &Calls { sheet, text }, total)
 }
 
@@ -81,7 +81,7 @@ fn replay_long<R: Files + Print + Eprint + AllocGlobal>(
 // Replays the files whose records are short. They stand in no table, since a format is a type: with `&dyn Format` in
 // its place `replay_calls` was not proved.
 fn replay_short_files<R: Files + Print + Eprint>(rt: &R) -> Tally {
-    let mut total = Tally::none();
+    let mut total = Tally::empty();
     for name in ["utf8", "white", "lines", "names", "pipes"] {
         total = replay(rt, name, &Texts, total);
     }

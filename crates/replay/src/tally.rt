@@ -31,7 +31,7 @@ fn differences(same: bool) -> u64
 }
 
 impl Tally {
-    pub fn none() -> Self
+    pub fn empty() -> Self
         ensures { result ≡ no_records }
     {
         Tally {

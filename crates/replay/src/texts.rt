@@ -1,4 +1,4 @@
-// Stored texts, each with the fourteen answers of the functions that take a text.
+// Stored texts, each with the thirteen answers of the functions that take a text.
 ghost use Rattle.std.specs.Prelude.{◌≡◌, ◌<◌};
 ghost use Rattle.replay.specs.Bytes.{byte_at};
 ghost use Rattle.replay.specs.Texts.{is_bit_set, compared_with_bit, answers_for, compared_bits, text_replayed};
@@ -8,7 +8,7 @@ use crate::format::Format;
 use crate::tally::Tally;
 use leaves::text::edges::has_blank_edge_line;
 use leaves::text::fence::{FrontmatterKind, holds_fence_line};
-use leaves::text::lines::{holds_line_ending, is_blank};
+use leaves::text::lines::holds_line_ending;
 use leaves::text::math::holds_backtick_dollar;
 use leaves::text::name::{is_attribute_name, is_blank_identifier, is_directive_name};
 use leaves::text::part::part;
@@ -18,7 +18,7 @@ use leaves::text::utf8::is_utf8;
 use leaves::text::white::{ends_with_white, starts_with_white};
 
 // How many answers there are.
-const ANSWERS: usize = 14;
+const ANSWERS: usize = 13;
 
 // Whether bit k is set.
 #[tactic(auto, unfolding(crate::specs::Texts::is_bit_set))]
@@ -39,7 +39,6 @@ fn answers(s: &[u8]) -> [bool; ANSWERS]
         starts_with_white(s),
         ends_with_white(s),
         holds_line_ending(s),
-        is_blank(s),
         has_blank_edge_line(s),
         holds_fence_line(s, FrontmatterKind::Yaml),
         holds_fence_line(s, FrontmatterKind::Toml),

@@ -14,10 +14,10 @@ use Rattle.leaves.specs.Refusal.Verdict.{Answer}
 use Rattle.leaves.specs.Refusal.Judge.{judge_sheet, sheet_answer}
 use Rattle.leaves.proofs.refusal.VerdictLaws.{none-refused, is-accepted}
 use Rattle.blocks.specs.Walk.{validate_document}
-use Rattle.blocks.specs.Check.{checked_answer, outcome}
+use Rattle.blocks.specs.Check.{checked_answer, check_outcome}
 use Rattle.blocks.specs.Answer.{Checked}
-use Rattle.setter.specs.Answer.{Set, Answers}
-use Rattle.setter.specs.Setting.{setting_of}
+use Rattle.setter.specs.Answer.{SetAnswer, Answers}
+use Rattle.setter.specs.SetOutcome.{set_outcome}
 use Rattle.setter.specs.Agrees.{Agrees, Demand}
 use Rattle.setter.proofs.agrees.Demand.{demand-accepted}
 use Rattle.setter.specs.Both.{ChecksAndSets}
@@ -29,11 +29,11 @@ pub record Written (w bytes x y : List ℕ) (n : ℕ) : Type 0 where
   pub holds : y ≡ flat (validate_document w bytes) ++ drop (length (flat (validate_document w bytes))) x
   pub fits : length (flat (validate_document w bytes)) ≤ length x
 
-pub written : (w bytes x : List ℕ) → (outcome w bytes x).0.number ≡ 0 → Written w bytes x (outcome w bytes x).1 (outcome w bytes x).0.value
-unfolding outcome
+pub written : (w bytes x : List ℕ) → (check_outcome w bytes x).0.number ≡ 0 → Written w bytes x (check_outcome w bytes x).1 (check_outcome w bytes x).0.value
+unfolding check_outcome
 written w bytes x z = go (is_ok (judge_sheet w bytes)) refl (ltb (length x) (length (flat (validate_document w bytes)))) refl
   where
-    go : (a : Bool) → is_ok (judge_sheet w bytes) ≡ a → (b : Bool) → ltb (length x) (length (flat (validate_document w bytes))) ≡ b → Written w bytes x (outcome w bytes x).1 (outcome w bytes x).0.value
+    go : (a : Bool) → is_ok (judge_sheet w bytes) ≡ a → (b : Bool) → ltb (length x) (length (flat (validate_document w bytes))) ≡ b → Written w bytes x (check_outcome w bytes x).1 (check_outcome w bytes x).0.value
     go false p b q =
         let none : (sheet_answer w bytes).number ≡ 0 = rw p at z in
         absurd (true≢false (sym (ap is_ok (none-refused (judge_sheet w bytes) none)) ∙ p))
@@ -45,10 +45,10 @@ pub written-agrees : (w bytes x : List ℕ) {y : List ℕ} {n : ℕ} → Written
 unfolding Demand
 written-agrees w bytes x b = rw (b.count, b.holds, read_back (validate_document w bytes) (drop (length (flat (validate_document w bytes))) x)) (demand-accepted w bytes b.accepted)
 
-pub both-done : (w bytes report marks : List ℕ) {checked : Checked} {y : List ℕ} {set : Set} {marked : List ℕ} → (checked_answer checked, y) ≡ outcome w bytes report → Answers (setting_of w bytes marks) set marked → ChecksAndSets w bytes report marks checked y set marked
+pub both-done : (w bytes report marks : List ℕ) {checked : Checked} {y : List ℕ} {set : SetAnswer} {marked : List ℕ} → (checked_answer checked, y) ≡ check_outcome w bytes report → Answers (set_outcome w bytes marks) set marked → ChecksAndSets w bytes report marks checked y set marked
 both-done w bytes report marks {checked} {y} c m =
-    let a : checked_answer checked ≡ (outcome w bytes report).0 = ap (λ (p : Answer × List ℕ). p.0) c in
-    let b : y ≡ (outcome w bytes report).1 = ap (λ (p : Answer × List ℕ). p.1) c in
+    let a : checked_answer checked ≡ (check_outcome w bytes report).0 = ap (λ (p : Answer × List ℕ). p.0) c in
+    let b : y ≡ (check_outcome w bytes report).1 = ap (λ (p : Answer × List ℕ). p.1) c in
     record {
       check = c;
       machine = m;

@@ -8,7 +8,7 @@ use native.Mathlib.Omega.{arith}
 use lib.Dec.{eqb, ltb}
 use lib.ListN.{length}
 use borrow.Author.Tests.{eq-eqb, ltb-true, ltb-false}
-use Rattle.leaves.specs.Text.Lists.{when◌then◌else◌}
+use Rattle.std.specs.Prelude.{if◌then◌else◌}
 use Rattle.leaves.specs.Sheet.Kinds.{list, blank_line, item}
 use Rattle.leaves.specs.declared.sheet.records.Rec.{Rec}
 use Rattle.leaves.specs.Refusal.Fields.{most_a, most_b, most_c, is_surrogate, bad_number, bad_field}
@@ -18,14 +18,14 @@ use Rattle.leaves.specs.Refusal.Limits.{most_item_number}
 use Rattle.setter.specs.Steps.{Frame, fresh, with_kid}
 use Rattle.setter.specs.Seen.{columns, nearest, in_link, behind_list, only_empty, last_mark, Seen, seen}
 use Rattle.setter.specs.Stops.{Moment, opening, same_moment, Row, stops, lowest, stop_at}
-use Rattle.setter.specs.Kept.{marker_behind, kept_of, seen_by, opened_in, joined_by}
+use Rattle.setter.specs.Kept.{marker_behind, kept_of, seen_by, opened_in, after_kid}
 
 -- a list's written marker is never 0
 some-marker : (a b : ℕ) → eqb 0 (written_marker a b) ≡ false
 unfolding written_marker
 some-marker a b = go (eqb a 1) (eqb b 4) (eqb b 1) (eqb b 2)
   where
-    go : (t u v w : Bool) → eqb 0 (when t then (when u then 0x29 else 0x2E) else when v then 0x2A else when w then 0x2B else 0x2D) ≡ false
+    go : (t u v w : Bool) → eqb 0 (if t then (if u then 0x29 else 0x2E) else if v then 0x2A else if w then 0x2B else 0x2D) ≡ false
     go true true v w = refl
     go true false v w = refl
     go false u true w = refl
@@ -38,7 +38,7 @@ unfolding marker_behind behind_list
 joins-kept [] r = some-marker r.a r.b
 joins-kept (s ∷ ss) r = go (eqb s.kind blank_line) (eqb s.kind list) (joins-kept ss r)
   where
-    go : (t u : Bool) → eqb (marker_behind ss) (written_marker r.a r.b) ≡ behind_list ss r → eqb (when t then marker_behind ss else when u then written_marker s.a s.b else 0) (written_marker r.a r.b) ≡ (when t then behind_list ss r else u && eqb (written_marker s.a s.b) (written_marker r.a r.b))
+    go : (t u : Bool) → eqb (marker_behind ss) (written_marker r.a r.b) ≡ behind_list ss r → eqb (if t then marker_behind ss else if u then written_marker s.a s.b else 0) (written_marker r.a r.b) ≡ (if t then behind_list ss r else u && eqb (written_marker s.a s.b) (written_marker r.a r.b))
     go true u e = e
     go false true e = refl
     go false false e = some-marker r.a r.b
@@ -51,8 +51,8 @@ pub opened-kept : (i : ℕ) (r : Rec) (f : Frame) (st : List Frame) → opened_i
 unfolding kept_of opened_in columns nearest in_link only_empty last_mark marker_behind
 opened-kept i r f st = refl
 
-pub joined-kept : (r : Rec) (f : Frame) (st : List Frame) → joined_by (kept_of f st) r ≡ kept_of (with_kid r f) st
-unfolding kept_of joined_by columns nearest in_link only_empty last_mark marker_behind
+pub joined-kept : (r : Rec) (f : Frame) (st : List Frame) → after_kid (kept_of f st) r ≡ kept_of (with_kid r f) st
+unfolding kept_of after_kid columns nearest in_link only_empty last_mark marker_behind
 joined-kept r f st = rw (add-one (length f.kids))
 
 -- ---- an item that opens has a small number, or none
@@ -83,7 +83,7 @@ plain-small r bad e =
     let most : r.c ≤ most_c r.kind r.b = ltb-false _ _ (or_right (ltb (most_a r.kind) r.a || ltb (most_b r.kind r.a) r.b) (ltb (most_c r.kind r.b) r.c) (or_left _ (is_surrogate r.kind r.a) numbers)) in
     go (eqb r.kind list) (rw e at most)
   where
-    go : (t : Bool) → r.c ≤ (when t then 1 else 0) → r.c ≤ 1
+    go : (t : Bool) → r.c ≤ (if t then 1 else 0) → r.c ≤ 1
     go true h = h
     go false h = omega arith
 

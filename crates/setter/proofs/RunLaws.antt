@@ -1,5 +1,5 @@
 -- The machine's loop, a turn for each opening and closing: what is kept by level is what the open records show, and what is left decides the answer and the marks.
-use Rattle.std.specs.Prelude.{Ok}
+use Rattle.std.specs.Prelude.{Ok, if◌then◌else◌}
 use mathlib.Core.Path.{◌≡◌, refl, sym, ap, ◌∙◌}
 use mathlib.Core.Bool.{Bool, true, false}
 use mathlib.Core.List.{List, [], ◌∷◌}
@@ -11,7 +11,6 @@ use borrow.Author.Tests.{ltb-true, ltb-false, le-leb, lt-leb, leb-true, leb-fals
 use lib.Dec.{eqb, ltb, leb}
 use lib.ListN.{length, get_or, set, replicate, length-set}
 use lib.Seq.{get_or-set_same, get_or-set_other}
-use Rattle.leaves.specs.Text.Lists.{when◌then◌else◌}
 use Rattle.leaves.specs.Sheet.Records.{record_words, records_of, record_at}
 use Rattle.leaves.specs.Sheet.Forest.{records_from}
 use Rattle.leaves.specs.declared.sheet.records.Rec.{Rec}
@@ -26,12 +25,12 @@ use Rattle.setter.specs.Marks.{mark_of, marks_of}
 use Rattle.setter.specs.Stops.{opening, closing, stop_at, stop_of}
 use Rattle.setter.specs.Seen.{only_empty, last_mark, item_mark, seen}
 use Rattle.setter.proofs.StepLaws.{Low, open-one, close-one, goes_on, stops-here}
-use Rattle.setter.specs.Kept.{most_kids, most_item_mark, kept_of, seen_by, opened_in, joined_by}
+use Rattle.setter.specs.Kept.{most_kids, most_item_mark, kept_of, seen_by, opened_in, after_kid}
 use Rattle.setter.specs.declared.kept.Kept.{Kept}
 use Rattle.setter.proofs.SetLaws.{stop-numbered}
 use Rattle.setter.proofs.KeptLaws.{seen-kept, opened-kept, joined-kept, small-number}
 use Rattle.setter.specs.Answer.{stop_number, Answers}
-use Rattle.setter.specs.Setting.{after_run}
+use Rattle.setter.specs.SetOutcome.{after_run}
 use Rattle.setter.specs.MachineRunning.{next_level}
 use Rattle.setter.specs.declared.answer.Setting.TheVariants.{Ended, Stopped}
 use Rattle.setter.specs.declared.answer.Stop.{Stop}
@@ -164,7 +163,7 @@ module _ {w bytes old : List ℕ} {n : ℕ} {new : List ℕ} {os : List Kept} {d
   next-some : 1 ≤ next_level w n i
   next-some = go (leb n i) refl
     where
-      go : (b : Bool) → leb n i ≡ b → 1 ≤ (when b then 1 else (record_at w i).level)
+      go : (b : Bool) → leb n i ≡ b → 1 ≤ (if b then 1 else (record_at w i).level)
       go true e = omega arith
       go false e = let h : i < n = leb-false n i e in (deep-at w bytes v.ok i (omega (arith, v.all))).some
 
@@ -208,7 +207,7 @@ module _ {w bytes old : List ℕ} {n : ℕ} {new : List ℕ} {os : List Kept} {d
 mark-small : (r : Rec) (before m : ℕ) → (r.b ≡ 1 → r.c ≤ most_item_number) → before ≤ most_item_number + m → item_mark r before ≤ most_item_number + suc m
 mark-small r before m own h = go (eqb r.b 1) refl
   where
-    go : (t : Bool) → eqb r.b 1 ≡ t → (when t then r.c else before + 1) ≤ most_item_number + suc m
+    go : (t : Bool) → eqb r.b 1 ≡ t → (if t then r.c else before + 1) ≤ most_item_number + suc m
     go true e = omega (arith, own (eqb-true _ _ e))
     go false e = omega arith
 
@@ -257,7 +256,7 @@ module _ {w bytes old : List ℕ} {n : ℕ} {new : List ℕ} {os : List Kept} {d
         let here = stops-here bytes (closes z.top (z.under ∷ z.around)) after-close (rw closes-stop at h) in
         record { answer = rw (z.ends, z.marked, here, top-at, ← e, closes-stop) }
 
-    pub close-turn : {q : Kept} → s ≡ 0 → q ≡ joined_by (get_or os (depth - 1) unkept) r → Running w bytes old n new (set os (depth - 1) q) (depth - 1) i
+    pub close-turn : {q : Kept} → s ≡ 0 → q ≡ after_kid (get_or os (depth - 1) unkept) r → Running w bytes old n new (set os (depth - 1) q) (depth - 1) i
     unfolding Held marks_of last_mark
     close-turn {q} h eq =
         let on = goes_on bytes (closes z.top (z.under ∷ z.around)) after-close (sym closes-stop ∙ h) in

@@ -8,7 +8,7 @@ use lib.ListN.{get_or}
 use Rattle.leaves.specs.Refusal.Verdict.{refusal_answer}
 use Rattle.leaves.proofs.refusal.VerdictLaws.{same_number, same-value, refusal-numbered, refusal-one}
 use Rattle.leaves.specs.declared.refusal.verdict.Malformed.{Malformed}
-use Rattle.setter.specs.Answer.{stop_number, last_stop, Set, setting_answer}
+use Rattle.setter.specs.Answer.{stop_number, last_stop, SetAnswer, setting_answer}
 use Rattle.setter.specs.declared.answer.Stop.{Stop}
 use Rattle.setter.specs.declared.answer.Stop.TheVariants.{CellTooMany, CellTooFew, EmptyTable, BreakInLine, LinkInLink, HeadingDepth, ItemNumber, BulletNumber, EmptyList, EmptyContent, BreakAfterBreak, InnerFrontmatter, LineEnding, AdjacentLists}
 use Rattle.setter.specs.declared.answer.Setting.TheVariants.{Ended, Stopped}
@@ -67,7 +67,7 @@ refusal-same r s e =
     let v : (refusal_answer r).value ≡ (refusal_answer s).value = same-value e in
     λ i. record { number = n i; value = v i }
 
-pub setting-one : (s t : Set) → setting_answer s ≡ setting_answer t → s ≡ t
+pub setting-one : (s t : SetAnswer) → setting_answer s ≡ setting_answer t → s ≡ t
 setting-one (Ok (Ended m)) (Ok (Ended n)) e = ap (λ k. Ok (Ended k)) (same-value e)
 setting-one (Ok (Ended m)) (Ok (Stopped b j)) e = absurd (omega (arith, same_number e, stop-numbered b))
 setting-one (Ok (Ended m)) (Err (IsMalformed r)) e = absurd (omega (arith, same_number e))

@@ -64,16 +64,16 @@ set_error_answer (Malformed malformed) = refused_as (refusal_answer malformed)
 set_error_answer ShortMarks = refused_as (answer short_marks 0)
 
 -- the answer of the machine: how its run ended, or why nothing was set
-abbrev pub Set : Type 0
-Set = Result Setting SetError
+abbrev pub SetAnswer : Type 0
+SetAnswer = Result Setting SetError
 
 -- "Answer: end and record count, or stop and the record being opened or closed", and "stop (0 at the end), record"
-abbrev pub setting_answer : Set → Answer
+abbrev pub setting_answer : SetAnswer → Answer
 setting_answer (Ok (Ended records)) = answer 0 records
 setting_answer (Ok (Stopped stop i)) = answer (stop_number stop) i
 setting_answer (Err error) = set_error_answer error
 
 -- s and the marks after it are the answer and the marks of p. No other answer has the number and value of s
 -- (`setting-one` in proofs/SetLaws.antt).
-pub record Answers (p : Answer × List ℕ) (s : Set) (marked : List ℕ) : Type 0 where
+pub record Answers (p : Answer × List ℕ) (s : SetAnswer) (marked : List ℕ) : Type 0 where
   pub answer : (setting_answer s, marked) ≡ p

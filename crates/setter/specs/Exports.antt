@@ -3,9 +3,9 @@ use Rattle.std.specs.Prelude.{ℕ, ◌/◌, ◌%◌, ◌^◌, ◌<◌, ◌≡◌
 use Rattle.leaves.specs.Sheet.Records.{records_of}
 use Rattle.leaves.specs.Report.Entries.{entries_in}
 use Rattle.leaves.specs.Refusal.Verdict.{Answer}
-use Rattle.blocks.specs.Check.{outcome}
+use Rattle.blocks.specs.Check.{check_outcome}
 use Rattle.setter.specs.Machine.{run_answer}
-use Rattle.setter.specs.Setting.{setting_of}
+use Rattle.setter.specs.SetOutcome.{set_outcome}
 use Rattle.setter.specs.Agrees.{Agrees}
 
 -- the number is the upper half of r, and the value the lower
@@ -15,13 +15,13 @@ pub record Halves (r : ℕ) (a : Answer) : Type 0 where
 
 -- what `reedsander_check` promises of the number that it hands back and of the report after the call
 pub record CheckPromise (w bytes report : List ℕ) (r : ℕ) (written : List ℕ) : Type 0 where
-  pub answer : Halves r (outcome w bytes report).0
-  pub words : written ≡ (outcome w bytes report).1
+  pub answer : Halves r (check_outcome w bytes report).0
+  pub words : written ≡ (check_outcome w bytes report).1
 
 -- what `reedsander_set` promises of the number that it hands back and of the marks after the call
 pub record SetPromise (w bytes marks : List ℕ) (r : ℕ) (marked : List ℕ) : Type 0 where
-  pub answer : Halves r (setting_of w bytes marks).0
-  pub words : marked ≡ (setting_of w bytes marks).1
+  pub answer : Halves r (set_outcome w bytes marks).0
+  pub words : marked ≡ (set_outcome w bytes marks).1
 
 -- Demand 3 of what a C caller holds: the number `checked` of an accepting check, the report after it, and the number
 -- `set` of the machine for the same sheet and text. Both promises give it (`shipped` in proofs/ExportLaws.antt).

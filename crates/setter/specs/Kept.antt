@@ -1,7 +1,6 @@
 -- What the machine's code keeps of an open record, in place of the records themselves. A reader need not believe these:
 -- the machine's promise does not cite them.
-use Rattle.std.specs.Prelude.{ℕ, ◌+◌, Bool, true, false, ◌&&◌, ◌||◌, List, [], ◌∷◌, eqb, length}
-use Rattle.leaves.specs.Text.Lists.{when◌then◌else◌}
+use Rattle.std.specs.Prelude.{ℕ, ◌+◌, Bool, true, false, ◌&&◌, ◌||◌, List, [], ◌∷◌, eqb, length, if◌then◌else◌}
 use Rattle.leaves.specs.Sheet.Kinds.{among, is_inline, list, table, blank_line, link, link_reference}
 use Rattle.leaves.specs.declared.sheet.records.Rec.{Rec}
 use Rattle.leaves.specs.Sheet.Classes.{is_break}
@@ -24,9 +23,9 @@ most_item_mark = most_item_number + most_kids
 -- other kind
 abbrev pub next_marker : Rec → ℕ → ℕ
 next_marker r before =
-    when eqb r.kind blank_line
+    if eqb r.kind blank_line
     then before
-    else when eqb r.kind list
+    else if eqb r.kind list
     then written_marker r.a r.b
     else 0
 
@@ -51,8 +50,8 @@ kept_of f around =
       number = last_mark f.kids;
     }
 
--- what record r sees, where k is kept of the record around it. r has so many children that have closed (`kids`), and
--- `empty` says whether they are nothing but empty texts.
+-- what record r sees, where k is kept of the record around it. `kids` of the children of r have closed, and `empty`
+-- says whether these are nothing but empty texts.
 abbrev pub seen_by : Rec → Kept → ℕ → Bool → Seen
 seen_by r k kids empty =
     record {
@@ -73,8 +72,8 @@ unfoldable pub opened_in : ℕ → Rec → Kept → Kept
 opened_in i r k =
     record {
       at = i;
-      columns = when eqb r.kind table then r.a else k.columns;
-      nearest = when is_inline r.kind then k.nearest else r.kind;
+      columns = if eqb r.kind table then r.a else k.columns;
+      nearest = if is_inline r.kind then k.nearest else r.kind;
       linked = among r.kind (link ∷ link_reference ∷ []) || k.linked;
       ordered = eqb r.a 1;
       kids = 0;
@@ -85,8 +84,8 @@ opened_in i r k =
     }
 
 -- what is kept of a record once its child r has closed; k was kept before
-unfoldable pub joined_by : Kept → Rec → Kept
-joined_by k r =
+unfoldable pub after_kid : Kept → Rec → Kept
+after_kid k r =
     record {
       at = k.at;
       columns = k.columns;

@@ -8,6 +8,6 @@ pub mod Machine
 pub mod MachineRunning
 pub mod Marks
 pub mod Seen
-pub mod Setting
+pub mod SetOutcome
 pub mod Steps
 pub mod Stops

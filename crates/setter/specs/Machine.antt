@@ -1,8 +1,7 @@
 -- The run of the setting machine of document 01, and the block that it stops in. Its openings and closings are in
 -- `Steps`, its stops in `Stops`, its marks in `Marks`.
 -- "It works from the sheet and its text alone, without the checker or its list."
-use Rattle.std.specs.Prelude.{ℕ, suc, ◌≡◌, Bool, ◌||◌, List, [], ◌∷◌, ◌++◌, eqb}
-use Rattle.leaves.specs.Text.Lists.{when◌then◌else◌}
+use Rattle.std.specs.Prelude.{ℕ, suc, ◌≡◌, Bool, ◌||◌, List, [], ◌∷◌, ◌++◌, eqb, if◌then◌else◌}
 use Rattle.leaves.specs.Sheet.Kinds.{is_block, item}
 use Rattle.leaves.specs.Sheet.Records.{records_of}
 use Rattle.leaves.specs.declared.sheet.records.Rec.{Rec}
@@ -21,21 +20,21 @@ in_path kind = is_block kind || eqb kind item
 -- how many blocks or items are among the siblings
 unfoldable pub position : List Rec → ℕ
 position [] = 0
-position (s ∷ ss) = when in_path s.kind then suc (position ss) else position ss
+position (s ∷ ss) = if in_path s.kind then suc (position ss) else position ss
 
 -- the path of the innermost open record, or of the block or item around it
 unfoldable pub frame_path : List Frame → List ℕ
 frame_path [] = []
 frame_path (f ∷ around) =
     let outer = frame_path around in
-    when in_path f.of.kind then outer ++ position (siblings around) ∷ [] else outer
+    if in_path f.of.kind then outer ++ position (siblings around) ∷ [] else outer
 
 -- the path of the innermost open block
 unfoldable pub block_path : List Frame → List ℕ
 block_path [] = []
 block_path (f ∷ around) =
     let outer = block_path around in
-    when is_block f.of.kind then frame_path (f ∷ around) else outer
+    if is_block f.of.kind then frame_path (f ∷ around) else outer
 
 -- what is open at an opening or a closing, its own record first
 abbrev pub opened_at : Step → List Frame
@@ -51,16 +50,16 @@ record_at_step (closes f around) = f.at
 -- are those of that run"
 
 -- how a run ends
-pub data End : Type 0 where
+pub data RunEnd : Type 0 where
   -- nothing is left to open or to close: the machine "is at the end"
-  reached : End
+  reached : RunEnd
   -- "A stop ends the run": the stop's number, and the opening or closing at which it stops and which does not happen
-  stopped : ℕ → Step → End
+  stopped : ℕ → Step → RunEnd
 
 pub record Run : Type 0 where
   -- the openings and closings that happen, in their order
   pub steps : List Step
-  pub end : End
+  pub end : RunEnd
 
 -- a run with one opening or closing more at its front
 abbrev pub step_then : Step → Run → Run
@@ -71,7 +70,7 @@ unfoldable pub run_of : List ℕ → List Step → Run
 run_of bytes [] = record { steps = []; end = reached }
 run_of bytes (s ∷ ss) =
     let later = step_then s (run_of bytes ss) in
-    when eqb (stop_of bytes s) 0 then later else record { steps = []; end = stopped (stop_of bytes s) s }
+    if eqb (stop_of bytes s) 0 then later else record { steps = []; end = stopped (stop_of bytes s) s }
 
 -- the run of a sheet and its text
 unfoldable pub run : List ℕ → List ℕ → Run
@@ -93,7 +92,7 @@ pub record StopsSomewhere (r : Run) : Type 0 where
 
 -- "Answer: end and record count, or stop and the record being opened or closed." The number is 0 at the end, as the
 -- program prints it ("stop (0 at the end), record").
-abbrev pub end_answer : ℕ → End → Answer
+abbrev pub end_answer : ℕ → RunEnd → Answer
 end_answer records reached = answer 0 records
 end_answer records (stopped stop s) = answer stop (record_at_step s)
 

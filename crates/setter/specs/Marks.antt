@@ -1,7 +1,6 @@
 -- The marks of the setting machine. "Each record opened without a stop gets a mark: heading depth; cell's column from
 -- 1; ordered item's own number, else the item before plus 1, else 1; 0 otherwise. Other marks stay."
-use Rattle.std.specs.Prelude.{ℕ, ◌+◌, ◌&&◌, List, [], ◌∷◌, eqb, set}
-use Rattle.leaves.specs.Text.Lists.{when◌then◌else◌}
+use Rattle.std.specs.Prelude.{ℕ, ◌+◌, ◌&&◌, List, [], ◌∷◌, eqb, set, if◌then◌else◌}
 use Rattle.leaves.specs.Sheet.Kinds.{heading, item, cell}
 use Rattle.leaves.specs.declared.sheet.records.Rec.{Rec}
 use Rattle.setter.specs.Steps.{Step, opens, closes}
@@ -9,11 +8,11 @@ use Rattle.setter.specs.Seen.{Seen, item_mark, seen}
 
 unfoldable pub mark_of : Rec → Seen → ℕ
 mark_of r s =
-    when eqb r.kind heading
+    if eqb r.kind heading
     then r.a
-    else when eqb r.kind cell
+    else if eqb r.kind cell
     then s.before + 1
-    else when eqb r.kind item && s.ordered
+    else if eqb r.kind item && s.ordered
     then item_mark r s.number
     else 0
 

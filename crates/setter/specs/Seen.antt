@@ -1,7 +1,6 @@
 -- What the stops and the marks of the setting machine go by: what is open around a record, its siblings before it, and
 -- its own children that have closed.
-use Rattle.std.specs.Prelude.{ℕ, ◌+◌, Bool, true, false, ◌&&◌, ◌||◌, List, [], ◌∷◌, eqb, length}
-use Rattle.leaves.specs.Text.Lists.{when◌then◌else◌}
+use Rattle.std.specs.Prelude.{ℕ, ◌+◌, Bool, true, false, ◌&&◌, ◌||◌, List, [], ◌∷◌, eqb, length, if◌then◌else◌}
 use Rattle.leaves.specs.Sheet.Kinds.{among, no_kind, is_inline, list, table, blank_line}
 use Rattle.leaves.specs.Sheet.Kinds.{text, link, link_reference, soft_break, line_break}
 use Rattle.leaves.specs.declared.sheet.records.Rec.{Rec}
@@ -13,37 +12,38 @@ abbrev pub siblings : List Frame → List Rec
 siblings [] = []
 siblings (f ∷ around) = f.kids
 
--- A of the nearest open table; 0 where there is none
+-- A of the nearest open table: "table's A" of the stops 1 and 2; 0 where there is none
 unfoldable pub columns : List Frame → ℕ
 columns [] = 0
-columns (f ∷ around) = let outer = columns around in when eqb f.of.kind table then f.of.a else outer
+columns (f ∷ around) = let outer = columns around in if eqb f.of.kind table then f.of.a else outer
 
 -- the kind of the "nearest open non-inline"; `no_kind` for the sheet
 unfoldable pub nearest : List Frame → ℕ
 nearest [] = no_kind
-nearest (f ∷ around) = let outer = nearest around in when is_inline f.of.kind then outer else f.of.kind
+nearest (f ∷ around) = let outer = nearest around in if is_inline f.of.kind then outer else f.of.kind
 
--- a link or link reference is open, "at any depth"
+-- a link or link reference is open: what opens now is "under a link or link reference, at any depth"
 unfoldable pub in_link : List Frame → Bool
 in_link [] = false
 in_link (f ∷ around) = among f.of.kind (link ∷ link_reference ∷ []) || in_link around
 
--- the list that holds an item is ordered (A is 1)
+-- the list that holds an item is ordered (A is 1): it is an "ordered item", and else a "bullet item"
 abbrev pub ordered : List Frame → Bool
 ordered [] = false
 ordered (f ∷ around) = eqb f.of.a 1
 
--- the newest sibling is an inline break: a soft break or a line break
+-- the newest sibling is an "inline break", a soft break or a line break: what opens now is "straight after a sibling
+-- break"
 abbrev pub behind_break : List Rec → Bool
 behind_break [] = false
 behind_break (s ∷ ss) = among s.kind (soft_break ∷ line_break ∷ [])
 
--- the newest sibling, "only blank lines skipped", is a list of the same written marker
+-- the newest sibling, "only blank lines skipped", is "a sibling list of the same written marker"
 unfoldable pub behind_list : List Rec → Rec → Bool
 behind_list [] r = false
 behind_list (s ∷ ss) r =
     let before = behind_list ss r in
-    when eqb s.kind blank_line
+    if eqb s.kind blank_line
     then before
     else eqb s.kind list && eqb (written_marker s.a s.b) (written_marker r.a r.b)
 
@@ -55,7 +55,7 @@ only_empty (s ∷ ss) = (eqb s.kind text && eqb s.first.len 0) && only_empty ss
 -- the number of an ordered item: its "own number, else the item before plus 1, else 1", where `before` is that of the
 -- item before, and 0 where there is none
 abbrev pub item_mark : Rec → ℕ → ℕ
-item_mark r before = when eqb r.b 1 then r.c else before + 1
+item_mark r before = if eqb r.b 1 then r.c else before + 1
 
 -- the number of the newest of those items; 0 where there is none
 unfoldable pub last_mark : List Rec → ℕ
@@ -76,7 +76,7 @@ pub record Seen : Type 0 where
   pub before : ℕ
   -- the sibling straight before it is an inline break
   pub broke : Bool
-  -- the sibling before it, only blank lines skipped, is a list of the written marker that this record has as a list
+  -- the sibling before it, only blank lines skipped, is a list of its written marker (asked only where it is a list)
   pub joins : Bool
   -- the number of the item before it, as an ordered item's; 0 where there is none
   pub number : ℕ

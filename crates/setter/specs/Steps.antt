@@ -1,8 +1,7 @@
 -- The openings and closings of the setting machine where nothing stops it. "It opens records in order and closes
 -- innermost first: before a record opens, it closes every open one of that level or deeper; after the last, all that
 -- are open, and then it is at the end."
-use Rattle.std.specs.Prelude.{ℕ, suc, List, [], ◌∷◌, ◌++◌, leb}
-use Rattle.leaves.specs.Text.Lists.{when◌then◌else◌}
+use Rattle.std.specs.Prelude.{ℕ, suc, List, [], ◌∷◌, ◌++◌, leb, if◌then◌else◌}
 use Rattle.leaves.specs.Sheet.Kinds.{no_kind}
 use Rattle.leaves.specs.Sheet.Records.{records_of, no_span}
 use Rattle.leaves.specs.Sheet.Forest.{records_from}
@@ -50,14 +49,14 @@ unfoldable pub closings : ℕ → Frame → List Frame → List Step
 closings l f [] = []
 closings l f (g ∷ around) =
     let later = closings l (with_kid f.of g) around in
-    when leb l f.of.level then closes f (g ∷ around) ∷ later else []
+    if leb l f.of.level then closes f (g ∷ around) ∷ later else []
 
 -- what is open after those closings
 unfoldable pub remain : ℕ → Frame → List Frame → Opened
 remain l f [] = record { top = f; around = [] }
 remain l f (g ∷ around) =
     let later = remain l (with_kid f.of g) around in
-    when leb l f.of.level then later else record { top = f; around = g ∷ around }
+    if leb l f.of.level then later else record { top = f; around = g ∷ around }
 
 -- the openings and closings from record i on, where o is open
 unfoldable pub steps_from : Opened → ℕ → List Rec → List Step

@@ -1,8 +1,7 @@
 -- The stops of the setting machine: document 01's table, a row for each stop. The machine's definition and demand 3
 -- both read it. The conditions name kinds as the paper does, and not by the classes that the check's rules go by.
-use Rattle.std.specs.Prelude.{ℕ, Bool, true, false, not, ◌&&◌, ◌||◌, List, [], ◌∷◌, eqb, ltb, leb}
+use Rattle.std.specs.Prelude.{ℕ, Bool, true, false, not, ◌&&◌, ◌||◌, List, [], ◌∷◌, eqb, ltb, leb, if◌then◌else◌}
 use Rattle.leaves.specs.Text.Bytes.{between}
-use Rattle.leaves.specs.Text.Lists.{when◌then◌else◌}
 use Rattle.leaves.specs.Text.Lines.{holds_line_ending}
 use Rattle.leaves.specs.Sheet.Kinds
 use Rattle.leaves.specs.Sheet.Kinds.{among}
@@ -88,7 +87,7 @@ stops =
 abbrev pub lowest : Moment → List ℕ → Rec → Seen → List Row → ℕ
 lowest m bytes r s [] = 0
 lowest m bytes r s (t ∷ ts) =
-    when same_moment m t.moment && t.holds bytes r s then t.stop else lowest m bytes r s ts
+    if same_moment m t.moment && t.holds bytes r s then t.stop else lowest m bytes r s ts
 
 unfoldable pub stop_at : Moment → List ℕ → Rec → Seen → ℕ
 stop_at m bytes r s = lowest m bytes r s stops

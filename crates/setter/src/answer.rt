@@ -35,7 +35,7 @@ pub enum Stop {
     EmptyContent = 10,
     // a soft or spaces break, opened straight after a break
     BreakAfterBreak = 11,
-    // frontmatter, opened inside something
+    // frontmatter, opened at a level over 1
     InnerFrontmatter = 12,
     // a text or inline code, opened with a line ending in it
     LineEnding = 13,
@@ -98,8 +98,8 @@ impl SetError {
     }
 }
 
-// The stop, and 0 at the end; or the number of a refusal, with 256 added. A function and no `From`: the type is the
-// library's, and the number alone is not the answer.
+// The stop, and 0 at the end; or the number of a refusal, with 256 added. This is a function and no `From`: the type, a
+// `Result`, is the library's, and the number alone is not the whole answer.
 pub(crate) fn setting_number(setting: Result<Setting, SetError>) -> u32
     ensures { result ≡ (setting_answer setting).number }
 {

@@ -1,7 +1,7 @@
 // What the machine keeps of each open record, and how it changes as records open and close.
 ghost use Rattle.std.specs.Prelude.{◌≡◌, ◌≤◌, []};
 ghost use Rattle.setter.specs.Steps.{the_sheet};
-ghost use Rattle.setter.specs.Kept.{kept_of, opened_in, joined_by, next_marker, most_kids, most_item_mark};
+ghost use Rattle.setter.specs.Kept.{kept_of, opened_in, after_kid, next_marker, most_kids, most_item_mark};
 
 use crate::marks::item_mark;
 use leaves::sheet::records::Rec;
@@ -9,8 +9,8 @@ use leaves::sheet::{classes, empty, kinds};
 use leaves::text::marker::written_marker;
 
 // What the machine keeps of an open record. The first five fields are of the record and of what is open around it, the
-// others of its children that have closed. Four fields are 0 for none: each is asked for one value, which is not 0, or
-// counted on from, and of an Option the machine would ask that and that it is there.
+// others of its children that have closed. Four fields have 0 for none, and no Option: `nearest` and `marker` are only
+// compared with values that are not 0, `number` is counted on from, and `columns` is asked only under a table.
 #[derive(Clone, Copy)]
 pub(crate) struct Kept {
     // the record's number in the sheet, from 0
@@ -91,10 +91,10 @@ impl Kept {
     }
 
     // What is kept of a record once its child r has closed; this was kept before.
-    #[tactic(auto, unfolding(crate::specs::Kept::joined_by))]
-    pub(crate) fn joined(self, r: Rec) -> Kept
+    #[tactic(auto, unfolding(crate::specs::Kept::after_kid))]
+    pub(crate) fn after_kid(self, r: Rec) -> Kept
         requires { (self.kids ≤ most_kids) × (self.number ≤ most_item_mark) }
-        ensures { result ≡ joined_by self r }
+        ensures { result ≡ after_kid self r }
     {
         Kept {
             kids: self.kids + 1,

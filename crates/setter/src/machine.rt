@@ -4,7 +4,7 @@ ghost use Rattle.std.specs.Prelude.{◌≡◌, ◌*◌, ◌≤◌, length};
 ghost use Rattle.leaves.specs.Sheet.Records.{record_words, records_of};
 ghost use Rattle.leaves.specs.Refusal.Judge.{judge_sheet};
 ghost use Rattle.setter.specs.Answer.{Answers};
-ghost use Rattle.setter.specs.Setting.{after_run, setting_of};
+ghost use Rattle.setter.specs.SetOutcome.{after_run, set_outcome};
 ghost use Rattle.setter.specs.MachineRunning.{next_level};
 
 use crate::answer::{SetError, Setting};
@@ -27,8 +27,8 @@ fn next_level(sheet: &[u32], n: usize, i: usize) -> u32
 }
 
 // Opens and closes the records one after another until one stops. `open` is a stack in fixed memory, since nothing may
-// be allocated: by level what is kept of each open record, and `depth` is the innermost's level. A turn for each
-// opening and closing: a `for` over the records would need a loop of closings inside it.
+// be allocated: it has by level what is kept of each open record, and `depth` is the level of the innermost. Each turn
+// of the loop is an opening or a closing; a `for` over the records would need a loop of closings inside it.
 fn run_records(sheet: &[u32], text: &[u8], marks: &mut [u32], n: usize) -> Setting
     requires { (judge_sheet sheet.now text.now ≡ Ok tt)
         × (n ≡ records_of sheet.now)
@@ -49,7 +49,7 @@ fn run_records(sheet: &[u32], text: &[u8], marks: &mut [u32], n: usize) -> Setti
                 return Setting::Stopped(stop, k.at);
             }
             depth -= 1;
-            open[depth] = around.joined(r);
+            open[depth] = around.after_kid(r);
             continue;
         }
         let r = record_at(sheet, i);
@@ -65,9 +65,9 @@ fn run_records(sheet: &[u32], text: &[u8], marks: &mut [u32], n: usize) -> Setti
 }
 
 // Refuses a malformed sheet by number, or marks that are too few, and leaves every mark; else runs the machine.
-#[tactic(auto, unfolding(crate::specs::Setting::setting_of))]
+#[tactic(auto, unfolding(crate::specs::SetOutcome::set_outcome))]
 pub fn set(sheet: &[u32], text: &[u8], marks: &mut [u32]) -> Result<Setting, SetError>
-    ensures { Answers (setting_of sheet.now text.now marks.old)
+    ensures { Answers (set_outcome sheet.now text.now marks.old)
         result marks.new }
 {
     accept(sheet, text)?;

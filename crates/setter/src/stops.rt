@@ -15,7 +15,7 @@ use leaves::sheet::texts::text_of;
 use leaves::text::lines::holds_line_ending;
 use leaves::text::marker::written_marker;
 
-// A cell, leaf directive or container directive: no line may break inside it.
+// Whether the kind is a cell, leaf directive or container directive, whose inlines stand on one line.
 fn is_one_line(kind: u32) -> bool
     ensures { result ≡ among kind (cell ∷ leaf_directive ∷ container_directive ∷ []) }
 {

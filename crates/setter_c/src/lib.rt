@@ -1,7 +1,9 @@
 // The static library: the two functions of `setter::exports`, under the names by which C and Rust call them, with the
-// same promises. They stand in a crate of their own, since a crate is a library or a static library.
+// same promises; and the form of the interface. They stand in a crate of their own, since a crate is a library or a
+// static library.
 #![tactic(auto)]
 
+ghost use Rattle.std.specs.Prelude.{◌≡◌};
 ghost use Rattle.setter.specs.Exports.{CheckPromise, SetPromise};
 
 use setter::exports;
@@ -20,4 +22,13 @@ pub extern "C" fn reedsander_set(sheet: &[u32], text: &[u8], marks: &mut [u32]) 
     ensures { SetPromise sheet.now text.now marks.old result marks.new }
 {
     exports::reedsander_set(sheet, text, marks)
+}
+
+// The form of the interface: what the words of a record, of an entry and of an answer are. It changes its number and
+// its name when one of them does, so that a caller that names it is not linked with a library of another form.
+#[unsafe(no_mangle)]
+pub extern "C" fn reedsander_form_1() -> u32
+    ensures { result ≡ 1 }
+{
+    1
 }

@@ -9,17 +9,16 @@ use oracle::ast::{
 };
 
 /// How many functions a record of a text file answers for.
-pub const FUNCTIONS: usize = 14;
+pub const FUNCTIONS: usize = 13;
 
 /// The one function that takes bytes that are not UTF-8.
 const IS_UTF8: u16 = 1;
 
-/// The others take well-formed text, and stand at bits 1 to 13.
+/// The others take well-formed text, and stand at bits 1 to 12.
 const OF_TEXT: [fn(&str) -> bool; FUNCTIONS - 1] = [
     starts_with_white,
     ends_with_white,
     holds_line_ending,
-    is_blank,
     has_blank_edge_line,
     holds_yaml_fence_line,
     holds_toml_fence_line,
@@ -63,11 +62,6 @@ pub fn ends_with_white(text: &str) -> bool {
 /// Rule 31, for a paragraph of this text.
 pub fn holds_line_ending(text: &str) -> bool {
     reports(31, Paragraph::new([Text::new(text)]))
-}
-
-/// Spaces and tabs only, or nothing.
-pub fn is_blank(text: &str) -> bool {
-    text.trim_matches([' ', '\t']).is_empty()
 }
 
 /// Rule 27, for indented code of this value.
@@ -279,8 +273,8 @@ mod tests {
     #[test]
     fn masks() {
         assert_eq!(answers(b"\xC0\x80"), (1, 0));
-        // Blank, and so an edge line, an identifier and no title or name.
-        assert_eq!(answers(b""), (0x3FFF, 1 | 1 << 4 | 1 << 5 | 1 << 12));
-        assert_eq!(answers(b"`$").1 >> 13, 1);
+        // Blank, and so an edge line and an identifier, and no title or name.
+        assert_eq!(answers(b""), (0x1FFF, 1 | 1 << 4 | 1 << 11));
+        assert_eq!(answers(b"`$").1 >> 12, 1);
     }
 }

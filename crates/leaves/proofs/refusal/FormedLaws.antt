@@ -12,9 +12,9 @@ use lib.Dec.{eqb, ltb}
 use lib.ListN.{length}
 use Rattle.leaves.specs.Text.Utf8.{is_utf8}
 use Rattle.leaves.specs.Sheet.Records.{record_at, record_words, records_of}
-use Rattle.leaves.specs.Sheet.Forest.{none, forest_at, forest_of, under, size}
-use Rattle.leaves.specs.Refusal.Groups.{holds_blocks, parent_group}
-use Rattle.leaves.specs.Refusal.Places.{opened, joined, open_at}
+use Rattle.leaves.specs.Sheet.Forest.{no_tree, forest_at, forest_of, under, size}
+use Rattle.leaves.specs.Refusal.Groups.{parent_of_blocks, parent_group}
+use Rattle.leaves.specs.Refusal.Places.{before_children, after_child, open_at}
 use Rattle.leaves.specs.Sheet.Texts.{text_of, text_outside, text_ill_formed}
 use Rattle.leaves.specs.Refusal.Verdict.{or_else}
 use Rattle.leaves.specs.Refusal.Limits.{most_records, most_bytes}
@@ -22,20 +22,20 @@ use Rattle.leaves.specs.Refusal.Record.{level_before}
 use Rattle.leaves.specs.Refusal.Tags.{tags_from, lacks_tags}
 use Rattle.leaves.specs.Refusal.TagsPlaced.{Placed}
 use Rattle.leaves.specs.Refusal.Judge.{judge_from, judge_sheet}
-use Rattle.leaves.specs.Refusal.Formed.{Named, Head, Formed, Sound}
+use Rattle.leaves.specs.Refusal.Formed.{NamedText, Head, Formed, Sound}
 use Rattle.leaves.specs.declared.sheet.records.Text.{Text}
 use Rattle.leaves.proofs.text.TestLaws.{or_left, or_right}
 use Rattle.leaves.proofs.refusal.OpenLaws.{open-kid, open-same, open-past}
 use Rattle.leaves.proofs.refusal.PassLaws.{Passed, deep}
 use Rattle.leaves.proofs.sheet.SiblingLaws.{level-past}
-use Rattle.leaves.specs.Sheet.Siblings.{gather}
+use Rattle.leaves.specs.Sheet.Siblings.{fold_siblings}
 use Rattle.leaves.proofs.refusal.VerdictLaws.{both_first, both-second}
 use Rattle.leaves.proofs.refusal.AcceptLaws.{every-passed}
 use Rattle.leaves.proofs.refusal.TagLaws.{next_level}
 use Rattle.leaves.proofs.sheet.ForestLaws.{under-end, under-out, under-in, under-fits, all_under}
 
 -- ---- one record
-named : (bytes : List ℕ) (t : Text) → text_outside bytes t ≡ false → text_ill_formed bytes t ≡ false → Named bytes t
+named : (bytes : List ℕ) (t : Text) → text_outside bytes t ≡ false → text_ill_formed bytes t ≡ false → NamedText bytes t
 unfolding text_outside text_ill_formed
 named bytes t a b = record { inside = ltb-false _ _ a; formed = not-false (is_utf8 (text_of bytes t)) b }
 
@@ -68,15 +68,15 @@ module _ (w bytes : List ℕ) (n : ℕ) (pass : (i : ℕ) → i < n → Passed b
   formed-step i l h d u later =
       let e : (record_at w i).level ≡ l + 1 = omega arith in
       let kids-at : Formed bytes (l + 1) (open_at w (l + 1 + 1) (i + 1)) (under w n (i + 1) (l + 1)) = later (i + 1) (l + 1) (omega arith) (omega arith) (λ g. omega (arith, next_level w n placed i g)) in
-      let kids : Formed bytes (l + 1) (opened (parent_group (record_at w i).kind (record_at w i).a)) (under w n (i + 1) (record_at w i).level) = rw e (rw (open-kid w i (l + 1) e) at kids-at) in
+      let kids : Formed bytes (l + 1) (before_children (parent_group (record_at w i).kind (record_at w i).a)) (under w n (i + 1) (record_at w i).level) = rw e (rw (open-kid w i (l + 1) e) at kids-at) in
       let s = size (under w n (i + 1) (record_at w i).level) in
       let s-is : size (under w n (i + 1) (l + 1)) ≡ s = rw e refl in
-      let past : open_at w (l + 1) (i + 1 + s) ≡ joined (open_at w (l + 1) i) (record_at w i).kind = open-past w n (l + 1) s (i + 1) s-is ∙ open-same w i (l + 1) e in
+      let past : open_at w (l + 1) (i + 1 + s) ≡ after_child (open_at w (l + 1) i) (record_at w i).kind = open-past w n (l + 1) s (i + 1) s-is ∙ open-same w i (l + 1) e in
       let fits : i + 1 + s ≤ n = under-fits w n (i + 1) (record_at w i).level (omega arith) in
-      let rest : Formed bytes l (joined (open_at w (l + 1) i) (record_at w i).kind) (under w n (i + 1 + s) l) = rw past at (later (i + 1 + s) l (omega arith) fits (λ g. level-past w n (l + 1) s (i + 1) s-is g)) in
+      let rest : Formed bytes l (after_child (open_at w (l + 1) i) (record_at w i).kind) (under w n (i + 1 + s) l) = rw past at (later (i + 1 + s) l (omega arith) fits (λ g. level-past w n (l + 1) s (i + 1) s-is g)) in
       rw (under-in w n i l h d) (head i l h e, kids, rest)
 
-  formed-none : (i l : ℕ) → under w n i l ≡ none → Formed bytes l (open_at w (l + 1) i) (under w n i l)
+  formed-none : (i l : ℕ) → under w n i l ≡ no_tree → Formed bytes l (open_at w (l + 1) i) (under w n i l)
   unfolding Formed
   formed-none i l e = rw e tt
 
@@ -92,8 +92,8 @@ module _ (w bytes : List ℕ) (n : ℕ) (pass : (i : ℕ) → i < n → Passed b
   some_level : (m : ℕ) → m < n → 0 < (record_at w (0 + m)).level
   some_level m h = rw zero-add (deep (level_before w m) (record_at w m).level (pass m h).level).some
 
-  pub formed-all : Formed bytes 0 (opened holds_blocks) (forest_at w n 0)
-  unfolding open_at gather level_before
+  pub formed-all : Formed bytes 0 (before_children parent_of_blocks) (forest_at w n 0)
+  unfolding open_at fold_siblings level_before
   formed-all = rw (← all_under w n 0 some_level) (formed-from n 0 0 (omega arith) (omega arith) (λ h. (deep 0 (record_at w 0).level (pass 0 h).level).near))
 
 -- ---- the whole sheet

@@ -11,7 +11,7 @@ use Rattle.leaves.proofs.text.TestLaws.{all_below, each, and_left, and_right}
 use Rattle.leaves.specs.Sheet.Kinds.{is_kind, html_container}
 use Rattle.leaves.proofs.sheet.KindLaws.{kind-below}
 use Rattle.leaves.specs.Refusal.KindGroups.{kind_groups}
-use Rattle.leaves.specs.Refusal.Groups.{other_group, parent_group, child_group, holds_tags_and_inlines}
+use Rattle.leaves.specs.Refusal.Groups.{other_group, parent_group, child_group, parent_of_tags_and_inlines}
 
 of-parent : ℕ → ℕ
 of-parent k = get_or (get_or kind_groups k []) 0 0
@@ -32,7 +32,7 @@ any-a : (k a : ℕ) → (k ≡ html_container → ⊥) → parent_group k 0 ≡ 
 unfolding parent_group other_group
 any-a k a n = rw (ne_eqb k html_container n)
 
-pub parent-inlines : (k a : ℕ) → k ≡ html_container → (a ≡ 0 → ⊥) → holds_tags_and_inlines ≡ parent_group k a
+pub parent-inlines : (k a : ℕ) → k ≡ html_container → (a ≡ 0 → ⊥) → parent_of_tags_and_inlines ≡ parent_group k a
 unfolding parent_group other_group
 parent-inlines k a e n = rw (e, ne_eqb a 0 n)
 

@@ -14,7 +14,7 @@ use lib.ListN.{length, get_or, set, replicate, length-set}
 use lib.Seq.{get_or-set_same, get_or-set_other}
 use Rattle.leaves.specs.Sheet.Records.{record_at}
 use Rattle.leaves.specs.Refusal.Groups.{parent_group}
-use Rattle.leaves.specs.Refusal.Places.{opened, joined, open_at}
+use Rattle.leaves.specs.Refusal.Places.{before_children, after_child, open_at}
 use Rattle.leaves.specs.Refusal.Verdict.{or_else, Judged}
 use Rattle.leaves.specs.Refusal.Record.{level_before, bad_level, judge}
 use Rattle.leaves.specs.Refusal.Judge.{judge_at, judge_from}
@@ -22,7 +22,7 @@ use Rattle.leaves.specs.Refusal.Judging.{slot_of, Slot}
 use Rattle.leaves.specs.declared.sheet.records.Rec.{Rec}
 use Rattle.leaves.specs.declared.refusal.places.Open.{Open}
 use Rattle.leaves.specs.declared.refusal.verdict.Malformed.{Malformed}
-use Rattle.leaves.specs.Sheet.Siblings.{gather}
+use Rattle.leaves.specs.Sheet.Siblings.{fold_siblings}
 use Rattle.leaves.proofs.refusal.OpenLaws.{open-kid, open-same, open_above}
 use Rattle.leaves.proofs.refusal.VerdictLaws.{or-first, or-second}
 use Rattle.leaves.proofs.refusal.PassLaws.{Passed, passed, Deep, deep, blind}
@@ -47,8 +47,8 @@ pub record Kept (w : List ℕ) (i before : ℕ) (os : List Open) : Type 0 where
   pub long : length os ≡ 66
   pub each : (l : ℕ) → l ≤ before → get_or os (l + 1) closed ≡ open_at w (l + 1) i
 
-pub kept-start : (w : List ℕ) {o : Open} → o ≡ opened 0 → Kept w 0 0 (replicate 66 o)
-unfolding level_before opened open_at gather
+pub kept-start : (w : List ℕ) {o : Open} → o ≡ before_children 0 → Kept w 0 0 (replicate 66 o)
+unfolding level_before before_children open_at fold_siblings
 kept-start w e =
     record {
       is = refl;
@@ -73,7 +73,7 @@ module _ (w bytes : List ℕ) (i before : ℕ) (os : List Open) (k : Kept w i be
       go false h = rw (slot-open (deep before (record_at w i).level h))
 
   -- the states after a record that passed
-  module _ (d : Deep before (record_at w i).level) {p q : Open} (ep : p ≡ joined (open_at w (record_at w i).level i) (record_at w i).kind) (eq : q ≡ opened (parent_group (record_at w i).kind (record_at w i).a)) where
+  module _ (d : Deep before (record_at w i).level) {p q : Open} (ep : p ≡ after_child (open_at w (record_at w i).level i) (record_at w i).kind) (eq : q ≡ before_children (parent_group (record_at w i).kind (record_at w i).a)) where
     each_next : (l : ℕ) → l ≤ (record_at w i).level → get_or (set (set os (record_at w i).level p) ((record_at w i).level + 1) q) (l + 1) closed ≡ open_at w (l + 1) (i + 1)
     each_next l h = go (eqb l (record_at w i).level) (eqb (l + 1) (record_at w i).level) refl refl
       where
@@ -96,13 +96,13 @@ module _ (w bytes : List ℕ) (i before : ℕ) (os : List Open) (k : Kept w i be
     next-kept = record { is = rw (add-one i) refl; most = d.most; long = simp length-set k.long; each = each_next }
 
   -- the same by what the calls answered
-  pub kept_next : {r : Rec} {p q : Open} {slot : ℕ} {g : ℕ} → q ≡ opened g → g ≡ parent_group r.kind r.a → p ≡ joined (get_or os slot closed) r.kind → slot ≡ slot_of r.level → r ≡ record_at w i → Passed bytes r before (get_or os slot closed) → Kept w (i + 1) r.level (set (set os slot p) (slot + 1) q)
+  pub kept_next : {r : Rec} {p q : Open} {slot : ℕ} {g : ℕ} → q ≡ before_children g → g ≡ parent_group r.kind r.a → p ≡ after_child (get_or os slot closed) r.kind → slot ≡ slot_of r.level → r ≡ record_at w i → Passed bytes r before (get_or os slot closed) → Kept w (i + 1) r.level (set (set os slot p) (slot + 1) q)
   kept_next {r} {p} {q} {slot} {g} eq eg ep f e c =
       let d : Deep before (record_at w i).level = rw e at (deep before r.level c.level) in
       let s : slot ≡ slot_of (record_at w i).level = rw e at f in
       let at_slot : slot ≡ (record_at w i).level = s ∙ sym (slot-in (record_at w i).level d.most) in
-      let p' : p ≡ joined (open_at w (record_at w i).level i) (record_at w i).kind = ep ∙ rw (s, e, slot-open d) refl in
-      let q' : q ≡ opened (parent_group (record_at w i).kind (record_at w i).a) = eq ∙ rw (eg, e) refl in
+      let p' : p ≡ after_child (open_at w (record_at w i).level i) (record_at w i).kind = ep ∙ rw (s, e, slot-open d) refl in
+      let q' : q ≡ before_children (parent_group (record_at w i).kind (record_at w i).a) = eq ∙ rw (eg, e) refl in
       rw (e, at_slot) (next-kept d p' q')
 
 -- ---- the loop over the records: what is left decides the whole
@@ -115,7 +115,7 @@ from_step : (w bytes : List ℕ) (n i : ℕ) → i < n → judge_from w bytes (n
 unfolding judge_from
 from_step w bytes n i h = let e : n - i ≡ suc (n - (i + 1)) = omega arith in rw (e, add-one i)
 
-pub judging-start : (w bytes : List ℕ) (n : ℕ) {o : Open} → o ≡ opened 0 → Judging w bytes n 0 0 (replicate 66 o)
+pub judging-start : (w bytes : List ℕ) (n : ℕ) {o : Open} → o ≡ before_children 0 → Judging w bytes n 0 0 (replicate 66 o)
 judging-start w bytes n e = record { within = omega arith; same = rw sub-zero; kept = kept-start w e }
 
 module _ (w bytes : List ℕ) (n i before : ℕ) (os : List Open) (h : i < n) (v : Judging w bytes n i before os) {j : Judged} {r : Rec} {slot : ℕ} (ej : j ≡ judge bytes i r before (get_or os slot closed)) (er : r ≡ record_at w i) (es : slot ≡ slot_of r.level) where
@@ -125,7 +125,7 @@ module _ (w bytes : List ℕ) (n i before : ℕ) (os : List Open) (h : i < n) (v
   pub judging-passed : {u : Unit {0}} → j ≡ Ok u → Passed bytes r before (get_or os slot closed)
   judging-passed e = passed bytes i r before (get_or os slot closed) (rw (← ej, e))
 
-  pub judging-turn : {u : Unit {0}} {p q : Open} {g : ℕ} → j ≡ Ok u → q ≡ opened g → g ≡ parent_group r.kind r.a → p ≡ joined (get_or os slot closed) r.kind → Judging w bytes n (i + 1) r.level (set (set os slot p) (slot + 1) q)
+  pub judging-turn : {u : Unit {0}} {p q : Open} {g : ℕ} → j ≡ Ok u → q ≡ before_children g → g ≡ parent_group r.kind r.a → p ≡ after_child (get_or os slot closed) r.kind → Judging w bytes n (i + 1) r.level (set (set os slot p) (slot + 1) q)
   judging-turn e eq eg ep =
       record {
         within = omega arith;

@@ -6,29 +6,29 @@ use Rattle.leaves.specs.Sheet.Records.{record_at}
 use Rattle.leaves.specs.Sheet.Forest.{under, size}
 use Rattle.leaves.specs.declared.sheet.records.Rec.{Rec}
 use Rattle.leaves.proofs.sheet.SiblingLaws.{gather-kid, gather-next, gather-deeper, gather-past}
-use Rattle.leaves.specs.Refusal.Groups.{holds_blocks, parent_group}
-use Rattle.leaves.specs.Refusal.Places.{opened, joined, open_at}
+use Rattle.leaves.specs.Refusal.Groups.{parent_of_blocks, parent_group}
+use Rattle.leaves.specs.Refusal.Places.{before_children, after_child, open_at}
 use Rattle.leaves.specs.declared.refusal.places.Open.{Open}
 
 abbrev under-record : Rec → Open
-under-record r = opened (parent_group r.kind r.a)
+under-record r = before_children (parent_group r.kind r.a)
 
 abbrev after-child : Open → Rec → Open
-after-child o r = joined o r.kind
+after-child o r = after_child o r.kind
 
 module _ (w : List ℕ) (i l : ℕ) where
-  pub open-kid : (record_at w i).level ≡ l → open_at w (l + 1) (i + 1) ≡ opened (parent_group (record_at w i).kind (record_at w i).a)
+  pub open-kid : (record_at w i).level ≡ l → open_at w (l + 1) (i + 1) ≡ before_children (parent_group (record_at w i).kind (record_at w i).a)
   unfolding open_at
-  open-kid = gather-kid (opened holds_blocks) under-record after-child w i l
+  open-kid = gather-kid (before_children parent_of_blocks) under-record after-child w i l
 
-  pub open-same : (record_at w i).level ≡ l → open_at w l (i + 1) ≡ joined (open_at w l i) (record_at w i).kind
+  pub open-same : (record_at w i).level ≡ l → open_at w l (i + 1) ≡ after_child (open_at w l i) (record_at w i).kind
   unfolding open_at
-  open-same = gather-next (opened holds_blocks) under-record after-child w i l
+  open-same = gather-next (before_children parent_of_blocks) under-record after-child w i l
 
   pub open_above : l < (record_at w i).level → open_at w l (i + 1) ≡ open_at w l i
   unfolding open_at
-  open_above = gather-deeper (opened holds_blocks) under-record after-child w i l
+  open_above = gather-deeper (before_children parent_of_blocks) under-record after-child w i l
 
 pub open-past : (w : List ℕ) (n m s j : ℕ) → size (under w n j m) ≡ s → open_at w m (j + s) ≡ open_at w m j
 unfolding open_at
-open-past w n m s j = gather-past (opened holds_blocks) under-record after-child w n m s j
+open-past w n m s j = gather-past (before_children parent_of_blocks) under-record after-child w n m s j

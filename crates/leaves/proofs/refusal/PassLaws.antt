@@ -1,5 +1,5 @@
 -- What passing the tests says of a record.
-use Rattle.std.specs.Prelude.{Err, Ok, is_ok}
+use Rattle.std.specs.Prelude.{Err, Ok, is_ok, if◌then◌else◌}
 use mathlib.Core.Path.{◌≡◌, refl}
 use mathlib.Core.Bool.{Bool, true, false, not, ◌||◌, false≢true}
 use mathlib.Core.List.{List}
@@ -7,7 +7,6 @@ use Prim.Native.Nat.{ℕ, ◌+◌, ◌<◌, ◌≤◌}
 use native.Mathlib.Omega.{arith}
 use borrow.Author.Tests.{ltb-false, eqb-false}
 use lib.Dec.{eqb, ltb}
-use Rattle.leaves.specs.Text.Lists.{when◌then◌else◌}
 use Rattle.leaves.specs.Sheet.Kinds.{is_kind}
 use Rattle.leaves.specs.Refusal.Places.{misplaced}
 use Rattle.leaves.specs.Refusal.Fields.{bad_field}
@@ -30,7 +29,7 @@ pub passed : (bytes : List ℕ) (i : ℕ) (r : Rec) (before : ℕ) (o : Open) �
 unfolding judge judge_texts
 passed bytes i r before o = go (is_kind r.kind) (bad_level before r.level) (misplaced o r.kind) (bad_field r) (text_outside bytes r.first || text_outside bytes r.second) (text_ill_formed bytes r.first || text_ill_formed bytes r.second) refl refl refl refl refl refl
   where
-    go : (k l m f t u : Bool) → is_kind r.kind ≡ k → bad_level before r.level ≡ l → misplaced o r.kind ≡ m → bad_field r ≡ f → (text_outside bytes r.first || text_outside bytes r.second) ≡ t → (text_ill_formed bytes r.first || text_ill_formed bytes r.second) ≡ u → is_ok {T = Unit {0}} (when not k then Err (UnknownKind i) else when l then Err (BadLevel i) else when m then Err (Misplaced i) else when f then Err (BadField i) else when t then Err (TextOutside i) else when u then Err (NotUtf8 i) else Ok tt) ≡ true → Passed bytes r before o
+    go : (k l m f t u : Bool) → is_kind r.kind ≡ k → bad_level before r.level ≡ l → misplaced o r.kind ≡ m → bad_field r ≡ f → (text_outside bytes r.first || text_outside bytes r.second) ≡ t → (text_ill_formed bytes r.first || text_ill_formed bytes r.second) ≡ u → is_ok {T = Unit {0}} (if not k then Err (UnknownKind i) else if l then Err (BadLevel i) else if m then Err (Misplaced i) else if f then Err (BadField i) else if t then Err (TextOutside i) else if u then Err (NotUtf8 i) else Ok tt) ≡ true → Passed bytes r before o
     go false l m f t u a b c d e g h = absurd (false≢true h)
     go true true m f t u a b c d e g h = absurd (false≢true h)
     go true false true f t u a b c d e g h = absurd (false≢true h)

@@ -10,7 +10,7 @@ use lib.ListN.{get_or}
 use borrow.Author.Tests.{eqb-true, ltb-true, leb-false, ne_eqb}
 use Rattle.leaves.proofs.text.TestLaws.{all_below, each, and_left, and_right, or_left, or_right}
 use Rattle.leaves.specs.Sheet.Kinds.{html_tag}
-use Rattle.leaves.specs.Refusal.Groups.{holds_tags_and_blocks, holds_tags_and_inlines}
+use Rattle.leaves.specs.Refusal.Groups.{parent_of_tags_and_blocks, parent_of_tags_and_inlines}
 use Rattle.leaves.specs.Refusal.PlaceTable.{place_table}
 use Rattle.leaves.specs.Refusal.Places.{holds, place_in, place_of, misplaced}
 use Rattle.leaves.specs.declared.refusal.places.Open.{Open}
@@ -71,7 +71,7 @@ unfolding misplaced
 few-tags o kind h e =
     let place = place_of o.group kind in
     let third = eqb kind html_tag && leb 2 o.tags in
-    let first : (eqb place 0 || ltb place o.stage || third) ≡ false = or_left _ ((eqb o.group holds_tags_and_blocks || eqb o.group holds_tags_and_inlines) && not (eqb kind html_tag) && ltb o.tags 2) h in
+    let first : (eqb place 0 || ltb place o.stage || third) ≡ false = or_left _ ((eqb o.group parent_of_tags_and_blocks || eqb o.group parent_of_tags_and_inlines) && not (eqb kind html_tag) && ltb o.tags 2) h in
     let none : third ≡ false = or_right (eqb place 0 || ltb place o.stage) third first in
     leb-false 2 o.tags (rw e at none)
 

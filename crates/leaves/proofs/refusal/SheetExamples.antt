@@ -8,10 +8,10 @@ use Rattle.leaves.specs.Text.Part.{part_of}
 use Rattle.leaves.specs.Text.Utf8.{is_utf8, well_formed, follow}
 use Rattle.leaves.specs.Sheet.Kinds.{paragraph, heading, thematic_break, block_quote, alert, list, code_block, html_block, html_container, definition, footnote_definition, table, math_block, frontmatter, leaf_directive, container_directive, blank_line, item, row, cell, html_tag, attribute, text, escape, character_reference, emphasis, strong, delete, mark, shortcode, code, link, autolink, image, link_reference, image_reference, html, soft_break, line_break, math, footnote_reference, inline_footnote, wiki_link, text_directive, tag}
 use Rattle.leaves.specs.Sheet.Records.{record_at}
-use Rattle.leaves.specs.Sheet.Siblings.{gather}
-use Rattle.leaves.specs.Sheet.Forest.{deeper, past, grow, forest_at, count_kind}
+use Rattle.leaves.specs.Sheet.Siblings.{fold_siblings}
+use Rattle.leaves.specs.Sheet.Forest.{deeper, after_deeper, grow, forest_at, count_kind}
 use Rattle.leaves.specs.Refusal.Groups.{parent_group, other_group, child_group}
-use Rattle.leaves.specs.Refusal.Places.{holds, place_in, place_of, opened, joined, misplaced, open_at}
+use Rattle.leaves.specs.Refusal.Places.{holds, place_in, place_of, before_children, after_child, misplaced, open_at}
 use Rattle.leaves.specs.Refusal.Fields.{most_a, most_b, most_c, has_first, has_second, bad_text, bad_span, is_surrogate, bad_number, bad_field}
 use Rattle.leaves.specs.Sheet.Texts.{text_of, text_outside, text_ill_formed}
 use Rattle.leaves.specs.Refusal.Verdict.{answer, refusal_answer, or_else, Judged}
@@ -22,7 +22,7 @@ use Rattle.leaves.specs.declared.refusal.verdict.Malformed.TheVariants.{OddSheet
 
 -- the answer; a declaration that unfolds this unfolds all that the answer computes with
 computed : List ℕ → List ℕ → Judged
-unfolding judge_sheet or_else judge_from judge_at judge judge_texts level_before bad_level tags_from lacks_tags record_at deeper past grow forest_at count_kind misplaced open_at gather opened joined parent_group other_group child_group holds place_in place_of bad_field bad_number most_a most_b most_c is_surrogate bad_span has_first has_second bad_text text_outside text_ill_formed text_of part_of is_utf8 well_formed follow Rattle.leaves.specs.Text.Utf8.table_3_7
+unfolding judge_sheet or_else judge_from judge_at judge judge_texts level_before bad_level tags_from lacks_tags record_at deeper after_deeper grow forest_at count_kind misplaced open_at fold_siblings before_children after_child parent_group other_group child_group holds place_in place_of bad_field bad_number most_a most_b most_c is_surrogate bad_span has_first has_second bad_text text_outside text_ill_formed text_of part_of is_utf8 well_formed follow Rattle.leaves.specs.Text.Utf8.table_3_7
 computed w bytes = judge_sheet w bytes
 
 -- ---- records, a word at a time: kind, level; span; A, B, C; texts

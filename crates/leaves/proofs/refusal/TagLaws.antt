@@ -1,5 +1,5 @@
 -- Refusal 10: once the records are placed, a container's tags are the two records after it.
-use Rattle.std.specs.Prelude.{Err, Ok}
+use Rattle.std.specs.Prelude.{Err, Ok, if◌then◌else◌}
 use mathlib.Core.Path.{◌≡◌, refl, sym, ap, ◌∙◌}
 use mathlib.Core.Bool.{Bool, true, false, not, ◌&&◌, ◌||◌, true≢false, and-false, and-true}
 use mathlib.Core.List.{List}
@@ -10,12 +10,11 @@ use native.Mathlib.Omega.{arith}
 use borrow.Author.Rules.{rules}
 use borrow.Author.Tests.{not-false, le-ltb, ltb-true, ltb-false, eq-eqb, ne_eqb, eqb-true}
 use lib.Dec.{eqb, ltb, leb}
-use Rattle.leaves.specs.Text.Lists.{when◌then◌else◌}
 use Rattle.leaves.specs.Sheet.Kinds.{html_container, html_tag}
 use Rattle.leaves.specs.Sheet.Records.{record_at}
-use Rattle.leaves.specs.Sheet.Forest.{Forest, none, tree, under, size, count_kind}
-use Rattle.leaves.specs.Refusal.Groups.{holds_tags_and_blocks, holds_tags_and_inlines, parent_group, other_group}
-use Rattle.leaves.specs.Refusal.Places.{holds, place_in, place_of, opened, joined, misplaced, open_at}
+use Rattle.leaves.specs.Sheet.Forest.{Forest, no_tree, tree, under, size, count_kind}
+use Rattle.leaves.specs.Refusal.Groups.{parent_of_tags_and_blocks, parent_of_tags_and_inlines, parent_group, other_group}
+use Rattle.leaves.specs.Refusal.Places.{holds, place_in, place_of, before_children, after_child, misplaced, open_at}
 use Rattle.leaves.specs.Refusal.Record.{level_before}
 use Rattle.leaves.specs.Refusal.Tags.{lacks_tags, tags_from}
 use Rattle.leaves.specs.Refusal.TagsPlaced.{Placed, tag_under}
@@ -28,29 +27,29 @@ use Rattle.leaves.proofs.refusal.PassLaws.{Deep, deep}
 use Rattle.leaves.proofs.sheet.ForestLaws.{under-end, under-out, under-in}
 
 -- ---- what may stand in a container
-pub container-group : (a : ℕ) → (eqb (parent_group html_container a) holds_tags_and_blocks || eqb (parent_group html_container a) holds_tags_and_inlines) ≡ true
+pub container-group : (a : ℕ) → (eqb (parent_group html_container a) parent_of_tags_and_blocks || eqb (parent_group html_container a) parent_of_tags_and_inlines) ≡ true
 unfolding parent_group other_group
 container-group a = go (eqb a 0) refl
   where
-    go : (t : Bool) → eqb a 0 ≡ t → (eqb (parent_group html_container a) holds_tags_and_blocks || eqb (parent_group html_container a) holds_tags_and_inlines) ≡ true
+    go : (t : Bool) → eqb a 0 ≡ t → (eqb (parent_group html_container a) parent_of_tags_and_blocks || eqb (parent_group html_container a) parent_of_tags_and_inlines) ≡ true
     go true e = rw e
     go false e = rw e
 
 -- under a container with fewer than two tags only a tag is not misplaced
-pub container-tag : (o : Open) (k : ℕ) → (eqb o.group holds_tags_and_blocks || eqb o.group holds_tags_and_inlines) ≡ true → ltb o.tags 2 ≡ true → misplaced o k ≡ false → eqb k html_tag ≡ true
+pub container-tag : (o : Open) (k : ℕ) → (eqb o.group parent_of_tags_and_blocks || eqb o.group parent_of_tags_and_inlines) ≡ true → ltb o.tags 2 ≡ true → misplaced o k ≡ false → eqb k html_tag ≡ true
 unfolding misplaced
 container-tag o k c t h =
     let place = place_of o.group k in
-    let last : ((eqb o.group holds_tags_and_blocks || eqb o.group holds_tags_and_inlines) && not (eqb k html_tag) && ltb o.tags 2) ≡ false = or_right (eqb place 0 || ltb place o.stage || eqb k html_tag && leb 2 o.tags) _ h in
+    let last : ((eqb o.group parent_of_tags_and_blocks || eqb o.group parent_of_tags_and_inlines) && not (eqb k html_tag) && ltb o.tags 2) ≡ false = or_right (eqb place 0 || ltb place o.stage || eqb k html_tag && leb 2 o.tags) _ h in
     not-false (eqb k html_tag) (rw (c, t, and-true) at last)
 
 -- nothing may stand under a tag
-pub nothing-under : (a k : ℕ) → misplaced (opened (parent_group html_tag a)) k ≡ false → ⊥
-unfolding misplaced opened parent_group other_group place_of holds place_in
+pub nothing-under : (a k : ℕ) → misplaced (before_children (parent_group html_tag a)) k ≡ false → ⊥
+unfolding misplaced before_children parent_group other_group place_of holds place_in
 nothing-under a k h = true≢false h
 
 -- ---- counting
-count_none : (k : ℕ) → count_kind k none ≡ 0
+count_none : (k : ℕ) → count_kind k no_tree ≡ 0
 unfolding count_kind
 count_none k = refl
 
@@ -87,7 +86,7 @@ module _ (w : List ℕ) (n : ℕ) (p : Placed w n) where
   next_level i h = rw (level-after i) at (at_level (i + 1) h).near
 
   -- the record after a record and deeper is its first child
-  first-child : (i : ℕ) → i + 1 < n → (record_at w i).level < (record_at w (i + 1)).level → misplaced (opened (parent_group (record_at w i).kind (record_at w i).a)) (record_at w (i + 1)).kind ≡ false
+  first-child : (i : ℕ) → i + 1 < n → (record_at w i).level < (record_at w (i + 1)).level → misplaced (before_children (parent_group (record_at w i).kind (record_at w i).a)) (record_at w (i + 1)).kind ≡ false
   first-child i h d =
       let e : (record_at w (i + 1)).level ≡ (record_at w i).level + 1 = omega (arith, next_level i h) in
       rw (e, open-kid w i (record_at w i).level refl) at (p.place (i + 1) h)
@@ -103,10 +102,10 @@ module _ (w : List ℕ) (n : ℕ) (p : Placed w n) where
       go false a = ltb-false _ _ a
       go true a = absurd (nothing-under (record_at w i).a (record_at w (i + 1)).kind (rw group at (first-child i h (ltb-true _ _ a))))
 
-  tag-alone : (i : ℕ) → (record_at w i).kind ≡ html_tag → under w n (i + 1) (record_at w i).level ≡ none
+  tag-alone : (i : ℕ) → (record_at w i).kind ≡ html_tag → under w n (i + 1) (record_at w i).level ≡ no_tree
   tag-alone i e = go (ltb (i + 1) n) refl
     where
-      go : (t : Bool) → ltb (i + 1) n ≡ t → under w n (i + 1) (record_at w i).level ≡ none
+      go : (t : Bool) → ltb (i + 1) n ≡ t → under w n (i + 1) (record_at w i).level ≡ no_tree
       go false a = under-end w n (i + 1) (record_at w i).level (ltb-false _ _ a)
       go true a = under-out w n (i + 1) (record_at w i).level (ltb-true _ _ a) (tag-flat i e (ltb-true _ _ a))
 
@@ -116,26 +115,26 @@ module _ (w : List ℕ) (n : ℕ) (p : Placed w n) where
     group = ap (λ k. parent_group k (record_at w i).a) c
 
     first-tag : i + 1 < n → (record_at w i).level < (record_at w (i + 1)).level → (record_at w (i + 1)).kind ≡ html_tag
-    unfolding opened
-    first-tag h d = eqb-true _ _ (container-tag (opened (parent_group html_container (record_at w i).a)) (record_at w (i + 1)).kind (container-group (record_at w i).a) refl (rw group at (first-child i h d)))
+    unfolding before_children
+    first-tag h d = eqb-true _ _ (container-tag (before_children (parent_group html_container (record_at w i).a)) (record_at w (i + 1)).kind (container-group (record_at w i).a) refl (rw group at (first-child i h d)))
 
     module _ (h : i + 1 < n) (d : (record_at w i).level < (record_at w (i + 1)).level) where
       deeper-by-one : (record_at w (i + 1)).level ≡ (record_at w i).level + 1
       deeper-by-one = omega (arith, next_level i h)
 
       second-tag : i + 1 + 1 < n → (record_at w i).level < (record_at w (i + 1 + 1)).level → (record_at w (i + 1 + 1)).kind ≡ html_tag
-      unfolding opened joined
+      unfolding before_children after_child
       second-tag h2 d2 =
           let e : (record_at w (i + 1 + 1)).level ≡ (record_at w i).level + 1 = omega (arith, tag-flat (i + 1) (first-tag h d) h2, deeper-by-one) in
-          let o : open_at w ((record_at w i).level + 1) (i + 1 + 1) ≡ joined (opened (parent_group html_container (record_at w i).a)) html_tag = open-same w (i + 1) ((record_at w i).level + 1) deeper-by-one ∙ rw (open-kid w i (record_at w i).level refl, group) (ap (joined (opened (parent_group html_container (record_at w i).a))) (first-tag h d)) in
-          eqb-true _ _ (container-tag (joined (opened (parent_group html_container (record_at w i).a)) html_tag) (record_at w (i + 1 + 1)).kind (container-group (record_at w i).a) refl (rw (e, o) at (p.place (i + 1 + 1) h2)))
+          let o : open_at w ((record_at w i).level + 1) (i + 1 + 1) ≡ after_child (before_children (parent_group html_container (record_at w i).a)) html_tag = open-same w (i + 1) ((record_at w i).level + 1) deeper-by-one ∙ rw (open-kid w i (record_at w i).level refl, group) (ap (after_child (before_children (parent_group html_container (record_at w i).a))) (first-tag h d)) in
+          eqb-true _ _ (container-tag (after_child (before_children (parent_group html_container (record_at w i).a)) html_tag) (record_at w (i + 1 + 1)).kind (container-group (record_at w i).a) refl (rw (e, o) at (p.place (i + 1 + 1) h2)))
 
-      kids : under w n (i + 1) (record_at w i).level ≡ tree (record_at w (i + 1)) none (under w n (i + 1 + 1) (record_at w i).level)
+      kids : under w n (i + 1) (record_at w i).level ≡ tree (record_at w (i + 1)) no_tree (under w n (i + 1 + 1) (record_at w i).level)
       unfolding size
       kids = under-in w n (i + 1) (record_at w i).level h d ∙ rw (tag-alone (i + 1) (first-tag h d), add-zero)
 
       count-first : count_kind html_tag (under w n (i + 1) (record_at w i).level) ≡ suc (count_kind html_tag (under w n (i + 1 + 1) (record_at w i).level))
-      count-first = rw kids (count-one html_tag (record_at w (i + 1)) none _ (first-tag h d))
+      count-first = rw kids (count-one html_tag (record_at w (i + 1)) no_tree _ (first-tag h d))
 
       second-count : not (tag_under w n (i + 1 + 1) (record_at w i).level) ≡ ltb (suc (count_kind html_tag (under w n (i + 1 + 1) (record_at w i).level))) 2
       second-count = go (ltb (i + 1 + 1) n) (ltb (record_at w i).level (record_at w (i + 1 + 1)).level) refl refl
@@ -185,7 +184,7 @@ pub record Tagging (w : List ℕ) (n i : ℕ) : Type 0 where
 pub tagging-start : (w : List ℕ) (n : ℕ) → Tagging w n 0
 tagging-start w n = record { within = omega arith; same = rw sub-zero }
 
-tags-step : (w : List ℕ) (n i : ℕ) → i < n → tags_from w n (n - i) i ≡ (when lacks_tags w n i then Err (TagsMissing i) else tags_from w n (n - (i + 1)) (i + 1))
+tags-step : (w : List ℕ) (n i : ℕ) → i < n → tags_from w n (n - i) i ≡ (if lacks_tags w n i then Err (TagsMissing i) else tags_from w n (n - (i + 1)) (i + 1))
 unfolding tags_from
 tags-step w n i h = let e : n - i ≡ suc (n - (i + 1)) = omega arith in rw (e, add-one i)
 

@@ -3,8 +3,8 @@ use mathlib.Core.Path.{◌≡◌, refl}
 use mathlib.Core.Bool.{true, false}
 use mathlib.Core.List.{[], ◌∷◌, ◌++◌}
 use Rattle.leaves.specs.declared.sheet.records.Span.{Span}
-use Rattle.leaves.specs.Report.Entries.{Entry, words, flat, ◌⊕◌, list_if, start, after, put, fitting, entries_in}
-use Rattle.leaves.specs.Text.Lists.{over}
+use Rattle.leaves.specs.Report.Entries.{Entry, words, flat, ◌⊕◌, list_if, empty_tally, after, put, fitting, entries_in}
+use Rattle.leaves.specs.Text.Over.{over}
 
 abbrev nowhere : Span
 nowhere = record { flag = 0; start = 0; end = 0 }
@@ -26,17 +26,17 @@ unfolding flat words ◌⊕◌
 two-words = refl
 
 -- a report of 11 words has room for the first and none for the second: its words past the first stay
-second_short : put (21 ∷ 22 ∷ 23 ∷ 24 ∷ 25 ∷ 26 ∷ 27 ∷ 28 ∷ 29 ∷ 30 ∷ 31 ∷ []) start (depth ∷ empty ∷ []) ≡ 10 ∷ 0 ∷ 0 ∷ 0 ∷ 1 ∷ 0 ∷ 27 ∷ 28 ∷ 29 ∷ 30 ∷ 31 ∷ []
+second_short : put (21 ∷ 22 ∷ 23 ∷ 24 ∷ 25 ∷ 26 ∷ 27 ∷ 28 ∷ 29 ∷ 30 ∷ 31 ∷ []) empty_tally (depth ∷ empty ∷ []) ≡ 10 ∷ 0 ∷ 0 ∷ 0 ∷ 1 ∷ 0 ∷ 27 ∷ 28 ∷ 29 ∷ 30 ∷ 31 ∷ []
 unfolding put over words
 second_short = refl
 
 -- one of 13 words holds both, and one of 14 keeps its last word
-both-fit : (put (21 ∷ 22 ∷ 23 ∷ 24 ∷ 25 ∷ 26 ∷ 27 ∷ 28 ∷ 29 ∷ 30 ∷ 31 ∷ 32 ∷ 33 ∷ []) start (depth ∷ empty ∷ []) ≡ flat (depth ∷ empty ∷ [])) × (put (21 ∷ 22 ∷ 23 ∷ 24 ∷ 25 ∷ 26 ∷ 27 ∷ 28 ∷ 29 ∷ 30 ∷ 31 ∷ 32 ∷ 33 ∷ 34 ∷ []) start (depth ∷ empty ∷ []) ≡ flat (depth ∷ empty ∷ []) ++ 34 ∷ [])
+both-fit : (put (21 ∷ 22 ∷ 23 ∷ 24 ∷ 25 ∷ 26 ∷ 27 ∷ 28 ∷ 29 ∷ 30 ∷ 31 ∷ 32 ∷ 33 ∷ []) empty_tally (depth ∷ empty ∷ []) ≡ flat (depth ∷ empty ∷ [])) × (put (21 ∷ 22 ∷ 23 ∷ 24 ∷ 25 ∷ 26 ∷ 27 ∷ 28 ∷ 29 ∷ 30 ∷ 31 ∷ 32 ∷ 33 ∷ 34 ∷ []) empty_tally (depth ∷ empty ∷ []) ≡ flat (depth ∷ empty ∷ []) ++ 34 ∷ [])
 unfolding put over words flat
 both-fit = (refl, refl)
 
 -- what does not fit is counted all the same, and what follows it is not written, though it would fit
-counted-all : (after start (depth ∷ empty ∷ []) ≡ record { words = 13; entries = 2 }) × (put (21 ∷ 22 ∷ 23 ∷ 24 ∷ 25 ∷ 26 ∷ []) start (empty ∷ depth ∷ []) ≡ 21 ∷ 22 ∷ 23 ∷ 24 ∷ 25 ∷ 26 ∷ []) × (fitting 12 (depth ∷ empty ∷ []) ≡ depth ∷ []) × (fitting 13 (depth ∷ empty ∷ []) ≡ depth ∷ empty ∷ [])
+counted-all : (after empty_tally (depth ∷ empty ∷ []) ≡ record { words = 13; entries = 2 }) × (put (21 ∷ 22 ∷ 23 ∷ 24 ∷ 25 ∷ 26 ∷ []) empty_tally (empty ∷ depth ∷ []) ≡ 21 ∷ 22 ∷ 23 ∷ 24 ∷ 25 ∷ 26 ∷ []) × (fitting 12 (depth ∷ empty ∷ []) ≡ depth ∷ []) × (fitting 13 (depth ∷ empty ∷ []) ≡ depth ∷ empty ∷ [])
 unfolding after put over words fitting
 counted-all = (refl, refl, refl, refl)
 

@@ -12,8 +12,9 @@ use borrow.Author.Rules.{rules}
 use borrow.Author.Tests.{leb-true, leb-false, le-leb, lt-leb}
 use borrow.Rule.Slice.PartMut.{put_mid}
 use Rattle.leaves.specs.declared.sheet.records.Span.{Span}
-use Rattle.leaves.specs.Report.Entries.{Entry, words, head_words, flat, ◌⊕◌, list_if, cap, capped, start, counted, after, put, Lists, fitting, entries_in}
-use Rattle.leaves.specs.Text.Lists.{when◌then◌else◌, over}
+use Rattle.leaves.specs.Report.Entries.{Entry, words, head_words, flat, ◌⊕◌, list_if, cap, capped, empty_tally, counted, after, put, WritesEntries, fitting, entries_in}
+use Rattle.std.specs.Prelude.{if◌then◌else◌}
+use Rattle.leaves.specs.Text.Over.{over}
 use Rattle.leaves.specs.declared.report.entries.Tally.{Tally}
 use Rattle.leaves.proofs.text.OverLaws.{length_over, over-fits, over-nil, over-not, over-two}
 
@@ -35,7 +36,7 @@ pub length-join : (es fs : List Entry) → length (es ⊕ fs) ≡ length es + le
 unfolding ◌⊕◌
 length-join es fs = length-append es fs
 
-pub length-if : (b : Bool) (rule : ℕ) (span : Span) (path : List ℕ) → length (list_if b rule span path) ≡ (when b then 1 else 0)
+pub length-if : (b : Bool) (rule : ℕ) (span : Span) (path : List ℕ) → length (list_if b rule span path) ≡ (if b then 1 else 0)
 unfolding list_if
 length-if true rule span path = refl
 length-if false rule span path = refl
@@ -55,11 +56,11 @@ unfolding after put ◌⊕◌
 put-append w s [] fs = refl
 put-append w s (e ∷ es) fs = put-append (over w s.words (words e)) (counted s (length (words e))) es fs
 
-pub lists-none : {s : Tally} {x : List ℕ} → Lists s s x x []
+pub lists-none : {s : Tally} {x : List ℕ} → WritesEntries s s x x []
 unfolding after put
 lists-none = record { tally = refl; written = refl }
 
-pub lists-then : {s t u : Tally} {x y z : List ℕ} {es fs : List Entry} → Lists s t x y es → Lists t u y z fs → Lists s u x z (es ⊕ fs)
+pub lists-then : {s t u : Tally} {x y z : List ℕ} {es fs : List Entry} → WritesEntries s t x y es → WritesEntries t u y z fs → WritesEntries s u x z (es ⊕ fs)
 lists-then {s} {x = x} {es = es} {fs} a b =
     record {
       tally = rw (after-append s es fs, ← a.tally) b.tally;
@@ -133,25 +134,25 @@ few-entries (e ∷ es) = simp length-append (omega (arith, few-entries es, some_
 
 -- the tally of a whole list: its words and its entries, up to the cap
 module _ (es : List Entry) where
-  pub words-counted : (after start es).words ≡ min cap (length (flat es))
-  words-counted = after-words start es (omega arith) ∙ rw zero-add
+  pub words-counted : (after empty_tally es).words ≡ min cap (length (flat es))
+  words-counted = after-words empty_tally es (omega arith) ∙ rw zero-add
 
-  pub entries-counted : (after start es).entries ≡ min cap (length es)
-  entries-counted = after-entries start es (omega arith) ∙ rw zero-add
+  pub entries-counted : (after empty_tally es).entries ≡ min cap (length es)
+  entries-counted = after-entries empty_tally es (omega arith) ∙ rw zero-add
 
   -- a report is short just where the list has more words than it
   module _ (x : List ℕ) (room : length x * 4 < 2 ^ 63) where
-    pub counted-fits : (after start es).words ≤ length x → length (flat es) ≤ length x
+    pub counted-fits : (after empty_tally es).words ≤ length x → length (flat es) ≤ length x
     counted-fits h = omega (arith, words-counted)
 
-    pub counted-short : length x < (after start es).words → length x < length (flat es)
+    pub counted-short : length x < (after empty_tally es).words → length x < length (flat es)
     counted-short h = omega (arith, words-counted)
 
     -- where the counted words fit into a report, nothing was capped
-    pub counted-whole : (after start es).words ≤ length x → after start es ≡ record { words = length (flat es); entries = length es }
+    pub counted-whole : (after empty_tally es).words ≤ length x → after empty_tally es ≡ record { words = length (flat es); entries = length es }
     counted-whole h =
-        let a : (after start es).words ≡ length (flat es) = omega (arith, words-counted) in
-        let b : (after start es).entries ≡ length es = omega (arith, words-counted, entries-counted, few-entries es) in
+        let a : (after empty_tally es).words ≡ length (flat es) = omega (arith, words-counted) in
+        let b : (after empty_tally es).entries ≡ length es = omega (arith, words-counted, entries-counted, few-entries es) in
         λ i. record { words = a i; entries = b i }
 
 -- ---- writing: what is written is the longest beginning of the list that fits
@@ -226,12 +227,12 @@ put-fitting w s (e ∷ es) = put-here w s e es (put-fitting (over w s.words (wor
 
 -- the whole list, into a report that is a slice: what fits of it is written at the front, and the words past that stay
 module _ (x : List ℕ) (es : List Entry) (room : length x * 4 < 2 ^ 63) where
-  pub put-start : put x start es ≡ flat (fitting (length x) es) ++ drop (length (flat (fitting (length x) es))) x
+  pub put-start : put x empty_tally es ≡ flat (fitting (length x) es) ++ drop (length (flat (fitting (length x) es))) x
   put-start =
-      put-fitting x start es (omega arith) (omega arith) ∙ rw sub-zero (over-fits x 0 (flat (fitting (length x) es)) (simp zero-add (fitting-fits (length x) es)) ∙ rw zero-add)
+      put-fitting x empty_tally es (omega arith) (omega arith) ∙ rw sub-zero (over-fits x 0 (flat (fitting (length x) es)) (simp zero-add (fitting-fits (length x) es)) ∙ rw zero-add)
 
   -- a list that fits is written whole
-  pub put_whole : length (flat es) ≤ length x → put x start es ≡ flat es ++ drop (length (flat es)) x
+  pub put_whole : length (flat es) ≤ length x → put x empty_tally es ≡ flat es ++ drop (length (flat es)) x
   put_whole h = rw (fitting-all (length x) es h) at put-start
 
 -- ---- reading back

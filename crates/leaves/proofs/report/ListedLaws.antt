@@ -11,8 +11,8 @@ use Rattle.std.proofs.lemmas.List.{take-append-le}
 use Rattle.leaves.specs.declared.sheet.records.Span.{Span}
 use Rattle.leaves.specs.declared.report.entries.Tally.{Tally}
 use Rattle.leaves.specs.declared.report.entries.Report.{Report}
-use Rattle.leaves.specs.Text.Lists.{over}
-use Rattle.leaves.specs.Report.Entries.{Entry, words, head_words, counted, after, put, list_if, Lists, ◌⊕◌}
+use Rattle.leaves.specs.Text.Over.{over}
+use Rattle.leaves.specs.Report.Entries.{Entry, words, head_words, counted, after, put, list_if, WritesEntries, ◌⊕◌}
 use Rattle.leaves.specs.Report.Listed.{path_of, Adds, Enters, Leaves}
 use Rattle.leaves.proofs.report.EntryLaws.{length-words, lists-none, lists-then}
 
@@ -29,7 +29,7 @@ module _ (x : Report) (rule : ℕ) (span : Span) where
   unfolding list_if
   lists-not f e = rw (not-true f e) (record { lists = lists-none; loan = refl; path = refl; depth = refl; level = refl })
 
-  pub lists-one : (f : Bool) {y : List ℕ} {t : Tally} → not f ≡ false → y ≡ over x.words.now x.tally.words (words (record { rule = rule; span = span; path = path_of x })) → t ≡ counted x.tally (head_words + x.depth) → Lists x.tally t x.words.now y (list_if f rule span (path_of x))
+  pub lists-one : (f : Bool) {y : List ℕ} {t : Tally} → not f ≡ false → y ≡ over x.words.now x.tally.words (words (record { rule = rule; span = span; path = path_of x })) → t ≡ counted x.tally (head_words + x.depth) → WritesEntries x.tally t x.words.now y (list_if f rule span (path_of x))
   unfolding list_if after put
   lists-one f e w c =
       let n : length (words (record { rule = rule; span = span; path = path_of x })) ≡ head_words + x.depth = rw (length-words (record { rule = rule; span = span; path = path_of x }), path-length x) in

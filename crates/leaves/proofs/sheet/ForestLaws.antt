@@ -9,79 +9,79 @@ use native.Mathlib.Numerals.{add-one}
 use Rattle.leaves.specs.Sheet.Records.{record_at, records_of}
 use lib.Dec.{ltb}
 use borrow.Author.Tests.{ltb-true, ltb-false, lt-ltb, le-ltb}
-use Rattle.leaves.specs.Sheet.Forest.{Forest, none, tree, deeper, past, grow, forest_at, forest_of, under, size, records_in, records_from}
+use Rattle.leaves.specs.Sheet.Forest.{Forest, no_tree, tree, deeper, after_deeper, grow, forest_at, forest_of, under, size, records_in, records_from}
 use Rattle.leaves.specs.declared.sheet.records.Rec.{Rec}
 
 module _ (l : ℕ) (r : Rec) (kids rest : Forest) where
-  pub past-in : l < r.level → past l (tree r kids rest) ≡ past l rest
-  unfolding past
+  pub past-in : l < r.level → after_deeper l (tree r kids rest) ≡ after_deeper l rest
+  unfolding after_deeper
   past-in h = rw (lt-ltb l r.level h)
 
-  pub past-out : r.level ≤ l → past l (tree r kids rest) ≡ tree r kids rest
-  unfolding past
+  pub past-out : r.level ≤ l → after_deeper l (tree r kids rest) ≡ tree r kids rest
+  unfolding after_deeper
   past-out h = rw (le-ltb l r.level h)
 
   pub deeper-in : l < r.level → deeper l (tree r kids rest) ≡ tree r kids (deeper l rest)
   unfolding deeper
   deeper-in h = rw (lt-ltb l r.level h)
 
-  pub deeper-out : r.level ≤ l → deeper l (tree r kids rest) ≡ none
+  pub deeper-out : r.level ≤ l → deeper l (tree r kids rest) ≡ no_tree
   unfolding deeper
   deeper-out h = rw (le-ltb l r.level h)
 
-pub past-past : (l m : ℕ) → l ≤ m → (f : Forest) → past l (past m f) ≡ past l f
-unfolding past
-past-past l m h none = refl
+pub past-past : (l m : ℕ) → l ≤ m → (f : Forest) → after_deeper l (after_deeper m f) ≡ after_deeper l f
+unfolding after_deeper
+past-past l m h no_tree = refl
 past-past l m h (tree r kids rest) = go (ltb m r.level) refl (past-past l m h rest)
   where
-    go : (b : Bool) → ltb m r.level ≡ b → past l (past m rest) ≡ past l rest → past l (past m (tree r kids rest)) ≡ past l (tree r kids rest)
+    go : (b : Bool) → ltb m r.level ≡ b → after_deeper l (after_deeper m rest) ≡ after_deeper l rest → after_deeper l (after_deeper m (tree r kids rest)) ≡ after_deeper l (tree r kids rest)
     go true e ih =
         rw (past-in m r kids rest (ltb-true _ _ e), past-in l r kids rest (let h2 : m < r.level = ltb-true _ _ e in omega arith)) ih
     go false e ih = rw (past-out m r kids rest (ltb-false _ _ e)) refl
 
-pub size-deeper : (l m : ℕ) → l ≤ m → (f : Forest) → size (deeper l f) ≡ size (deeper m f) + size (deeper l (past m f))
-unfolding past deeper size
-size-deeper l m h none = refl
+pub size-deeper : (l m : ℕ) → l ≤ m → (f : Forest) → size (deeper l f) ≡ size (deeper m f) + size (deeper l (after_deeper m f))
+unfolding after_deeper deeper size
+size-deeper l m h no_tree = refl
 size-deeper l m h (tree r kids rest) = go (ltb m r.level) refl (size-deeper l m h rest)
   where
-    go : (b : Bool) → ltb m r.level ≡ b → size (deeper l rest) ≡ size (deeper m rest) + size (deeper l (past m rest)) → size (deeper l (tree r kids rest)) ≡ size (deeper m (tree r kids rest)) + size (deeper l (past m (tree r kids rest)))
+    go : (b : Bool) → ltb m r.level ≡ b → size (deeper l rest) ≡ size (deeper m rest) + size (deeper l (after_deeper m rest)) → size (deeper l (tree r kids rest)) ≡ size (deeper m (tree r kids rest)) + size (deeper l (after_deeper m (tree r kids rest)))
     go true e ih =
         rw (past-in m r kids rest (ltb-true _ _ e), deeper-in l r kids rest (let h2 : m < r.level = ltb-true _ _ e in omega arith), deeper-in m r kids rest (ltb-true _ _ e)) (omega (arith, ih))
     go false e ih =
         rw (past-out m r kids rest (ltb-false _ _ e), deeper-out m r kids rest (ltb-false _ _ e)) (omega arith)
 
-pub size-split : (l : ℕ) (f : Forest) → size f ≡ size (deeper l f) + size (past l f)
-unfolding past deeper size
-size-split l none = refl
+pub size-split : (l : ℕ) (f : Forest) → size f ≡ size (deeper l f) + size (after_deeper l f)
+unfolding after_deeper deeper size
+size-split l no_tree = refl
 size-split l (tree r kids rest) = go (ltb l r.level) refl (size-split l rest)
   where
-    go : (b : Bool) → ltb l r.level ≡ b → size rest ≡ size (deeper l rest) + size (past l rest) → size (tree r kids rest) ≡ size (deeper l (tree r kids rest)) + size (past l (tree r kids rest))
+    go : (b : Bool) → ltb l r.level ≡ b → size rest ≡ size (deeper l rest) + size (after_deeper l rest) → size (tree r kids rest) ≡ size (deeper l (tree r kids rest)) + size (after_deeper l (tree r kids rest))
     go true e ih = rw e (omega (arith, ih))
     go false e ih = rw e (omega arith)
 
 -- one step of `past-at`, at a record r in front of a forest f
-module _ (w : List ℕ) (k i l : ℕ) (r : Rec) (f : Forest) (ih : past l f ≡ forest_at w (k - size (deeper l f)) (suc i + size (deeper l f))) where
-  step_in : l < r.level → past l (grow r f) ≡ forest_at w (suc k - size (deeper l (grow r f))) (i + size (deeper l (grow r f)))
+module _ (w : List ℕ) (k i l : ℕ) (r : Rec) (f : Forest) (ih : after_deeper l f ≡ forest_at w (k - size (deeper l f)) (suc i + size (deeper l f))) where
+  step_in : l < r.level → after_deeper l (grow r f) ≡ forest_at w (suc k - size (deeper l (grow r f))) (i + size (deeper l (grow r f)))
   unfolding grow size
   step_in h =
-      let n : size (deeper l f) ≡ size (deeper r.level f) + size (deeper l (past r.level f)) = size-deeper l r.level (omega arith) f in
-      let p : suc k - suc (size (deeper r.level f) + size (deeper l (past r.level f))) ≡ k - size (deeper l f) = omega arith in
-      let q : i + suc (size (deeper r.level f) + size (deeper l (past r.level f))) ≡ suc i + size (deeper l f) = omega arith in
-      rw (past-in l r (deeper r.level f) (past r.level f) h, deeper-in l r (deeper r.level f) (past r.level f) h, past-past l r.level (omega arith) f)
+      let n : size (deeper l f) ≡ size (deeper r.level f) + size (deeper l (after_deeper r.level f)) = size-deeper l r.level (omega arith) f in
+      let p : suc k - suc (size (deeper r.level f) + size (deeper l (after_deeper r.level f))) ≡ k - size (deeper l f) = omega arith in
+      let q : i + suc (size (deeper r.level f) + size (deeper l (after_deeper r.level f))) ≡ suc i + size (deeper l f) = omega arith in
+      rw (past-in l r (deeper r.level f) (after_deeper r.level f) h, deeper-in l r (deeper r.level f) (after_deeper r.level f) h, past-past l r.level (omega arith) f)
       (rw (p, q) ih)
 
-  step-out : r.level ≤ l → grow r f ≡ forest_at w (suc k) i → past l (grow r f) ≡ forest_at w (suc k - size (deeper l (grow r f))) (i + size (deeper l (grow r f)))
+  step-out : r.level ≤ l → grow r f ≡ forest_at w (suc k) i → after_deeper l (grow r f) ≡ forest_at w (suc k - size (deeper l (grow r f))) (i + size (deeper l (grow r f)))
   unfolding grow size
   step-out h e =
-      rw (deeper-out l r (deeper r.level f) (past r.level f) h, add-zero, sub-zero) (past-out l r (deeper r.level f) (past r.level f) h ∙ e)
+      rw (deeper-out l r (deeper r.level f) (after_deeper r.level f) h, add-zero, sub-zero) (past-out l r (deeper r.level f) (after_deeper r.level f) h ∙ e)
 
 -- moving past the trees deeper than l is moving on by as many records as they hold
-pub past-at : (w : List ℕ) (k i l : ℕ) → past l (forest_at w k i) ≡ forest_at w (k - size (deeper l (forest_at w k i))) (i + size (deeper l (forest_at w k i)))
-unfolding forest_at past deeper size
+pub past-at : (w : List ℕ) (k i l : ℕ) → after_deeper l (forest_at w k i) ≡ forest_at w (k - size (deeper l (forest_at w k i))) (i + size (deeper l (forest_at w k i)))
+unfolding forest_at after_deeper deeper size
 past-at w zero i l = refl
 past-at w (suc k) i l = go (ltb l (record_at w i).level) refl (past-at w k (suc i) l)
   where
-    go : (b : Bool) → ltb l (record_at w i).level ≡ b → past l (forest_at w k (suc i)) ≡ forest_at w (k - size (deeper l (forest_at w k (suc i)))) (suc i + size (deeper l (forest_at w k (suc i)))) → past l (forest_at w (suc k) i) ≡ forest_at w (suc k - size (deeper l (forest_at w (suc k) i))) (i + size (deeper l (forest_at w (suc k) i)))
+    go : (b : Bool) → ltb l (record_at w i).level ≡ b → after_deeper l (forest_at w k (suc i)) ≡ forest_at w (k - size (deeper l (forest_at w k (suc i)))) (suc i + size (deeper l (forest_at w k (suc i)))) → after_deeper l (forest_at w (suc k) i) ≡ forest_at w (suc k - size (deeper l (forest_at w (suc k) i))) (i + size (deeper l (forest_at w (suc k) i)))
     go true e ih = step_in w k i l (record_at w i) (forest_at w k (suc i)) ih (ltb-true _ _ e)
     go false e ih = step-out w k i l (record_at w i) (forest_at w k (suc i)) ih (ltb-false _ _ e) refl
 
@@ -97,20 +97,20 @@ size_of w = size-at w (records_of w) 0
 
 -- a forest whose trees are all deeper than l is all of its trees deeper than l
 abbrev Over : ℕ → Forest → Type 0
-Over l none = Unit {0}
+Over l no_tree = Unit {0}
 Over l (tree r kids rest) = (l < r.level) × Over l rest
 
 deeper-all : (l : ℕ) (f : Forest) → Over l f → deeper l f ≡ f
 unfolding deeper
-deeper-all l none o = refl
+deeper-all l no_tree o = refl
 deeper-all l (tree r kids rest) o = rw (lt-ltb l r.level o.0) (ap (tree r kids) (deeper-all l rest o.1))
 
-over-past : (l m : ℕ) (f : Forest) → Over l f → Over l (past m f)
-unfolding past
-over-past l m none o = o
+over-past : (l m : ℕ) (f : Forest) → Over l f → Over l (after_deeper m f)
+unfolding after_deeper
+over-past l m no_tree o = o
 over-past l m (tree r kids rest) o = go (ltb m r.level) refl (over-past l m rest o.1)
   where
-    go : (b : Bool) → ltb m r.level ≡ b → Over l (past m rest) → Over l (past m (tree r kids rest))
+    go : (b : Bool) → ltb m r.level ≡ b → Over l (after_deeper m rest) → Over l (after_deeper m (tree r kids rest))
     go true e ih = rw e ih
     go false e ih = rw e o
 
@@ -129,7 +129,7 @@ behind_kids w n i = i + 1 + size (under w n (i + 1) (record_at w i).level)
 
 -- the walk by index: at record i of n
 module _ (w : List ℕ) (n i : ℕ) where
-  pub under-end : (l : ℕ) → n ≤ i → under w n i l ≡ none
+  pub under-end : (l : ℕ) → n ≤ i → under w n i l ≡ no_tree
   unfolding deeper forest_at
   under-end l h = let e : n - i ≡ 0 = omega arith in rw e refl
 
@@ -141,7 +141,7 @@ module _ (w : List ℕ) (n i : ℕ) where
     unfolding forest_at
     forest_step = let e : n - i ≡ suc (n - (i + 1)) = omega arith in rw (e, add-one i)
 
-    pub under-out : (record_at w i).level ≤ l → under w n i l ≡ none
+    pub under-out : (record_at w i).level ≤ l → under w n i l ≡ no_tree
     unfolding grow
     under-out d = rw forest_step (deeper-out l (record_at w i) _ _ d)
 
@@ -162,13 +162,13 @@ module _ (w : List ℕ) (n i : ℕ) where
   size-end l h = ap size (under-end l h)
 
 -- ---- the flat list again: a tree holds its record, then the records under it, then those of the siblings after it
-flat-split : (l : ℕ) (f : Forest) → records_in (deeper l f) ++ records_in (past l f) ≡ records_in f
-unfolding past deeper records_in
-flat-split l none = refl
+flat-split : (l : ℕ) (f : Forest) → records_in (deeper l f) ++ records_in (after_deeper l f) ≡ records_in f
+unfolding after_deeper deeper records_in
+flat-split l no_tree = refl
 flat-split l (tree r kids rest) = go (ltb l r.level) refl (flat-split l rest)
   where
-    go : (b : Bool) → ltb l r.level ≡ b → records_in (deeper l rest) ++ records_in (past l rest) ≡ records_in rest → records_in (deeper l (tree r kids rest)) ++ records_in (past l (tree r kids rest)) ≡ records_in (tree r kids rest)
-    go true e ih = rw e (ap (◌∷◌ r) (append_assoc (records_in kids) (records_in (deeper l rest)) (records_in (past l rest)) ∙ ap (◌++◌ (records_in kids)) ih))
+    go : (b : Bool) → ltb l r.level ≡ b → records_in (deeper l rest) ++ records_in (after_deeper l rest) ≡ records_in rest → records_in (deeper l (tree r kids rest)) ++ records_in (after_deeper l (tree r kids rest)) ≡ records_in (tree r kids rest)
+    go true e ih = rw e (ap (◌∷◌ r) (append_assoc (records_in kids) (records_in (deeper l rest)) (records_in (after_deeper l rest)) ∙ ap (◌++◌ (records_in kids)) ih))
     go false e ih = rw e
 
 pub flat-forest : (w : List ℕ) (k i : ℕ) → records_in (forest_at w k i) ≡ records_from w k i

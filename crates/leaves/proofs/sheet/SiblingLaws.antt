@@ -9,7 +9,7 @@ use native.Mathlib.Omega.{arith}
 use lib.Dec.{ltb}
 use borrow.Author.Tests.{eq-eqb, ne_eqb, ltb-true, ltb-false}
 use Rattle.leaves.specs.Sheet.Records.{record_at}
-use Rattle.leaves.specs.Sheet.Siblings.{gather}
+use Rattle.leaves.specs.Sheet.Siblings.{fold_siblings}
 use Rattle.leaves.specs.Sheet.Forest.{under, size}
 use Rattle.leaves.specs.declared.sheet.records.Rec.{Rec}
 use Rattle.leaves.proofs.sheet.ForestLaws.{size_step, size-out, size-end}
@@ -42,21 +42,21 @@ module _ (w : List ℕ) (n m : ℕ) where
 -- ---- what is gathered
 module _ {A : Type 0} (sheet : A) (first : Rec → A) (next : A → Rec → A) (w : List ℕ) where
   abbrev at : ℕ → ℕ → A
-  at l i = gather sheet first next w l i
+  at l i = fold_siblings sheet first next w l i
 
   -- under record i nothing stands before its first child
   pub gather-kid : (i l : ℕ) → (record_at w i).level ≡ l → at (l + 1) (i + 1) ≡ first (record_at w i)
-  unfolding gather
+  unfolding fold_siblings
   gather-kid i l e = rw (add-one i, eq-eqb ((record_at w i).level + 1) (l + 1) (ap (λ n. n + 1) e))
 
   -- record i is one child more
   pub gather-next : (i l : ℕ) → (record_at w i).level ≡ l → at l (i + 1) ≡ next (at l i) (record_at w i)
-  unfolding gather
+  unfolding fold_siblings
   gather-next i l e = rw (add-one i, ne_eqb ((record_at w i).level + 1) l (λ f. absurd (omega arith)), eq-eqb (record_at w i).level l e)
 
   -- a record that is deeper changes nothing
   pub gather-deeper : (i l : ℕ) → l < (record_at w i).level → at l (i + 1) ≡ at l i
-  unfolding gather
+  unfolding fold_siblings
   gather-deeper i l h = rw (add-one i, ne_eqb ((record_at w i).level + 1) l (λ f. absurd (omega arith)), ne_eqb (record_at w i).level l (λ f. absurd (omega arith)))
 
   -- and neither do all the records of the trees deeper than it

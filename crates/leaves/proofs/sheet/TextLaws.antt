@@ -5,7 +5,7 @@ use mathlib.Core.List.{List, []}
 use Prim.Native.Nat.{ℕ, ◌+◌}
 use lib.Dec.{leb}
 use lib.ListN.{length}
-use Rattle.leaves.specs.Text.Lists.{when◌then◌else◌}
+use Rattle.std.specs.Prelude.{if◌then◌else◌}
 use Rattle.leaves.specs.Text.Part.{part_of}
 use Rattle.leaves.specs.Text.Utf8.{is_utf8, well_formed}
 use Rattle.leaves.specs.declared.sheet.records.Text.{Text}
@@ -15,6 +15,6 @@ pub no_bytes : (bytes : List ℕ) (t : Text) → t.len ≡ 0 → false ≡ text_
 unfolding text_ill_formed text_of part_of is_utf8 well_formed
 no_bytes bytes t e = rw e (go (leb (t.start + 0) (length bytes)))
   where
-    go : (b : Bool) → false ≡ not (is_utf8 (when b then [] else []))
+    go : (b : Bool) → false ≡ not (is_utf8 (if b then [] else []))
     go true = refl
     go false = refl

@@ -16,10 +16,10 @@ module _ (x : Records) (level : ℕ) where
   moved-not = record { sheet = refl; bytes = refl; n = refl; next = refl }
 
   pub ends-past : x.next ≡ x.n → Ends x x level
-  ends-past e = record { none = under-end x.sheet.now x.n x.next level (omega arith); moved = moved-not }
+  ends-past e = record { empty = under-end x.sheet.now x.n x.next level (omega arith); moved = moved-not }
 
   pub ends-out : {r : Rec} → x.next < x.n → r ≡ record_at x.sheet.now x.next → r.level ≤ level → Ends x x level
-  ends-out b e d = let d' : (record_at x.sheet.now x.next).level ≤ level = rw e at d in record { none = under-out x.sheet.now x.n x.next level b d'; moved = moved-not }
+  ends-out b e d = let d' : (record_at x.sheet.now x.next).level ≤ level = rw e at d in record { empty = under-out x.sheet.now x.n x.next level b d'; moved = moved-not }
 
 -- ---- moving on
 
@@ -101,7 +101,7 @@ module _ {x y z : Records} {level : ℕ} (v : Passing x y level) where
   pub passing-end : Ends y z level → Moved x z (x.next + size (trees x level))
   unfolding size
   passing-end e =
-      let t : size (trees y level) ≡ 0 = ap size e.none in
+      let t : size (trees y level) ≡ 0 = ap size e.empty in
       moved-at (moved-then v.moved e.moved) (omega (arith, v.gone))
 
 -- the same records once more

@@ -1,6 +1,6 @@
--- What chains of iterators over a text answer, by the definitions of `Lists`.
-use mathlib.Core.Path.{◌≡◌, refl, ap, ◌∙◌}
-use mathlib.Core.Bool.{Bool, true, false, cond, ◌&&◌, ◌||◌}
+-- What chains of iterators over a text answer.
+use mathlib.Core.Path.{◌≡◌, refl, ◌∙◌}
+use mathlib.Core.Bool.{Bool, true, false, cond}
 use mathlib.Core.List.{List, [], ◌∷◌}
 use Prim.Native.Nat.{ℕ, ◌-◌, ◌≤◌}
 use lib.Dec.{ltb}
@@ -19,25 +19,14 @@ use Rattle.std.specs.List.{list_all, list_any, position_or_len, FoldsTo}
 use Rattle.std.specs.Option.{MatchOption, unwrap_or}
 use Rattle.std.specs.Slice.Iter.{iter_rest}
 use Rattle.std.proofs.Common.{Iter, Option, Some, None}
-use Rattle.leaves.specs.Text.Lists.{all, any}
-
-pub all-list : {A : Type 0} (test : A → Bool) (s : List A) → list_all test s ≡ all test s
-unfolding all
-all-list test [] = refl
-all-list test (b ∷ s) = ap (λ t. test b && t) (all-list test s)
-
-pub any-list : {A : Type 0} (test : A → Bool) (s : List A) → list_any test s ≡ any test s
-unfolding any
-any-list test [] = refl
-any-list test (b ∷ s) = ap (λ t. test b || t) (any-list test s)
 
 -- what `all` and `any` of a closure that computes the test answer, over a slice
 module _ {F : Type 0} {g : Mut F (Bor ℕ × Unit {0}) Bool} {s : Iter ℕ} (test : ℕ → Bool) (whole : List ℕ) {u : Iter ℕ} {f : F} {r : Bool} where
-  pub all-of : (xs : List (Bor ℕ)) × (o : Option (Bor ℕ)) × (j : F) × YieldsThen fronts s xs o u × FoldsTo (λ p x q. Called g p (x, tt) true q) f xs j × MatchOption o (r ≡ true) (λ x. (r ≡ false) × ((h : F) × Called g j (x, tt) false h)) → iter_rest s ≡ whole → ((x : Bor ℕ) (b : Bool) (q : F) → Called g f (x, tt) b q → (q ≡ f) × (b ≡ test x.now)) → r ≡ all test whole
-  all-of ran is calls = all_from_yields_List test _ _ _ ran (YieldsList-from_slice whole is) calls ∙ all-list test whole
+  pub all-of : (xs : List (Bor ℕ)) × (o : Option (Bor ℕ)) × (j : F) × YieldsThen fronts s xs o u × FoldsTo (λ p x q. Called g p (x, tt) true q) f xs j × MatchOption o (r ≡ true) (λ x. (r ≡ false) × ((h : F) × Called g j (x, tt) false h)) → iter_rest s ≡ whole → ((x : Bor ℕ) (b : Bool) (q : F) → Called g f (x, tt) b q → (q ≡ f) × (b ≡ test x.now)) → r ≡ list_all test whole
+  all-of ran is calls = all_from_yields_List test _ _ _ ran (YieldsList-from_slice whole is) calls
 
-  pub any-of : (xs : List (Bor ℕ)) × (o : Option (Bor ℕ)) × (j : F) × YieldsThen fronts s xs o u × FoldsTo (λ p x q. Called g p (x, tt) false q) f xs j × MatchOption o (r ≡ false) (λ x. (r ≡ true) × ((h : F) × Called g j (x, tt) true h)) → iter_rest s ≡ whole → ((x : Bor ℕ) (b : Bool) (q : F) → Called g f (x, tt) b q → (q ≡ f) × (b ≡ test x.now)) → r ≡ any test whole
-  any-of ran is calls = any_from_yields_List test _ _ _ ran (YieldsList-from_slice whole is) calls ∙ any-list test whole
+  pub any-of : (xs : List (Bor ℕ)) × (o : Option (Bor ℕ)) × (j : F) × YieldsThen fronts s xs o u × FoldsTo (λ p x q. Called g p (x, tt) false q) f xs j × MatchOption o (r ≡ false) (λ x. (r ≡ true) × ((h : F) × Called g j (x, tt) true h)) → iter_rest s ≡ whole → ((x : Bor ℕ) (b : Bool) (q : F) → Called g f (x, tt) b q → (q ≡ f) × (b ≡ test x.now)) → r ≡ list_any test whole
+  any-of ran is calls = any_from_yields_List test _ _ _ ran (YieldsList-from_slice whole is) calls
 
 -- the slice of all that stands from i on
 pub tail-all : (s : List ℕ) (i : ℕ) → take (length s - i) (drop i s) ≡ drop i s

@@ -8,7 +8,7 @@ use native.Mathlib.Nat.{zero-add, suc-add}
 use lib.ListN.{length, drop, get_or, length-drop}
 use lib.Seq.{drop-drop}
 use Rattle.leaves.proofs.text.ScanLaws.{next}
-use Rattle.leaves.specs.Text.Chunk.{passes, chunk, Past}
+use Rattle.leaves.specs.Text.Chunk.{passes, chunk, Skipped}
 
 and-four : (t u v w : Bool) → (t && u && v && w) ≡ (t && (u && (v && (w && true))))
 and-four true true true true = refl
@@ -81,16 +81,16 @@ module _ (test : ℕ → Bool) where
   reach s h = there chunk s h
 
   -- nothing is passed over, and then a chunk more
-  pub past_none : (s : List ℕ) → Past test s s
+  pub past_none : (s : List ℕ) → Skipped test s s
   unfolding passes
   past_none s = record { count = 0; is = refl; all = refl }
 
-  pub past_chunk : (s rest : List ℕ) → Past test s rest → passes test chunk rest ≡ true → Past test s (drop chunk rest)
+  pub past_chunk : (s rest : List ℕ) → Skipped test s rest → passes test chunk rest ≡ true → Skipped test s (drop chunk rest)
   past_chunk s rest p h = record { count = p.count + chunk; is = rw p.is (drop-drop chunk p.count s); all = rw (more p.count chunk s, p.all) (rw p.is at h) }
 
   -- what is passed over does not change an answer
-  pub leap : {A : Type 0} (f : List ℕ → A) → ((b : ℕ) (t : List ℕ) → test b ≡ true → f (b ∷ t) ≡ f t) → {s rest : List ℕ} → Past test s rest → f s ≡ f rest
+  pub leap : {A : Type 0} (f : List ℕ → A) → ((b : ℕ) (t : List ℕ) → test b ≡ true → f (b ∷ t) ≡ f t) → {s rest : List ℕ} → Skipped test s rest → f s ≡ f rest
   leap f e {s} {rest} p = passed f e p.count s p.all ∙ ap f (sym p.is)
 
-  pub shorter : {s rest : List ℕ} → Past test s rest → length rest ≤ length s
+  pub shorter : {s rest : List ℕ} → Skipped test s rest → length rest ≤ length s
   shorter {s} {rest} p = rw (p.is, length-drop) (omega arith)

@@ -13,7 +13,7 @@ use borrow.Author.Rules.{rules}
 use borrow.Author.Tests.{ne_eqb, leb-false}
 use Rattle.leaves.specs.Text.Bytes.{lf}
 use Rattle.leaves.specs.Text.Part.{part_of}
-use Rattle.leaves.specs.Text.Lists.{over}
+use Rattle.leaves.specs.Text.Over.{over}
 use Rattle.leaves.proofs.text.OverLaws.{over-fits, over-nil, length_over, over-two}
 use Rattle.leaves.specs.Text.Field.{places, field, read_field}
 use Rattle.leaves.specs.Text.Columns.{fields, line, line_bytes, are_fields, is_line, numbers, Writes}

@@ -10,7 +10,7 @@ use lib.ListN.{length, get_or, take, drop, get_or-eq_default}
 use lib.Seq.{take_at, drop_at, get_or_at, take-add, take-suc}
 use borrow.Author.Tests.{leb-true, leb-false, eqb-true}
 use Rattle.leaves.specs.Text.Bytes.{lf}
-use Rattle.leaves.specs.Text.Lists.{all}
+use Rattle.std.specs.List.{list_all}
 use Rattle.leaves.proofs.text.TestLaws.{and_left, and_right}
 use Rattle.leaves.specs.Text.Field.{places, most_number, field, read_field}
 use Rattle.leaves.specs.Text.Columns.{fields, line, line_bytes, are_fields, is_line, numbers}
@@ -22,16 +22,16 @@ use Rattle.std.specs.Option.{is_some, unwrap_or}
 
 -- no number is over the largest
 abbrev pub Small : List ℕ → Type 0
-Small ns = all (λ (n : ℕ). leb n most_number) ns ≡ true
+Small ns = list_all (λ (n : ℕ). leb n most_number) ns ≡ true
 
 -- ---- what is written is read
 
 fields_read : (ns rest : List ℕ) → Small ns → (are_fields (length ns) (fields ns ++ rest) ≡ true) × (numbers (length ns) (fields ns ++ rest) ≡ ns)
-unfolding fields are_fields numbers all
+unfolding fields are_fields numbers
 fields_read [] rest h = (refl, refl)
 fields_read (n ∷ ns) rest h =
-    let small : n ≤ most_number = leb-true _ _ (and_left (leb n most_number) (all (λ (m : ℕ). leb m most_number) ns) h) in
-    let later = fields_read ns rest (and_right (leb n most_number) (all (λ (m : ℕ). leb m most_number) ns) h) in
+    let small : n ≤ most_number = leb-true _ _ (and_left (leb n most_number) (list_all (λ (m : ℕ). leb m most_number) ns) h) in
+    let later = fields_read ns rest (and_right (leb n most_number) (list_all (λ (m : ℕ). leb m most_number) ns) h) in
     let t : take places (field n ++ (fields ns ++ rest)) ≡ field n = take_at (field n) (fields ns ++ rest) places (field-long n) in
     let d : drop places (field n ++ (fields ns ++ rest)) ≡ fields ns ++ rest = drop_at (field n) (fields ns ++ rest) places (field-long n) in
     (rw (append_assoc (field n) (fields ns) rest, t, d, written_read n small) later.0, rw (append_assoc (field n) (fields ns) rest, t, d, written_read n small, later.1))

@@ -8,7 +8,7 @@ use lib.Dec.{eqb, eqb-suc-zero}
 use lib.ListN.{replicate}
 use borrow.Author.Tests.{eq-eqb, eqb-true}
 use Rattle.leaves.specs.Text.Bytes.{is_blank_byte, is_line_ending_byte}
-use Rattle.leaves.specs.Text.Lists.{any}
+use Rattle.std.specs.List.{list_any}
 use Rattle.leaves.specs.Text.Lines.{longer, is_cr_of_crlf, lines}
 use Rattle.leaves.specs.Text.Fence.{fence_byte, is_fence, holds_fence_line}
 use Rattle.leaves.specs.Text.Same.{same_bytes}
@@ -99,15 +99,14 @@ module _ (c : ℕ) (solid : is_blank_byte c ≡ false) where
   -- ---- the lines of a text
   abbrev fences_from : Option ℕ → List (List ℕ) → Bool
   fences_from left [] = is_whole left
-  fences_from left (l ∷ ls) = is_whole (line_left c left l) || any (is_fence c) ls
+  fences_from left (l ∷ ls) = is_whole (line_left c left l) || list_any (is_fence c) ls
 
-  from_start : (ls : List (List ℕ)) → fences_from (Some 3) ls ≡ any (is_fence c) ls
-  unfolding any
+  from_start : (ls : List (List ℕ)) → fences_from (Some 3) ls ≡ list_any (is_fence c) ls
   from_start [] = refl
-  from_start (l ∷ ls) = ap (λ t. t || any (is_fence c) ls) (sym (one_line l))
+  from_start (l ∷ ls) = ap (λ t. t || list_any (is_fence c) ls) (sym (one_line l))
 
   fence-holds : (left : Option ℕ) (b : ℕ) (ls : List (List ℕ)) → fences_from (fence_left c left b) ls ≡ fences_from left (longer b ls)
-  unfolding longer any
+  unfolding longer
   fence-holds left b [] = sym (or-false (is_whole (fence_left c left b)))
   fence-holds left b (l ∷ ls) = refl
 

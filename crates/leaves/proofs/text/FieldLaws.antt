@@ -13,8 +13,8 @@ use borrow.Rule.Slice.PartMut.{put_mid}
 use borrow.Author.Tests.{le-leb, lt-leb}
 use Rattle.std.specs.List.{position_or_len}
 use Rattle.leaves.specs.Text.Bytes.{space, is_digit}
-use Rattle.leaves.proofs.text.ScanLaws.{At, turn, stop, end}
-use Rattle.leaves.specs.Text.Lists.{over}
+use Rattle.leaves.proofs.text.ScanLaws.{ScanAt, turn, stop, end}
+use Rattle.leaves.specs.Text.Over.{over}
 use Rattle.leaves.proofs.text.OverLaws.{over-fits}
 use Rattle.leaves.specs.Text.Field.{places, most_number, digit_zero, digit, last_place, front, field, past_spaces, read_digits}
 use Rattle.std.proofs.Common.{None, Option, Some}
@@ -31,7 +31,7 @@ spaces_cut (b ∷ s) = go (eqb b space) refl (spaces_cut s)
 
 -- ---- `read_digits`: n is the number of the digits passed
 pub record Digits (s : List ℕ) (n i : ℕ) : Type 0 where
-  pub at : At (read_digits 0 s) (read_digits n) s i
+  pub at : ScanAt (read_digits 0 s) (read_digits n) s i
   pub small : n ≤ most_number
 
 pub digits-start : (s : List ℕ) → Digits s 0 0

@@ -1,7 +1,7 @@
 -- Lines, a byte at a time: the first, the last as the code reads it, and the CR of a CRLF.
 use mathlib.Core.Path.{◌≡◌, refl, sym, ap, ◌∙◌}
 use mathlib.Core.Bool.{Bool, true, false, not, ◌&&◌, ◌||◌, and_assoc, and-true, and-false, false≢true}
-use mathlib.Core.List.{List, [], ◌∷◌}
+use mathlib.Core.List.{List, [], ◌∷◌, get_last_d, head_d}
 use Prim.Native.Nat.{ℕ, zero, suc, ◌+◌, ◌<◌, ◌≤◌, zero-le}
 use native.Mathlib.Nat.{le_of_suc-le-suc, not-suc-le-zero}
 use native.Mathlib.Omega.{arith}
@@ -9,13 +9,14 @@ use lib.Dec.{eqb}
 use lib.ListN.{length, get_or, drop, length-drop, drop_of_length-le}
 use borrow.Author.Tests.{eqb-true, ne_eqb}
 use Rattle.leaves.specs.Text.Bytes.{tab, lf, cr, space, is_blank_byte, is_line_ending_byte}
-use Rattle.leaves.specs.Text.Lists.{when◌then◌else◌, all, first_or, last_or}
+use Rattle.std.specs.Prelude.{if◌then◌else◌}
 use Rattle.leaves.specs.Text.Lines.{starts_with, longer, is_cr_of_crlf, lines, is_blank}
 use Rattle.std.specs.List.{position_or_len}
 use Rattle.leaves.specs.Text.Edges.{has_blank_edge_line}
 use Rattle.leaves.specs.Text.EdgeScans.{last_blank, Led, Solid}
 use Rattle.leaves.proofs.text.ScanLaws.{next}
 use Rattle.leaves.proofs.text.TestLaws.{and_right, or_left, or_right}
+use Rattle.leaves.proofs.text.LastLaws.{last-cons}
 
 module _ (b : ℕ) (s : List ℕ) where
   pub lines-skip : is_cr_of_crlf b s ≡ true → lines (b ∷ s) ≡ lines s
@@ -49,24 +50,24 @@ blank-holds b e = go (eqb b space) refl
 
 -- ---- the first line
 unfoldable pub first_blank : List ℕ → Bool
-first_blank s = is_blank (first_or [] (lines s))
+first_blank s = is_blank (head_d (lines s) [])
 
 lf-first : (s : List ℕ) → starts_with lf s ≡ true → true ≡ first_blank s
-unfolding first_blank starts_with first_or is_blank all
+unfolding first_blank starts_with head_d is_blank
 lf-first [] e = absurd (false≢true e)
 lf-first (b ∷ s) e = rw (lines_end b s (lf-no-cr b s e) (ap (λ t. t || eqb b cr) e))
 
 module _ (b : ℕ) (s : List ℕ) {ends : Bool} (e : ends ≡ is_line_ending_byte b) where
   pub first_ends : ends ≡ true → true ≡ first_blank (b ∷ s)
-  unfolding first_blank first_or is_blank all is_cr_of_crlf
+  unfolding first_blank head_d is_blank is_cr_of_crlf
   first_ends y = go (is_cr_of_crlf b s) refl
     where
       go : (t : Bool) → is_cr_of_crlf b s ≡ t → true ≡ first_blank (b ∷ s)
       go true p = rw (lines-skip b s p) (lf-first s (and_right (eqb b cr) (starts_with lf s) p))
       go false p = rw (lines_end b s p (sym e ∙ y))
 
-  longer-first : (ls : List (List ℕ)) → is_blank (first_or [] (longer b ls)) ≡ (is_blank_byte b && is_blank (first_or [] ls))
-  unfolding first_or longer is_blank all
+  longer-first : (ls : List (List ℕ)) → is_blank (head_d (longer b ls) []) ≡ (is_blank_byte b && is_blank (head_d ls []))
+  unfolding head_d longer is_blank
   longer-first [] = refl
   longer-first (l ∷ ls) = refl
 
@@ -81,7 +82,7 @@ module _ (b : ℕ) (s : List ℕ) {ends : Bool} (e : ends ≡ is_line_ending_byt
   first-solid n f o = sym (first_holds n ∙ rw (← f, o))
 
 pub first-none : true ≡ first_blank []
-unfolding first_blank first_or lines is_blank all
+unfolding first_blank head_d lines is_blank
 first-none = refl
 
 -- ---- the last line: w is of the line before, `blank` of what is read of the first
@@ -93,23 +94,23 @@ abbrev last_from : Bool → Bool → List (List ℕ) → Bool
 last_from last blank [] = last
 last_from last blank (l ∷ ls) = last_is (blank && is_blank l) ls
 
-last-is : (l : List ℕ) (ls : List (List ℕ)) → last_is (is_blank l) ls ≡ is_blank (last_or l ls)
-unfolding last_or
+last-is : (l : List ℕ) (ls : List (List ℕ)) → last_is (is_blank l) ls ≡ is_blank (get_last_d ls l)
+unfolding get_last_d
 last-is l [] = refl
-last-is l (m ∷ ls) = last-is m ls
+last-is l (m ∷ ls) = last-is m ls ∙ ap is_blank (sym (last-cons m l ls))
 
-from_start : (ls : List (List ℕ)) → last_from true true ls ≡ is_blank (last_or [] ls)
-unfolding last_or is_blank all
+from_start : (ls : List (List ℕ)) → last_from true true ls ≡ is_blank (get_last_d ls [])
+unfolding get_last_d is_blank
 from_start [] = refl
-from_start (l ∷ ls) = last-is l ls
+from_start (l ∷ ls) = last-is l ls ∙ ap is_blank (sym (last-cons l [] ls))
 
 last-ends : (last blank : Bool) (ls : List (List ℕ)) → last_from blank true ls ≡ last_from last blank ([] ∷ ls)
-unfolding is_blank all
+unfolding is_blank
 last-ends last blank [] = sym (and-true blank)
 last-ends last blank (l ∷ ls) = refl
 
 last-holds : (last blank : Bool) (b : ℕ) (ls : List (List ℕ)) → last_from (blank && is_blank_byte b) (blank && is_blank_byte b) ls ≡ last_from last blank (longer b ls)
-unfolding longer is_blank all
+unfolding longer is_blank
 last-holds last blank b [] = ap (λ t. blank && t) (sym (and-true (is_blank_byte b)))
 last-holds last blank b (l ∷ ls) = ap (λ t. last_is t ls) (and_assoc blank (is_blank_byte b) (is_blank l))
 
@@ -123,7 +124,7 @@ last-lines last blank (b ∷ s) = go (is_cr_of_crlf b s) (is_line_ending_byte b)
     go false true p q x y z = rw (p, q) (y ∙ last-ends last blank (lines s))
     go false false p q x y z = rw (p, q) (z ∙ last-holds last blank b (lines s))
 
-pub last_line : (s : List ℕ) → is_blank (last_or [] (lines s)) ≡ last_blank true true s
+pub last_line : (s : List ℕ) → is_blank (get_last_d (lines s) []) ≡ last_blank true true s
 last_line s = sym (last-lines true true s ∙ from_start (lines s))
 
 -- a turn of the loop: the CR of a CRLF, the end of a line, a byte of one
@@ -182,7 +183,7 @@ last-at-solid : (last blank : Bool) (b : ℕ) (s : List ℕ) → is_blank_byte b
 unfolding last_blank
 last-at-solid last blank b s o n = rw (no-cr b s n, n, o, and-false)
 
-last_step : (last blank : Bool) (b : ℕ) (s : List ℕ) → last_blank last blank (b ∷ s) ≡ last_blank (when is_cr_of_crlf b s then last else when is_line_ending_byte b then blank else (blank && is_blank_byte b)) (when is_cr_of_crlf b s then blank else (is_line_ending_byte b || (blank && is_blank_byte b))) s
+last_step : (last blank : Bool) (b : ℕ) (s : List ℕ) → last_blank last blank (b ∷ s) ≡ last_blank (if is_cr_of_crlf b s then last else if is_line_ending_byte b then blank else (blank && is_blank_byte b)) (if is_cr_of_crlf b s then blank else (is_line_ending_byte b || (blank && is_blank_byte b))) s
 unfolding last_blank
 last_step last blank b s = refl
 

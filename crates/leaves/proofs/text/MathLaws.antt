@@ -11,7 +11,7 @@ use Rattle.leaves.specs.Text.Bytes.{dollar, backtick}
 use Rattle.leaves.specs.Text.Lines.{starts_with}
 use Rattle.leaves.specs.Text.Math.{holds_backtick_dollar}
 use Rattle.leaves.proofs.text.ScanLaws.{next}
-use Rattle.leaves.specs.Text.Chunk.{is_other, Past}
+use Rattle.leaves.specs.Text.Chunk.{is_other, Skipped}
 use Rattle.leaves.proofs.text.ChunkLaws.{leap}
 
 -- two bytes
@@ -56,5 +56,5 @@ module _ (s : List ℕ) where
   ticks-end h = sym (tick-short s (omega arith))
 
 -- no backtick
-pub ticks-leap : {s rest : List ℕ} → Past (is_other backtick) s rest → holds_backtick_dollar s ≡ holds_backtick_dollar rest
+pub ticks-leap : {s rest : List ℕ} → Skipped (is_other backtick) s rest → holds_backtick_dollar s ≡ holds_backtick_dollar rest
 ticks-leap p = leap (is_other backtick) holds_backtick_dollar (λ b t q. tick-none b t (not-true (eqb b backtick) q)) p

@@ -9,10 +9,8 @@ use lib.Dec.{eqb}
 use lib.ListN.{length, get_or, drop}
 use Rattle.std.specs.List.{slice_split, list_all}
 use Rattle.leaves.specs.Text.Bytes.{hyphen}
-use Rattle.leaves.specs.Text.Lists.{all}
 use Rattle.leaves.specs.Text.Lines.{longer}
 use Rattle.leaves.specs.Text.Name.{runs, is_run, is_directive_name, begins_run, continues_run, is_attribute_name, begins_attribute, continues_attribute}
-use Rattle.leaves.proofs.text.ChainLaws.{all-list}
 
 runs-split : (s : List ℕ) → slice_split (λ b. eqb b hyphen) s ≡ runs s
 unfolding runs longer
@@ -26,7 +24,7 @@ runs-split (b ∷ s) = go (eqb b hyphen) refl (runs s) refl (runs-split s)
 
 pub directive : (s : List ℕ) → list_all is_run (slice_split (λ b. eqb b hyphen) s) ≡ is_directive_name s
 unfolding is_directive_name
-directive s = rw (runs-split s, all-list is_run (runs s))
+directive s = rw (runs-split s)
 
 pub run-none : (s : List ℕ) → length s < 1 → false ≡ is_run s
 unfolding is_run
@@ -44,7 +42,7 @@ module _ {r : Bool} where
   run-no [] h e n = absurd (omega arith)
   run-no (b ∷ s) h e n = rw (← e, n)
 
-  pub run-yes : (s : List ℕ) {t : Bool} → 1 ≤ length s → r ≡ begins_run (get_or s 0 0) → r ≡ true → t ≡ all continues_run (drop 1 s) → t ≡ is_run s
+  pub run-yes : (s : List ℕ) {t : Bool} → 1 ≤ length s → r ≡ begins_run (get_or s 0 0) → r ≡ true → t ≡ list_all continues_run (drop 1 s) → t ≡ is_run s
   unfolding is_run
   run-yes [] h e y f = absurd (omega arith)
   run-yes (b ∷ s) h e y f = rw (← e, y) f
@@ -54,7 +52,7 @@ module _ {r : Bool} where
   attribute-no [] h e n = absurd (omega arith)
   attribute-no (b ∷ s) h e n = rw (← e, n)
 
-  pub attribute-yes : (s : List ℕ) {t : Bool} → 1 ≤ length s → r ≡ begins_attribute (get_or s 0 0) → r ≡ true → t ≡ all continues_attribute (drop 1 s) → t ≡ is_attribute_name s
+  pub attribute-yes : (s : List ℕ) {t : Bool} → 1 ≤ length s → r ≡ begins_attribute (get_or s 0 0) → r ≡ true → t ≡ list_all continues_attribute (drop 1 s) → t ≡ is_attribute_name s
   unfolding is_attribute_name
   attribute-yes [] h e y f = absurd (omega arith)
   attribute-yes (b ∷ s) h e y f = rw (← e, y) f

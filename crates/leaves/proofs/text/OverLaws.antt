@@ -9,7 +9,7 @@ use lib.Dec.{leb}
 use lib.ListN.{length, take, drop, length-append, length-take, length-drop}
 use lib.Seq.{paste-zero, take_at, drop_at, drop-drop}
 use borrow.Author.Tests.{leb-true, leb-false, le-leb, lt-leb}
-use Rattle.leaves.specs.Text.Lists.{over}
+use Rattle.leaves.specs.Text.Over.{over}
 
 module _ (w : List ℕ) (at : ℕ) (e : List ℕ) where
   pub over-fits : at + length e ≤ length w → over w at e ≡ take at w ++ e ++ drop (at + length e) w

@@ -10,7 +10,7 @@ use lib.Dec.{eqb}
 use Rattle.leaves.specs.Text.Bytes.{pipe, backslash}
 use Rattle.leaves.specs.Text.Pipe.{odd_pipe_after}
 use Rattle.leaves.proofs.text.ScanLaws.{next}
-use Rattle.leaves.specs.Text.Chunk.{is_other, Past}
+use Rattle.leaves.specs.Text.Chunk.{is_other, Skipped}
 use Rattle.leaves.proofs.text.ChunkLaws.{leap}
 
 -- the loop: a byte that decides, a byte that does not, no byte
@@ -28,7 +28,7 @@ module _ (odd : Bool) (s : List ℕ) where
   pipe-end h = rw (drop_of_length-le s {i = 0} (omega arith))
 
 -- no backslash, where no odd run of them stands before
-pub pipe-leap : (odd : Bool) {s rest : List ℕ} → odd ≡ false → Past (is_other backslash) s rest → odd_pipe_after odd s ≡ odd_pipe_after odd rest
+pub pipe-leap : (odd : Bool) {s rest : List ℕ} → odd ≡ false → Skipped (is_other backslash) s rest → odd_pipe_after odd s ≡ odd_pipe_after odd rest
 unfolding odd_pipe_after
 pipe-leap false e p = leap (is_other backslash) (odd_pipe_after false) (λ b t q. rw (and-false, not-true (eqb b backslash) q)) p
 pipe-leap true e p = absurd (false≢true (sym e))

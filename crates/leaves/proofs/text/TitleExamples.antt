@@ -2,7 +2,7 @@
 use mathlib.Core.Path.{◌≡◌, refl}
 use mathlib.Core.Bool.{true, false}
 use mathlib.Core.List.{[], ◌∷◌}
-use Rattle.leaves.specs.Text.Lists.{is_empty_list}
+use Rattle.leaves.specs.Text.Over.{is_empty_list}
 use Rattle.leaves.specs.Text.Same.{same_bytes}
 use Rattle.leaves.specs.Text.Trim.{trim, trim_start, trim_end, trim_cons}
 use Rattle.leaves.specs.Text.Title.{is_alert_title}

@@ -8,13 +8,14 @@ use lib.Dec.{eqb, leb, ltb, eqb-suc-zero}
 use lib.ListN.{length, replicate, length-replicate}
 use borrow.Author.Tests.{lt-leb, lt-ltb, le-ltb, le-leb, ltb-true, leb-true, leb-false, eqb-true, not-true, not-false}
 use Rattle.leaves.specs.Text.Bytes.{between}
-use Rattle.leaves.specs.Text.Lists.{when◌then◌else◌, is_empty_list}
+use Rattle.std.specs.Prelude.{if◌then◌else◌}
+use Rattle.leaves.specs.Text.Over.{is_empty_list}
 use Rattle.leaves.specs.Text.Utf8.{Range, ◌to◌, within, trail, table_3_7, follow, well_formed}
-use Rattle.leaves.specs.Text.Utf8Scans.{breaks, expected_after}
+use Rattle.leaves.specs.Text.Utf8Scans.{breaks_character, expected_after}
 use Rattle.leaves.specs.Text.Utf8Expected.{trail_columns, expects, trails, expecting, Expects}
 use Rattle.leaves.specs.declared.text.utf8.Expected.{Expected}
 use Rattle.leaves.proofs.text.TestLaws.{all_below, and_left, and_right, each}
-use Rattle.leaves.specs.Text.Chunk.{is_ascii, Past}
+use Rattle.leaves.specs.Text.Chunk.{is_ascii, Skipped}
 use Rattle.leaves.proofs.text.ChunkLaws.{leap}
 
 -- ---- what follows a first byte
@@ -79,17 +80,17 @@ expecting-trail (suc n) = ap (λ k. expects (suc k) 0x80 0xBF) (sym (length-repl
 pub trailing : (n : ℕ) {o : Expected} → o ≡ expects n 0x80 0xBF → Expects (trails n) o
 trailing n e = rw e (record { is = expecting-trail n; all = columns-trail n })
 
-pub breaks_is : (more low high b : ℕ) → breaks (trail_columns more low high) b ≡ (not (eqb more 0) && (ltb b low || ltb high b))
-unfolding breaks
+pub breaks_is : (more low high b : ℕ) → breaks_character (trail_columns more low high) b ≡ (not (eqb more 0) && (ltb b low || ltb high b))
+unfolding breaks_character
 breaks_is zero low high b = refl
 breaks_is (suc m) low high b = rw (eqb-suc-zero m) (sym (outside low high b))
 
-pub expected_is : (more low high b : ℕ) → expected_after (trail_columns more low high) b ≡ (when eqb more 0 || breaks (trail_columns more low high) b then follow table_3_7 b else trails (more - 1))
-unfolding expected_after breaks
+pub expected_is : (more low high b : ℕ) → expected_after (trail_columns more low high) b ≡ (if eqb more 0 || breaks_character (trail_columns more low high) b then follow table_3_7 b else trails (more - 1))
+unfolding expected_after breaks_character
 expected_is zero low high b = refl
 expected_is (suc m) low high b = let d : suc m - 1 ≡ m = omega arith in rw (eqb-suc-zero m, d) (go (within (low to high) b))
   where
-    go : (t : Bool) → (when t then trails m else follow table_3_7 b) ≡ (when not t then follow table_3_7 b else trails m)
+    go : (t : Bool) → (if t then trails m else follow table_3_7 b) ≡ (if not t then follow table_3_7 b else trails m)
     go true = refl
     go false = refl
 
@@ -103,20 +104,20 @@ module _ (more low high : ℕ) where
       go (suc m) = sym (eqb-suc-zero m)
 
 -- ---- well-formed bytes
-module _ (o : List Range) (b : ℕ) (s : List ℕ) {r : Bool} (e : r ≡ breaks o b) where
+module _ (o : List Range) (b : ℕ) (s : List ℕ) {r : Bool} (e : r ≡ breaks_character o b) where
   pub utf8-no : r ≡ true → false ≡ well_formed o (b ∷ s)
-  unfolding breaks well_formed
+  unfolding breaks_character well_formed
   utf8-no y = go o (sym e ∙ y)
     where
-      go : (p : List Range) → breaks p b ≡ true → false ≡ well_formed p (b ∷ s)
+      go : (p : List Range) → breaks_character p b ≡ true → false ≡ well_formed p (b ∷ s)
       go [] h = absurd (false≢true h)
       go (x ∷ p) h = rw (not-true (within x b) h)
 
   pub utf8-yes : {o' : List Range} → r ≡ false → o' ≡ expected_after o b → well_formed o (b ∷ s) ≡ well_formed o' s
-  unfolding breaks well_formed expected_after
+  unfolding breaks_character well_formed expected_after
   utf8-yes n f = rw f (go o (sym e ∙ n))
     where
-      go : (p : List Range) → breaks p b ≡ false → well_formed p (b ∷ s) ≡ well_formed (expected_after p b) s
+      go : (p : List Range) → breaks_character p b ≡ false → well_formed p (b ∷ s) ≡ well_formed (expected_after p b) s
       go [] h = refl
       go (x ∷ p) h = rw (not-false (within x b) h)
 
@@ -125,7 +126,7 @@ unfolding well_formed
 utf8-ascii b s h = ap (λ o. well_formed o s) (sym (ascii-alone b h))
 
 -- bytes of ASCII where nothing is expected
-pub utf8-leap : (more low high : ℕ) {s rest : List ℕ} → more ≡ 0 → Past is_ascii s rest → well_formed (trail_columns more low high) s ≡ well_formed (trail_columns more low high) rest
+pub utf8-leap : (more low high : ℕ) {s rest : List ℕ} → more ≡ 0 → Skipped is_ascii s rest → well_formed (trail_columns more low high) s ≡ well_formed (trail_columns more low high) rest
 utf8-leap zero low high e p = leap is_ascii (well_formed []) (λ b t q. utf8-ascii b t (ltb-true b 0x80 q)) p
 utf8-leap (suc m) low high e p = absurd (omega (arith, e))
 

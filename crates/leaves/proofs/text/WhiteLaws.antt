@@ -1,24 +1,26 @@
 -- The scalar values of a text, a byte at a time; and the last of them from where the last character begins.
 use mathlib.Core.Path.{◌≡◌, refl, sym, ap, ◌∙◌}
 use mathlib.Core.Bool.{Bool, true, false, not, ◌&&◌, ◌||◌, true≢false}
-use mathlib.Core.List.{List, [], ◌∷◌, ◌++◌}
+use mathlib.Core.List.{List, [], ◌∷◌, ◌++◌, get_last_d, head_d}
 use Prim.Native.Nat.{ℕ, zero, suc, ◌+◌, ◌-◌, ◌*◌, ◌%◌, ◌<◌, ◌≤◌}
 use native.Mathlib.Omega.{arith}
 use lib.Dec.{eqb, leb, ltb, eqb-suc-zero}
 use lib.ListN.{length, take, drop, get_or, take-append-drop, length-drop}
 use lib.Seq.{take_all}
 use borrow.Author.Tests.{ltb-true, leb-true}
-use Rattle.leaves.specs.Text.Lists.{when◌then◌else◌, is_empty_list, first_or, last_or}
+use Rattle.std.specs.Prelude.{if◌then◌else◌}
+use Rattle.leaves.specs.Text.Over.{is_empty_list}
 use Rattle.leaves.specs.Text.Utf8.{Range, ◌to◌, within, trail, table_3_7, follow}
 use Rattle.leaves.specs.Text.Scalars.{replacement, lead_bits, trail_bits, emit, decode, scalars}
-use Rattle.leaves.specs.Text.Utf8Scans.{breaks, expected_after}
+use Rattle.leaves.specs.Text.Utf8Scans.{breaks_character, expected_after}
 use Rattle.leaves.specs.Text.WhiteScans.{value_after, room, BeginsScalar}
 use Rattle.leaves.specs.Text.Utf8Expected.{trail_columns}
 use Rattle.leaves.specs.Text.White.{is_white, starts_with_white, ends_with_white}
-use Rattle.leaves.proofs.text.ScanLaws.{At, next}
+use Rattle.leaves.proofs.text.ScanLaws.{ScanAt, next}
 use Rattle.leaves.proofs.text.TestLaws.{all_below, each, and_left, and_right}
 use Rattle.leaves.proofs.text.Utf8Laws.{whole, from-to}
 use Rattle.leaves.proofs.text.ScanLaws.{scan}
+use Rattle.leaves.proofs.text.LastLaws.{last-cons}
 
 -- ---- the value of the bits
 
@@ -53,12 +55,12 @@ long (suc n) low high = ap suc (length-trails n)
     length-trails : (n : ℕ) → length (lib.ListN.replicate n trail) ≡ n
     length-trails n = lib.ListN.length-replicate n trail
 
-pub value_is : (more low high value b : ℕ) → value_after (trail_columns more low high) value b ≡ (when eqb more 0 || breaks (trail_columns more low high) b then lead_bits b else value * 0x40 + b % 0x40)
-unfolding value_after breaks trail_bits
+pub value_is : (more low high value b : ℕ) → value_after (trail_columns more low high) value b ≡ (if eqb more 0 || breaks_character (trail_columns more low high) b then lead_bits b else value * 0x40 + b % 0x40)
+unfolding value_after breaks_character trail_bits
 value_is zero low high value b = refl
 value_is (suc m) low high value b = rw (eqb-suc-zero m) (go (within (low to high) b))
   where
-    go : (t : Bool) → (when t then trail_bits value b else lead_bits b) ≡ (when not t then lead_bits b else value * 0x40 + b % 0x40)
+    go : (t : Bool) → (if t then trail_bits value b else lead_bits b) ≡ (if not t then lead_bits b else value * 0x40 + b % 0x40)
     go true = refl
     go false = refl
 
@@ -70,59 +72,59 @@ room_kept more low high before l h value b k f e =
     rw (long more low high) at r
 
 -- ---- one byte more
-last-emit : (o : List Range) (v d : ℕ) (s : List ℕ) → last_or d (emit o v s) ≡ last_or (when is_empty_list o then v else d) s
-unfolding emit last_or is_empty_list
-last-emit [] v d s = refl
+last-emit : (o : List Range) (v d : ℕ) (s : List ℕ) → get_last_d (emit o v s) d ≡ get_last_d s (if is_empty_list o then v else d)
+unfolding emit get_last_d is_empty_list
+last-emit [] v d s = last-cons v d s
 last-emit (r ∷ o) v d s = refl
 
-last_step : (o : List Range) (v d b : ℕ) (s : List ℕ) → last_or d (decode o v (b ∷ s)) ≡ last_or (when is_empty_list (expected_after o b) then value_after o v b else when breaks o b then replacement else d) (decode (expected_after o b) (value_after o v b) s)
-unfolding decode expected_after value_after breaks last_or
+last_step : (o : List Range) (v d b : ℕ) (s : List ℕ) → get_last_d (decode o v (b ∷ s)) d ≡ get_last_d (decode (expected_after o b) (value_after o v b) s) (if is_empty_list (expected_after o b) then value_after o v b else if breaks_character o b then replacement else d)
+unfolding decode expected_after value_after breaks_character get_last_d
 last_step [] v d b s = last-emit (follow table_3_7 b) (lead_bits b) d (decode (follow table_3_7 b) (lead_bits b) s)
 last_step (r ∷ o) v d b s = go (within r b) refl
   where
-    go : (t : Bool) → within r b ≡ t → last_or d (decode (r ∷ o) v (b ∷ s)) ≡ last_or (when is_empty_list (expected_after (r ∷ o) b) then value_after (r ∷ o) v b else when breaks (r ∷ o) b then replacement else d) (decode (expected_after (r ∷ o) b) (value_after (r ∷ o) v b) s)
+    go : (t : Bool) → within r b ≡ t → get_last_d (decode (r ∷ o) v (b ∷ s)) d ≡ get_last_d (decode (expected_after (r ∷ o) b) (value_after (r ∷ o) v b) s) (if is_empty_list (expected_after (r ∷ o) b) then value_after (r ∷ o) v b else if breaks_character (r ∷ o) b then replacement else d)
     go true e = rw e (last-emit o (trail_bits v b) d (decode o (trail_bits v b) s))
-    go false e = rw e (last-emit (follow table_3_7 b) (lead_bits b) replacement (decode (follow table_3_7 b) (lead_bits b) s))
+    go false e = rw e (last-cons replacement d (emit (follow table_3_7 b) (lead_bits b) (decode (follow table_3_7 b) (lead_bits b) s)) ∙ last-emit (follow table_3_7 b) (lead_bits b) replacement (decode (follow table_3_7 b) (lead_bits b) s))
 
-last-broken : (r : Range) (o : List Range) (v d b : ℕ) (s : List ℕ) → within r b ≡ false → last_or d (decode (r ∷ o) v (b ∷ s)) ≡ last_or replacement (decode [] 0 (b ∷ s))
-unfolding decode last_or
-last-broken r o v d b s e = rw e
+last-broken : (r : Range) (o : List Range) (v d b : ℕ) (s : List ℕ) → within r b ≡ false → get_last_d (decode (r ∷ o) v (b ∷ s)) d ≡ get_last_d (decode [] 0 (b ∷ s)) replacement
+unfolding decode get_last_d
+last-broken r o v d b s e = rw e (last-cons replacement d (emit (follow table_3_7 b) (lead_bits b) (decode (follow table_3_7 b) (lead_bits b) s)))
 
-first-emit : (o : List Range) (v d : ℕ) (s : List ℕ) → first_or d (emit o v s) ≡ (when is_empty_list o then v else first_or d s)
-unfolding emit first_or is_empty_list
+first-emit : (o : List Range) (v d : ℕ) (s : List ℕ) → head_d (emit o v s) d ≡ (if is_empty_list o then v else head_d s d)
+unfolding emit head_d is_empty_list
 first-emit [] v d s = refl
 first-emit (r ∷ o) v d s = refl
 
-first_step : (o : List Range) (v b : ℕ) (s : List ℕ) → first_or replacement (decode o v (b ∷ s)) ≡ (when breaks o b then replacement else when is_empty_list (expected_after o b) then value_after o v b else first_or replacement (decode (expected_after o b) (value_after o v b) s))
-unfolding decode expected_after value_after breaks first_or
+first_step : (o : List Range) (v b : ℕ) (s : List ℕ) → head_d (decode o v (b ∷ s)) replacement ≡ (if breaks_character o b then replacement else if is_empty_list (expected_after o b) then value_after o v b else head_d (decode (expected_after o b) (value_after o v b) s) replacement)
+unfolding decode expected_after value_after breaks_character head_d
 first_step [] v b s = first-emit (follow table_3_7 b) (lead_bits b) replacement (decode (follow table_3_7 b) (lead_bits b) s)
 first_step (r ∷ o) v b s = go (within r b) refl
   where
-    go : (t : Bool) → within r b ≡ t → first_or replacement (decode (r ∷ o) v (b ∷ s)) ≡ (when breaks (r ∷ o) b then replacement else when is_empty_list (expected_after (r ∷ o) b) then value_after (r ∷ o) v b else first_or replacement (decode (expected_after (r ∷ o) b) (value_after (r ∷ o) v b) s))
+    go : (t : Bool) → within r b ≡ t → head_d (decode (r ∷ o) v (b ∷ s)) replacement ≡ (if breaks_character (r ∷ o) b then replacement else if is_empty_list (expected_after (r ∷ o) b) then value_after (r ∷ o) v b else head_d (decode (expected_after (r ∷ o) b) (value_after (r ∷ o) v b) s) replacement)
     go true e = rw e (first-emit o (trail_bits v b) replacement (decode o (trail_bits v b) s))
     go false e = rw e
 
 -- ---- the last character, from where it begins
-pick : (p : List Range) (w c d : ℕ) (s : List ℕ) → ((x y : ℕ) → is_empty_list p ≡ false → last_or x (decode p w s) ≡ last_or y (decode p w s)) → last_or (when is_empty_list p then w else c) (decode p w s) ≡ last_or (when is_empty_list p then w else d) (decode p w s)
+pick : (p : List Range) (w c d : ℕ) (s : List ℕ) → ((x y : ℕ) → is_empty_list p ≡ false → get_last_d (decode p w s) x ≡ get_last_d (decode p w s) y) → get_last_d (decode p w s) (if is_empty_list p then w else c) ≡ get_last_d (decode p w s) (if is_empty_list p then w else d)
 unfolding is_empty_list
 pick [] w c d s later = refl
 pick (r ∷ p) w c d s later = later c d refl
 
 -- where something is expected a scalar value is to come, so what stands for none does not matter
-settled-end : (o : List Range) (v c d : ℕ) → is_empty_list o ≡ false → last_or c (decode o v []) ≡ last_or d (decode o v [])
-unfolding is_empty_list decode last_or
+settled-end : (o : List Range) (v c d : ℕ) → is_empty_list o ≡ false → get_last_d (decode o v []) c ≡ get_last_d (decode o v []) d
+unfolding is_empty_list decode get_last_d
 settled-end [] v c d h = absurd (true≢false h)
 settled-end (r ∷ o) v c d h = refl
 
-settled : (o : List Range) (v c d : ℕ) (s : List ℕ) → is_empty_list o ≡ false → last_or c (decode o v s) ≡ last_or d (decode o v s)
+settled : (o : List Range) (v c d : ℕ) (s : List ℕ) → is_empty_list o ≡ false → get_last_d (decode o v s) c ≡ get_last_d (decode o v s) d
 settled o v c d [] h = settled-end o v c d h
 settled o v c d (b ∷ s) h =
     last_step o v c b s
     ∙ pick (expected_after o b) (value_after o v b) _ _ s (λ x y k. settled (expected_after o b) (value_after o v b) x y s k)
     ∙ sym (last_step o v d b s)
 
-fresh : (v w c d b : ℕ) (s : List ℕ) → last_or c (decode [] v (b ∷ s)) ≡ last_or d (decode [] w (b ∷ s))
-unfolding expected_after value_after breaks
+fresh : (v w c d b : ℕ) (s : List ℕ) → get_last_d (decode [] v (b ∷ s)) c ≡ get_last_d (decode [] w (b ∷ s)) d
+unfolding expected_after value_after breaks_character
 fresh v w c d b s =
     last_step [] v c b s
     ∙ pick (follow table_3_7 b) (lead_bits b) c d s (λ x y k. settled (follow table_3_7 b) (lead_bits b) x y s k)
@@ -176,11 +178,11 @@ no-trail r o b h f = go (within r b) refl
         let m : b ≤ r.high = leb-true _ _ (and_right (leb r.low b) (leb b r.high) e) in
         absurd (true≢false (sym (from-to b 0x80 0xBF (omega arith) (omega arith)) ∙ f))
 
-resync : (xs : List ℕ) (o : List Range) (v c d b : ℕ) (s : List ℕ) → trails o ≡ true → within trail b ≡ false → last_or c (decode o v (xs ++ b ∷ s)) ≡ last_or d (decode [] 0 (b ∷ s))
+resync : (xs : List ℕ) (o : List Range) (v c d b : ℕ) (s : List ℕ) → trails o ≡ true → within trail b ≡ false → get_last_d (decode o v (xs ++ b ∷ s)) c ≡ get_last_d (decode [] 0 (b ∷ s)) d
 resync [] [] v c d b s h f = fresh v 0 c d b s
 resync [] (r ∷ o) v c d b s h f = broken
   where
-    broken : last_or c (decode (r ∷ o) v (b ∷ s)) ≡ last_or d (decode [] 0 (b ∷ s))
+    broken : get_last_d (decode (r ∷ o) v (b ∷ s)) c ≡ get_last_d (decode [] 0 (b ∷ s)) d
     broken = last-broken r o v c b s (no-trail r o b h f) ∙ fresh 0 0 replacement d b s
 resync (x ∷ xs) o v c d b s h f = last_step o v c x (xs ++ b ∷ s) ∙ resync xs (expected_after o x) (value_after o v x) _ d b s (after-trails o x h) f
 
@@ -191,7 +193,7 @@ ends-from s (suc n) g =
     let (h, f) = g.fresh (omega arith) in
     let e : drop (suc n) s ≡ get_or s (suc n) 0 ∷ drop (suc n + 1) s = next s (suc n) h in
     let whole-text : take (suc n) s ++ (get_or s (suc n) 0 ∷ drop (suc n + 1) s) ≡ s = rw (← e) (take-append-drop (suc n) s) in
-    let both : last_or replacement (decode [] 0 (take (suc n) s ++ (get_or s (suc n) 0 ∷ drop (suc n + 1) s))) ≡ last_or replacement (decode [] 0 (get_or s (suc n) 0 ∷ drop (suc n + 1) s)) = resync (take (suc n) s) [] 0 replacement replacement (get_or s (suc n) 0) (drop (suc n + 1) s) refl f in
+    let both : get_last_d (decode [] 0 (take (suc n) s ++ (get_or s (suc n) 0 ∷ drop (suc n + 1) s))) replacement ≡ get_last_d (decode [] 0 (get_or s (suc n) 0 ∷ drop (suc n + 1) s)) replacement = resync (take (suc n) s) [] 0 replacement replacement (get_or s (suc n) 0) (drop (suc n + 1) s) refl f in
     rw e (ap is_white (sym (rw whole-text at both)))
 
 -- r is what was answered of the part from there on
@@ -202,16 +204,16 @@ ends-part s at e g =
 
 -- ---- the loops
 unfoldable pub start_from : List Range → ℕ → List ℕ → Bool
-start_from o v s = is_white (first_or replacement (decode o v s))
+start_from o v s = is_white (head_d (decode o v s) replacement)
 
 unfoldable pub end_from : ℕ → List Range → ℕ → List ℕ → Bool
-end_from d o v s = is_white (last_or d (decode o v s))
+end_from d o v s = is_white (get_last_d (decode o v s) d)
 
 no-white : is_white replacement ≡ false
 unfolding is_white
 no-white = refl
 
-module _ (o : List Range) (v b : ℕ) (s : List ℕ) {r : Bool} (e : r ≡ breaks o b) where
+module _ (o : List Range) (v b : ℕ) (s : List ℕ) {r : Bool} (e : r ≡ breaks_character o b) where
   pub start-broken : r ≡ true → false ≡ start_from o v (b ∷ s)
   unfolding start_from
   start-broken y = rw (first_step o v b s, ← e, y) (sym no-white)
@@ -225,12 +227,12 @@ module _ (o : List Range) (v b : ℕ) (s : List ℕ) {r : Bool} (e : r ≡ break
     unfolding start_from
     start-more z = rw (first_step o v b s, ← e, n, ← f, whole more low high, z, ← g)
 
-pub start_init : (s : List ℕ) {o : List Range} {v : ℕ} → o ≡ [] → v ≡ 0 → At (starts_with_white s) (start_from o v) s 0
+pub start_init : (s : List ℕ) {o : List Range} {v : ℕ} → o ≡ [] → v ≡ 0 → ScanAt (starts_with_white s) (start_from o v) s 0
 unfolding starts_with_white scalars start_from
 start_init s e f = rw (e, f) (record { within = omega arith; same = refl })
 
-start-expected : (o : List Range) (v : ℕ) → first_or replacement (decode o v []) ≡ replacement
-unfolding first_or decode
+start-expected : (o : List Range) (v : ℕ) → head_d (decode o v []) replacement ≡ replacement
+unfolding head_d decode
 start-expected [] v = refl
 start-expected (r ∷ o) v = refl
 
@@ -238,11 +240,11 @@ pub start_none : (o : List Range) (v : ℕ) → false ≡ start_from o v []
 unfolding start_from
 start_none o v = rw start-expected (sym no-white)
 
-pub end_init : (s : List ℕ) {o : List Range} {v : ℕ} → o ≡ [] → v ≡ 0 → At (ends_with_white s) (end_from replacement o v) s 0
+pub end_init : (s : List ℕ) {o : List Range} {v : ℕ} → o ≡ [] → v ≡ 0 → ScanAt (ends_with_white s) (end_from replacement o v) s 0
 unfolding ends_with_white scalars end_from
 end_init s e f = rw (e, f) (record { within = omega arith; same = refl })
 
-module _ (d : ℕ) (o : List Range) (v b : ℕ) (s : List ℕ) (more low high : ℕ) {r : Bool} {v' d' : ℕ} (e : r ≡ breaks o b) (f : trail_columns more low high ≡ expected_after o b) (g : v' ≡ value_after o v b) where
+module _ (d : ℕ) (o : List Range) (v b : ℕ) (s : List ℕ) (more low high : ℕ) {r : Bool} {v' d' : ℕ} (e : r ≡ breaks_character o b) (f : trail_columns more low high ≡ expected_after o b) (g : v' ≡ value_after o v b) where
   pub end-whole : d' ≡ v' → eqb more 0 ≡ true → end_from d o v (b ∷ s) ≡ end_from d' (trail_columns more low high) v' s
   unfolding end_from
   end-whole k z = rw (last_step o v d b s, ← f, whole more low high, z, k, ← g)
@@ -256,12 +258,12 @@ module _ (d : ℕ) (o : List Range) (v b : ℕ) (s : List ℕ) (more low high : 
   end-kept k z n = rw (last_step o v d b s, ← f, whole more low high, z, ← e, n, k, ← g)
 
 pub end-done : (d more low high v : ℕ) {w : Bool} → eqb more 0 ≡ true → w ≡ is_white d → w ≡ end_from d (trail_columns more low high) v []
-unfolding end_from decode last_or
+unfolding end_from decode get_last_d
 end-done d zero low high v z e = e
 end-done d (suc n) low high v z e = absurd (true≢false (sym z ∙ eqb-suc-zero n))
 
 pub end-open : (d more low high v : ℕ) {w : Bool} → eqb more 0 ≡ false → w ≡ false → w ≡ end_from d (trail_columns more low high) v []
-unfolding end_from decode last_or
+unfolding end_from decode get_last_d
 end-open d zero low high v z e = absurd (true≢false z)
 end-open d (suc n) low high v z e = e ∙ sym no-white
 

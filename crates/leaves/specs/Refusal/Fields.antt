@@ -1,7 +1,6 @@
 -- The fields of a record (refusal 7: "value out of range, unused word not 0").
-use Rattle.std.specs.Prelude.{ℕ, Bool, not, ◌&&◌, ◌||◌, [], ◌∷◌, eqb, ltb}
+use Rattle.std.specs.Prelude.{ℕ, Bool, not, ◌&&◌, ◌||◌, [], ◌∷◌, eqb, ltb, if◌then◌else◌}
 use Rattle.leaves.specs.Text.Bytes.{between}
-use Rattle.leaves.specs.Text.Lists.{when◌then◌else◌}
 use Rattle.leaves.specs.Sheet.Kinds.{among, heading, alert, list, code_block, html_container, definition}
 use Rattle.leaves.specs.Sheet.Kinds.{footnote_definition, table, frontmatter, leaf_directive}
 use Rattle.leaves.specs.Sheet.Kinds.{container_directive, item, html_tag, attribute, text, escape, emphasis}
@@ -19,37 +18,37 @@ use Rattle.leaves.specs.declared.sheet.records.Text.{Text}
 -- The most that A may be; 0 where it is not used.
 unfoldable pub most_a : ℕ → ℕ
 most_a kind =
-    when eqb kind heading
+    if eqb kind heading
     then 255
-    else when among kind
+    else if among kind
     (alert ∷ list ∷ code_block ∷ html_container ∷ frontmatter
     ∷ emphasis ∷ strong ∷ line_break ∷ math ∷ [])
     then 1
-    else when among kind (definition ∷ item ∷ link ∷ image ∷ [])
+    else if among kind (definition ∷ item ∷ link ∷ image ∷ [])
     then 2
-    else when eqb kind table
+    else if eqb kind table
     then 0xFFFFFFFF
-    else when eqb kind escape
+    else if eqb kind escape
     then 0x10FFFF
     else 0
 
 -- "B: list delimiter 0–4 in source order; info present; number present; dollars, 0–255 (0 for code math)."
 unfoldable pub most_b : ℕ → ℕ → ℕ
 most_b kind a =
-    when eqb kind list
+    if eqb kind list
     then 4
-    else when among kind (code_block ∷ item ∷ [])
+    else if among kind (code_block ∷ item ∷ [])
     then 1
-    else when eqb kind math && eqb a 0
+    else if eqb kind math && eqb a 0
     then 255
     else 0
 
 -- "C: list tight; item number (0 when absent)."
 unfoldable pub most_c : ℕ → ℕ → ℕ
 most_c kind b =
-    when eqb kind list
+    if eqb kind list
     then 1
-    else when eqb kind item && eqb b 1
+    else if eqb kind item && eqb b 1
     then 0xFFFFFFFF
     else 0
 

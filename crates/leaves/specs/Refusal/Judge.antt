@@ -1,7 +1,6 @@
 -- Which sheets are refused, with which number and record. Document 01, 'The call': "Order: 1, 2, 3; then 4 to 9 record
 -- by record; then 10 over all records, giving the first such container".
-use Rattle.std.specs.Prelude.{ℕ, zero, suc, ◌%◌, ◌≡◌, not, List, eqb, ltb, length, Err, Ok}
-use Rattle.leaves.specs.Text.Lists.{when◌then◌else◌}
+use Rattle.std.specs.Prelude.{ℕ, zero, suc, ◌%◌, ◌≡◌, not, List, eqb, ltb, length, Err, Ok, if◌then◌else◌}
 use Rattle.leaves.specs.Sheet.Records.{record_words, records_of, record_at}
 use Rattle.leaves.specs.Refusal.Places.{open_at}
 use Rattle.leaves.specs.Refusal.Verdict.{Answer, Judged, judged_answer, or_else}
@@ -22,11 +21,11 @@ judge_from w bytes (suc k) i = let later = judge_from w bytes k (suc i) in or_el
 -- The answer for a sheet and its text.
 unfoldable pub judge_sheet : List ℕ → List ℕ → Judged
 judge_sheet w bytes =
-    when not (eqb (length w % record_words) 0)
+    if not (eqb (length w % record_words) 0)
     then Err OddSheet
-    else when ltb most_records (records_of w)
+    else if ltb most_records (records_of w)
     then Err LongSheet
-    else when ltb most_bytes (length bytes)
+    else if ltb most_bytes (length bytes)
     then Err LongText
     else or_else (judge_from w bytes (records_of w) 0) (tags_from w (records_of w) (records_of w) 0)
 

@@ -2,13 +2,13 @@
 -- Document 01: "Children: blocks under the sheet, quote, alert, item and footnote definition; items under list; rows,
 -- then cells; inlines under paragraph, heading, cell and what `Inline::children` lists. Directives: attributes, then
 -- inlines, then (container only) blocks. HTML container: opening tag, closing tag, content of its sort."
-use Rattle.std.specs.Prelude.{ℕ, suc, ◌+◌, Bool, not, ◌&&◌, ◌||◌, List, [], ◌∷◌, eqb, ltb, leb}
-use Rattle.leaves.specs.Text.Lists.{when◌then◌else◌}
+use Rattle.std.specs.Prelude.{ℕ, suc, ◌+◌, Bool, not, ◌&&◌, ◌||◌, List, [], ◌∷◌, eqb, ltb, leb, if◌then◌else◌}
 use Rattle.leaves.specs.Sheet.Kinds.{html_tag}
-use Rattle.leaves.specs.Sheet.Siblings.{gather}
-use Rattle.leaves.specs.Refusal.Groups.{holds_blocks, holds_items, holds_rows, holds_cells, holds_inlines}
-use Rattle.leaves.specs.Refusal.Groups.{holds_label, holds_label_and_blocks}
-use Rattle.leaves.specs.Refusal.Groups.{holds_tags_and_blocks, holds_tags_and_inlines}
+use Rattle.leaves.specs.Sheet.Siblings.{fold_siblings}
+use Rattle.leaves.specs.Refusal.Groups.{parent_of_blocks, parent_of_items, parent_of_rows, parent_of_cells}
+use Rattle.leaves.specs.Refusal.Groups.{parent_of_inlines}
+use Rattle.leaves.specs.Refusal.Groups.{parent_of_label, parent_of_label_and_blocks}
+use Rattle.leaves.specs.Refusal.Groups.{parent_of_tags_and_blocks, parent_of_tags_and_inlines}
 use Rattle.leaves.specs.Refusal.Groups.{block_group, item_group, row_group, cell_group}
 use Rattle.leaves.specs.Refusal.Groups.{tag_group, attribute_group, inline_group, parent_group, child_group}
 use Rattle.leaves.specs.declared.refusal.places.Open.{Open}
@@ -17,31 +17,31 @@ use Rattle.leaves.specs.declared.refusal.places.Open.{Open}
 unfoldable pub holds : ℕ → List ℕ
 holds group =
     -- "blocks under the sheet, quote, alert, item and footnote definition"
-    when eqb group holds_blocks
+    if eqb group parent_of_blocks
     then block_group ∷ []
     -- "items under list"
-    else when eqb group holds_items
+    else if eqb group parent_of_items
     then item_group ∷ []
     -- "rows, then cells": rows under table
-    else when eqb group holds_rows
+    else if eqb group parent_of_rows
     then row_group ∷ []
     -- and cells under row
-    else when eqb group holds_cells
+    else if eqb group parent_of_cells
     then cell_group ∷ []
     -- "inlines under paragraph, heading, cell and what `Inline::children` lists"
-    else when eqb group holds_inlines
+    else if eqb group parent_of_inlines
     then inline_group ∷ []
     -- "Directives: attributes, then inlines"
-    else when eqb group holds_label
+    else if eqb group parent_of_label
     then attribute_group ∷ inline_group ∷ []
     -- "then (container only) blocks"
-    else when eqb group holds_label_and_blocks
+    else if eqb group parent_of_label_and_blocks
     then attribute_group ∷ inline_group ∷ block_group ∷ []
     -- "HTML container: opening tag, closing tag, content of its sort": blocks
-    else when eqb group holds_tags_and_blocks
+    else if eqb group parent_of_tags_and_blocks
     then tag_group ∷ block_group ∷ []
     -- or inlines
-    else when eqb group holds_tags_and_inlines
+    else if eqb group parent_of_tags_and_inlines
     then tag_group ∷ inline_group ∷ []
     -- every other kind has no children
     else []
@@ -51,7 +51,7 @@ unfoldable pub place_in : ℕ → List ℕ → ℕ → ℕ
 place_in first [] child = 0
 place_in first (group ∷ groups) child =
     let later = place_in (suc first) groups child in
-    when eqb child group then first else later
+    if eqb child group then first else later
 
 -- the place of a kind under a group of parents, from 1 on; 0 where it is not allowed there
 unfoldable pub place_of : ℕ → ℕ → ℕ
@@ -62,16 +62,16 @@ place_of group kind = place_in 1 (holds group) (child_group kind)
 -- the record is the first child), and how many HTML tags stand before it.
 
 -- under a parent of a group, before its first child
-unfoldable pub opened : ℕ → Open
-opened group = record { group = group; stage = 0; tags = 0 }
+unfoldable pub before_children : ℕ → Open
+before_children group = record { group = group; stage = 0; tags = 0 }
 
 -- after one more child, of a kind
-unfoldable pub joined : Open → ℕ → Open
-joined o kind =
+unfoldable pub after_child : Open → ℕ → Open
+after_child o kind =
     record {
       group = o.group;
       stage = place_of o.group kind;
-      tags = when eqb kind html_tag then o.tags + 1 else o.tags;
+      tags = if eqb kind html_tag then o.tags + 1 else o.tags;
     }
 
 -- Document 01, refusal 6: "not allowed under its parent, or out of order there; a third HTML tag, or content before the
@@ -79,7 +79,7 @@ joined o kind =
 unfoldable pub misplaced : Open → ℕ → Bool
 misplaced o kind =
     let place = place_of o.group kind in
-    let container = eqb o.group holds_tags_and_blocks || eqb o.group holds_tags_and_inlines in
+    let container = eqb o.group parent_of_tags_and_blocks || eqb o.group parent_of_tags_and_inlines in
     eqb place 0
     || ltb place o.stage
     || eqb kind html_tag && leb 2 o.tags
@@ -88,8 +88,8 @@ misplaced o kind =
 -- What stands before record i of the sheet, where its level is `level`. The sheet itself holds blocks.
 unfoldable pub open_at : List ℕ → ℕ → ℕ → Open
 open_at w level i =
-    gather
-    (opened holds_blocks)
-    (λ r. opened (parent_group r.kind r.a))
-    (λ o r. joined o r.kind)
+    fold_siblings
+    (before_children parent_of_blocks)
+    (λ r. before_children (parent_group r.kind r.a))
+    (λ o r. after_child o r.kind)
     w level i

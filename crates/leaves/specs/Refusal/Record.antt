@@ -1,6 +1,5 @@
 -- The tests of one record. Document 01, 'The call': "then 4 to 9 record by record".
-use Rattle.std.specs.Prelude.{ℕ, zero, suc, ◌+◌, Bool, not, ◌||◌, List, eqb, ltb, Err, Ok}
-use Rattle.leaves.specs.Text.Lists.{when◌then◌else◌}
+use Rattle.std.specs.Prelude.{ℕ, zero, suc, ◌+◌, Bool, not, ◌||◌, List, eqb, ltb, Err, Ok, if◌then◌else◌}
 use Rattle.leaves.specs.Sheet.Kinds.{is_kind}
 use Rattle.leaves.specs.Sheet.Records.{record_at}
 use Rattle.leaves.specs.Refusal.Places.{misplaced}
@@ -31,9 +30,9 @@ bad_level before level = eqb level 0 || ltb most_level level || ltb (before + 1)
 -- the tests 8 and 9: test 8 is made of both texts before test 9
 unfoldable pub judge_texts : List ℕ → ℕ → Rec → Judged
 judge_texts bytes i r =
-    when text_outside bytes r.first || text_outside bytes r.second
+    if text_outside bytes r.first || text_outside bytes r.second
     then Err (TextOutside i)
-    else when text_ill_formed bytes r.first || text_ill_formed bytes r.second
+    else if text_ill_formed bytes r.first || text_ill_formed bytes r.second
     then Err (NotUtf8 i)
     else Ok tt
 
@@ -41,12 +40,12 @@ judge_texts bytes i r =
 -- it under its parent.
 unfoldable pub judge : List ℕ → ℕ → Rec → ℕ → Open → Judged
 judge bytes i r before o =
-    when not (is_kind r.kind)
+    if not (is_kind r.kind)
     then Err (UnknownKind i)
-    else when bad_level before r.level
+    else if bad_level before r.level
     then Err (BadLevel i)
-    else when misplaced o r.kind
+    else if misplaced o r.kind
     then Err (Misplaced i)
-    else when bad_field r
+    else if bad_field r
     then Err (BadField i)
     else judge_texts bytes i r

@@ -1,6 +1,5 @@
 -- Refusal 10. Document 01, 'The call': "then 10 over all records, giving the first such container".
-use Rattle.std.specs.Prelude.{ℕ, zero, suc, Bool, ◌&&◌, List, eqb, ltb, Err, Ok}
-use Rattle.leaves.specs.Text.Lists.{when◌then◌else◌}
+use Rattle.std.specs.Prelude.{ℕ, zero, suc, Bool, ◌&&◌, List, eqb, ltb, Err, Ok, if◌then◌else◌}
 use Rattle.leaves.specs.Sheet.Kinds.{html_container, html_tag}
 use Rattle.leaves.specs.Sheet.Records.{record_at}
 use Rattle.leaves.specs.Sheet.Forest.{under, count_kind}
@@ -18,4 +17,4 @@ unfoldable pub tags_from : List ℕ → ℕ → ℕ → ℕ → Judged
 tags_from w n zero i = Ok tt
 tags_from w n (suc k) i =
     let later = tags_from w n k (suc i) in
-    when lacks_tags w n i then Err (TagsMissing i) else later
+    if lacks_tags w n i then Err (TagsMissing i) else later

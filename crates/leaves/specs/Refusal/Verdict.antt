@@ -1,6 +1,5 @@
 -- The answer for a sheet: document 01, 'The call': "A refusal returns number and record".
-use Rattle.std.specs.Prelude.{ℕ, Err, Ok, Result, is_ok}
-use Rattle.leaves.specs.Text.Lists.{when◌then◌else◌}
+use Rattle.std.specs.Prelude.{ℕ, Err, Ok, Result, is_ok, if◌then◌else◌}
 use Rattle.leaves.specs.declared.refusal.verdict.Malformed.{Malformed}
 use Rattle.leaves.specs.declared.refusal.verdict.Malformed.TheVariants.{
   OddSheet,
@@ -47,4 +46,4 @@ judged_answer (Err malformed) = refusal_answer malformed
 
 -- the first where it is a refusal, else the other
 unfoldable pub or_else : Judged → Judged → Judged
-or_else j other = when is_ok j then other else j
+or_else j other = if is_ok j then other else j

@@ -1,10 +1,10 @@
 -- The report: its entries, their words, and what listing entries does to the report and to the tally.
 -- Document 01: "each diagnostic is written into what remains of the report".
-use Rattle.std.specs.Prelude.{Bool, true, false, cond, List, [], ◌∷◌, ◌++◌, ◌≡◌, ℕ}
+use Rattle.std.specs.Prelude.{Bool, true, false, if◌then◌else◌, List, [], ◌∷◌, ◌++◌, ◌≡◌, ℕ}
 use Rattle.std.specs.Prelude.{zero, suc, min, ◌+◌, ◌-◌, ◌^◌, leb, length, get_or, take, drop}
 use Rattle.leaves.specs.declared.sheet.records.Span.{Span}
 use Rattle.leaves.specs.declared.report.entries.Tally.{Tally}
-use Rattle.leaves.specs.Text.Lists.{over}
+use Rattle.leaves.specs.Text.Over.{over}
 
 -- ---- entries and their words
 
@@ -49,8 +49,8 @@ abbrev pub capped : ℕ → ℕ → ℕ
 capped a b = min cap (a + b)
 
 -- the tally of no entries
-abbrev pub start : Tally
-start = record { words = 0; entries = 0 }
+abbrev pub empty_tally : Tally
+empty_tally = record { words = 0; entries = 0 }
 
 -- the tally with one more entry, of n words
 abbrev pub counted : Tally → ℕ → Tally
@@ -70,7 +70,7 @@ put w s [] = w
 put w s (e ∷ es) = put (over w s.words (words e)) (counted s (length (words e))) es
 
 -- listing the entries makes t of the tally s, and `new` of the report `old`
-pub record Lists (s t : Tally) (old new : List ℕ) (es : List Entry) : Type 0 where
+pub record WritesEntries (s t : Tally) (old new : List ℕ) (es : List Entry) : Type 0 where
   pub tally : t ≡ after s es
   pub written : new ≡ put old s es
 
@@ -79,7 +79,7 @@ unfoldable pub fitting : ℕ → List Entry → List Entry
 fitting n [] = []
 fitting n (e ∷ es) =
     let later = fitting (n - length (words e)) es in
-    cond (leb (length (words e)) n) (e ∷ later) []
+    if leb (length (words e)) n then e ∷ later else []
 
 -- ---- reading back
 

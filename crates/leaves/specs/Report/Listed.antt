@@ -1,6 +1,6 @@
 -- The report as the walks write it.
 use Rattle.std.specs.Prelude.{◌≡◌, List, [], ◌∷◌, ◌++◌, ℕ, ◌+◌, take}
-use Rattle.leaves.specs.Report.Entries.{Entry, Lists}
+use Rattle.leaves.specs.Report.Entries.{Entry, WritesEntries}
 use Rattle.leaves.specs.declared.report.entries.Report.{Report}
 
 -- the path of the record at which the walk stands
@@ -9,7 +9,7 @@ path_of r = take r.depth r.path
 
 -- y is x with the entries es listed; the walk stands where it stood
 pub record Adds (x y : Report) (es : List Entry) : Type 0 where
-  pub lists : Lists x.tally y.tally x.words.now y.words.now es
+  pub lists : WritesEntries x.tally y.tally x.words.now y.words.now es
   pub loan : y.words.ghost_name ≡ x.words.ghost_name
   pub path : path_of y ≡ path_of x
   pub depth : y.depth ≡ x.depth

@@ -1,7 +1,7 @@
 -- The trees of a sheet that stand side by side, as an iterator gives them.
 use Rattle.std.specs.Prelude.{List, [], ◌∷◌, ℕ, ◌+◌, Option, Some, None}
 use Rattle.std.specs.Iterator.{YieldsFirstBy}
-use Rattle.leaves.specs.Sheet.Forest.{Forest, none, tree, under, size}
+use Rattle.leaves.specs.Sheet.Forest.{Forest, no_tree, tree, under, size}
 use Rattle.leaves.specs.Sheet.Trees.{trees}
 use Rattle.leaves.specs.declared.sheet.records.Rec.{Rec}
 use Rattle.leaves.specs.declared.sheet.trees.Records.{Records}
@@ -10,10 +10,10 @@ use Rattle.leaves.specs.declared.sheet.trees.Roots.{Roots}
 
 -- the trees side by side: of each the record at its top, and the trees under that
 unfoldable pub roots : Forest → List (Rec × Forest)
-roots none = []
+roots no_tree = []
 roots (tree r kids rest) = (r, kids) ∷ roots rest
 
--- the same of a tree that was given
+-- the record at the top of a tree that was given, and the trees under it
 abbrev pub tree_seen : Tree → Rec × Forest
 tree_seen t = (t.root, trees t.kids t.root.level)
 
@@ -21,7 +21,8 @@ tree_seen t = (t.root, trees t.kids t.root.level)
 abbrev pub trees_at : Records → ℕ → ℕ → Forest
 trees_at r j level = under r.sheet.now r.n j level
 
--- the same from the next record on; or behind the tree that was given last, whose level is k
+-- the trees deeper than a level from the next record on; or, where a tree of the level k was given last, those behind
+-- it
 abbrev pub trees_behind : Records → Option ℕ → ℕ → Forest
 trees_behind r None level = trees r level
 trees_behind r (Some k) level = trees_at r (r.next + size (trees r k)) level

@@ -1,7 +1,7 @@
 -- The records of a sheet as a walk reads them.
 use Rattle.std.specs.Prelude.{◌≡◌, List, ℕ, ◌+◌, ◌<◌}
 use Rattle.leaves.specs.Sheet.Records.{record_at, records_of}
-use Rattle.leaves.specs.Sheet.Forest.{Forest, none, under}
+use Rattle.leaves.specs.Sheet.Forest.{Forest, no_tree, under}
 use Rattle.leaves.specs.declared.sheet.records.Rec.{Rec}
 use Rattle.leaves.specs.declared.sheet.trees.Records.{Records}
 
@@ -37,7 +37,7 @@ pub record ReadsNext (x y : Records) (level : ℕ) (r : Rec) : Type 0 where
   pub deep : level < r.level
   pub moved : Moved x y (x.next + 1)
 
--- x has no tree deeper than a level next, and y is x
+-- no tree deeper than a level comes next in x, and y is x
 pub record Ends (x y : Records) (level : ℕ) : Type 0 where
-  pub none : trees x level ≡ none
+  pub empty : trees x level ≡ no_tree
   pub moved : Moved x y x.next

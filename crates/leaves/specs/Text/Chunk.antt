@@ -24,7 +24,7 @@ abbrev pub is_other : ℕ → ℕ → Bool
 is_other x b = not (eqb b x)
 
 -- the rest is what stands behind bytes that are all there and pass the test
-pub record Past (test : ℕ → Bool) (s rest : List ℕ) : Type 0 where
+pub record Skipped (test : ℕ → Bool) (s rest : List ℕ) : Type 0 where
   pub count : ℕ
   pub is : rest ≡ drop count s
   pub all : passes test count s ≡ true

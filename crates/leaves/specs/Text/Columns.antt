@@ -3,7 +3,7 @@
 use Rattle.std.specs.Prelude.{ℕ, zero, suc, ◌+◌, ◌*◌, ◌≡◌, Bool, true, ◌&&◌, List}
 use Rattle.std.specs.Prelude.{[], ◌∷◌, ◌++◌, eqb, length, get_or, take, drop, is_some, unwrap_or}
 use Rattle.leaves.specs.Text.Bytes.{lf}
-use Rattle.leaves.specs.Text.Lists.{over}
+use Rattle.leaves.specs.Text.Over.{over}
 use Rattle.leaves.specs.Text.Field.{places, field, read_field}
 
 -- ---- a line as it is written

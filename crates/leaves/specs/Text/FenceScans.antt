@@ -1,18 +1,17 @@
 -- How the code reads a text, a byte at a time. The proofs equate each of these with a definition of another file, and
 -- no promise to a caller cites them.
-use Rattle.std.specs.Prelude.{ℕ, ◌-◌, Bool, ◌||◌, Option, Some, None, List, [], ◌∷◌, eqb}
+use Rattle.std.specs.Prelude.{ℕ, ◌-◌, Bool, ◌||◌, Option, Some, None, List, [], ◌∷◌, eqb, if◌then◌else◌}
 use Rattle.std.specs.Option.{option_eq}
 use Rattle.leaves.specs.Text.Bytes.{is_blank_byte, is_line_ending_byte}
-use Rattle.leaves.specs.Text.Lists.{when◌then◌else◌}
 use Rattle.leaves.specs.Text.Lines.{is_cr_of_crlf}
 
 -- how many bytes of a fence are still to come in the line, after b; none where the line is no fence
 unfoldable pub fence_left : ℕ → Option ℕ → ℕ → Option ℕ
 fence_left c None b = None
 fence_left c (Some left) b =
-    when eqb left 0
-    then (when is_blank_byte b then Some 0 else None)
-    else when eqb b c
+    if eqb left 0
+    then (if is_blank_byte b then Some 0 else None)
+    else if eqb b c
     then Some (left - 1)
     else None
 
@@ -27,4 +26,4 @@ fence_from c left (b ∷ s) =
     let skips = fence_from c left s in
     let ends = fence_from c (Some 3) s in
     let holds = fence_from c (fence_left c left b) s in
-    when is_cr_of_crlf b s then skips else when is_line_ending_byte b then is_whole left || ends else holds
+    if is_cr_of_crlf b s then skips else if is_line_ending_byte b then is_whole left || ends else holds

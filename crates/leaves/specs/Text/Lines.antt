@@ -1,16 +1,16 @@
 -- Lines and line endings. Rules 27, 29, 31 and 45.
-use Rattle.std.specs.Prelude.{ℕ, Bool, false, ◌&&◌, List, [], ◌∷◌, eqb}
+use Rattle.std.specs.Prelude.{ℕ, Bool, false, ◌&&◌, List, [], ◌∷◌, eqb, if◌then◌else◌}
 use Rattle.leaves.specs.Text.Bytes.{cr, lf, is_blank_byte, is_line_ending_byte}
-use Rattle.leaves.specs.Text.Lists.{when◌then◌else◌, all, any}
+use Rattle.std.specs.List.{list_all, list_any}
 
 -- Document 01: "A line ending is held where there is a CR or LF."
 unfoldable pub holds_line_ending : List ℕ → Bool
-holds_line_ending s = any is_line_ending_byte s
+holds_line_ending s = list_any is_line_ending_byte s
 
 -- Document 01: "Blank is spaces and tabs only." (CommonMark 0.31.2, 2.1: "A line containing no characters, or a line
 -- containing only spaces (U+0020) or tabs (U+0009), is called a blank line.")
 unfoldable pub is_blank : List ℕ → Bool
-is_blank s = all is_blank_byte s
+is_blank s = list_all is_blank_byte s
 
 -- whether the first byte is b
 unfoldable pub starts_with : ℕ → List ℕ → Bool
@@ -34,4 +34,4 @@ unfoldable pub lines : List ℕ → List (List ℕ)
 lines [] = []
 lines (b ∷ s) =
     let later = lines s in
-    when is_cr_of_crlf b s then later else when is_line_ending_byte b then [] ∷ later else longer b later
+    if is_cr_of_crlf b s then later else if is_line_ending_byte b then [] ∷ later else longer b later

@@ -1,6 +1,6 @@
 -- Rule 11: an alert's title.
 use Rattle.std.specs.Prelude.{ℕ, Bool, not, ◌&&◌, List}
-use Rattle.leaves.specs.Text.Lists.{is_empty_list}
+use Rattle.leaves.specs.Text.Over.{is_empty_list}
 use Rattle.leaves.specs.Text.Same.{same_bytes}
 use Rattle.leaves.specs.Text.Trim.{trim}
 

@@ -1,7 +1,6 @@
 -- Well-formed UTF-8 (refusal 9): The Unicode Standard, section 3.9, table 3-7, 'Well-Formed UTF-8 Byte Sequences'.
-use Rattle.std.specs.Prelude.{ℕ, Bool, true, false, ◌&&◌, List, [], ◌∷◌}
+use Rattle.std.specs.Prelude.{ℕ, Bool, true, false, ◌&&◌, List, [], ◌∷◌, if◌then◌else◌}
 use Rattle.leaves.specs.Text.Bytes.{between}
-use Rattle.leaves.specs.Text.Lists.{when◌then◌else◌}
 
 -- a cell of the table: the bytes from low to high
 pub record Range : Type 0 where
@@ -42,7 +41,7 @@ nothing = 0xBF to 0x80
 unfoldable pub follow : List (List Range) → ℕ → List Range
 follow [] b = nothing ∷ []
 follow ([] ∷ rows) b = follow rows b
-follow ((first ∷ others) ∷ rows) b = when within first b then others else follow rows b
+follow ((first ∷ others) ∷ rows) b = if within first b then others else follow rows b
 
 -- Whether bytes are well-formed where the columns `expected` of a row are still to come.
 unfoldable pub well_formed : List Range → List ℕ → Bool

@@ -1,14 +1,13 @@
 -- How the code reads the values of a text's characters, a byte at a time. The proofs equate each of these with a
 -- definition of another file, and no promise to a caller cites them.
-use Rattle.std.specs.Prelude.{◌≡◌, ℕ, zero, suc, ◌<◌, ◌≤◌, false, List, [], ◌∷◌, length, get_or}
-use Rattle.leaves.specs.Text.Lists.{when◌then◌else◌}
+use Rattle.std.specs.Prelude.{◌≡◌, ℕ, zero, suc, ◌<◌, ◌≤◌, false, List, [], ◌∷◌, length, get_or, if◌then◌else◌}
 use Rattle.leaves.specs.Text.Utf8.{Range, within, trail}
 use Rattle.leaves.specs.Text.Scalars.{lead_bits, trail_bits}
 
 -- the value of a character's bits so far, with those of b
 unfoldable pub value_after : List Range → ℕ → ℕ → ℕ
 value_after [] value b = lead_bits b
-value_after (r ∷ expected) value b = when within r b then trail_bits value b else lead_bits b
+value_after (r ∷ expected) value b = if within r b then trail_bits value b else lead_bits b
 
 -- what a value stays below while so many more bytes are expected
 abbrev pub room : ℕ → ℕ

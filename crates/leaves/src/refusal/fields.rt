@@ -30,8 +30,7 @@ ghost use Rattle.leaves.specs.Refusal.Fields.{bad_text, bad_span, is_surrogate, 
 use crate::sheet::kinds;
 use crate::sheet::records::{Rec, Span, Text};
 
-// The most that A may be; 0 where it is not used: an "unused word" that is "not 0" is refused, so this is a bound like
-// the others.
+// The most that A may be. It is 0 where A is not used: "unused word not 0" is refused, so 0 is a bound like the others.
 #[tactic(auto, unfolding(crate::specs::Refusal::Fields::most_a))]
 fn most_a(kind: u32) -> u32
     ensures { result ≡ most_a kind }

@@ -1,5 +1,5 @@
-// The groups of kinds: as parents, and as children. They are numbers, as in the definitions: rows and columns of a
-// table. Three have names here, those that the code asks for.
+// The groups of kinds: as parents, and as children. They are numbers, as in the definitions, since they are the rows
+// and columns of a table. Only the three that the code asks for have names here.
 ghost use Rattle.std.specs.Prelude.{◌≡◌, true};
 ghost use Rattle.leaves.specs.Sheet.Kinds.{is_kind};
 ghost use Rattle.leaves.specs.Refusal.Groups.{parent_group, child_group};
@@ -7,11 +7,11 @@ ghost use Rattle.leaves.specs.Refusal.KindGroups.{kind_groups};
 
 use crate::sheet::kinds;
 
-pub(crate) const HOLDS_BLOCKS: u32 = 0;
+pub(crate) const PARENT_OF_BLOCKS: u32 = 0;
 
-pub(crate) const HOLDS_TAGS_AND_BLOCKS: u32 = 7;
+pub(crate) const PARENT_OF_TAGS_AND_BLOCKS: u32 = 7;
 
-pub(crate) const HOLDS_TAGS_AND_INLINES: u32 = 8;
+pub(crate) const PARENT_OF_TAGS_AND_INLINES: u32 = 8;
 
 // The two groups of each kind, from kind 0 on: as a parent whose A is 0, and as a child.
 const GROUPS: [[u32; 2]; 54] = [
@@ -71,8 +71,8 @@ const GROUPS: [[u32; 2]; 54] = [
     [9, 6], // tag
 ];
 
-// The table of groups. A constant array is copied at each mention, so `judge_records` makes it once and lends it to the
-// functions that read it. All that they ask of their parameter `groups` is that it is this table.
+// The table of groups. A constant array is copied at each mention, so `Tables::new` makes it once, and the functions
+// that read it are lent it. They ask that their parameter `groups` is this table.
 #[tactic(auto, unfolding(crate::specs::Refusal::KindGroups::kind_groups))]
 pub(crate) fn groups() -> [[u32; 2]; 54]
     ensures { result ≡ kind_groups }
@@ -86,7 +86,7 @@ pub(crate) fn parent_group(groups: &[[u32; 2]; 54], kind: u32, a: u32) -> u32
     ensures { result ≡ parent_group kind a }
 {
     if kind == kinds::HTML_CONTAINER && a != 0 {
-        HOLDS_TAGS_AND_INLINES
+        PARENT_OF_TAGS_AND_INLINES
     } else {
         groups[kind as usize][0]
     }

@@ -5,7 +5,7 @@ ghost use Rattle.leaves.specs.Refusal.Limits.{most_records};
 ghost use Rattle.leaves.specs.Refusal.Judge.{judge_from, Judges};
 ghost use Rattle.leaves.specs.Refusal.Judging.{Slot};
 
-use crate::refusal::groups::HOLDS_BLOCKS;
+use crate::refusal::groups::PARENT_OF_BLOCKS;
 use crate::refusal::limits::{MOST_BYTES, MOST_LEVEL, MOST_RECORDS};
 use crate::refusal::places::{Open, Tables};
 use crate::refusal::record::judge;
@@ -17,7 +17,7 @@ use crate::sheet::records::RECORD_WORDS;
 // How many slots `open` of `judge_records` has: for the levels from 0 to `MOST_LEVEL` plus 1.
 const SLOTS: usize = MOST_LEVEL as usize + 2;
 
-// The slot of a level; 0 where the level is over `MOST_LEVEL`. What stands in slot 0 is then not asked for: the record
+// The slot of a level; 0 where the level is over `MOST_LEVEL`. What stands in slot 0 decides nothing then: the record
 // is refused for its level, or before that for its kind.
 fn slot_of(level: u32) -> usize
     ensures { Slot level result }
@@ -30,22 +30,22 @@ fn slot_of(level: u32) -> usize
 }
 
 // Makes the tests 4 to 9, record by record, and answers the first refusal. `open` has, for each level that the next
-// record could have, what stands before it under its parent. By number and not by `Records`, whose records are known to
-// be no deeper than `MOST_LEVEL`: that is tested here.
+// record could have, what stands before it under its parent. The loop goes by number: `Records` cannot be made before
+// the levels are known to be at most `MOST_LEVEL`, and that is tested here.
 fn judge_records(sheet: &[u32], bytes: &[u8], n: usize) -> Result<(), Malformed>
     requires { (n * record_words ≤ length sheet.now) × (n ≤ most_records) }
     ensures { result ≡ judge_from sheet.now bytes.now n 0 }
 {
     let tables = Tables::new();
-    let mut open = [Open::under(HOLDS_BLOCKS); SLOTS];
+    let mut open = [Open::before_children(PARENT_OF_BLOCKS); SLOTS];
     let mut before: u32 = 0;
     for i in 0..n {
         let r = records::record_at(sheet, i);
         let slot = slot_of(r.level);
         let o = open[slot];
         judge(&tables, bytes, i, r, before, o)?;
-        open[slot] = o.joined(&tables, r.kind);
-        open[slot + 1] = Open::under(tables.parent_group(r.kind, r.a));
+        open[slot] = o.after_child(&tables, r.kind);
+        open[slot + 1] = Open::before_children(tables.parent_group(r.kind, r.a));
         before = r.level;
     }
     Ok(())

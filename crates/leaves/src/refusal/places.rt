@@ -4,15 +4,15 @@ ghost use Rattle.leaves.specs.Sheet.Kinds.{is_kind};
 ghost use Rattle.leaves.specs.Refusal.Groups.{parent_group};
 ghost use Rattle.leaves.specs.Refusal.KindGroups.{kind_groups};
 ghost use Rattle.leaves.specs.Refusal.PlaceTable.{place_table};
-ghost use Rattle.leaves.specs.Refusal.Places.{holds, place_in, place_of, opened, joined, misplaced};
+ghost use Rattle.leaves.specs.Refusal.Places.{holds, place_in, place_of, before_children, after_child, misplaced};
 
 use crate::refusal::groups;
-use crate::refusal::groups::{HOLDS_TAGS_AND_BLOCKS, HOLDS_TAGS_AND_INLINES};
+use crate::refusal::groups::{PARENT_OF_TAGS_AND_BLOCKS, PARENT_OF_TAGS_AND_INLINES};
 use crate::sheet::kinds;
 
 // The allowed places: a row for each group of parents, by what it holds; a column for each group of children, in the
-// order block, item, row, cell, HTML tag, attribute, inline. 0: not allowed; it is below each place, and a place is
-// only compared.
+// order block, item, row, cell, HTML tag, attribute, inline. 0 is for not allowed, and no Option: places are only
+// compared, and 0 is below each of them.
 const PLACES: [[u32; 7]; 10] = [
     // blocks
     [1, 0, 0, 0, 0, 0, 0],
@@ -65,8 +65,8 @@ impl Tables {
     }
 
     // The place of a kind under a group of parents; 0 where it is not allowed there. What reads the tables by a kind
-    // asks that it is known, which `judge` has tested: a type of known kinds would be made for this, and taken apart at
-    // once.
+    // asks that the kind is a known one, which `judge` has tested. A type of known kinds would be made for these calls
+    // alone, and taken apart at once.
     #[tactic(auto, unfolding(crate::specs::Refusal::Places::place_of))]
     fn place_of(&self, group: u32, kind: u32) -> u32
         requires { is_kind kind ≡ true }
@@ -84,9 +84,9 @@ impl Tables {
     }
 }
 
-// What stands before a record under its parent: the parent's group, the place of the child before it (0 where there is
-// none: it is below each place), and how many HTML tags. A group is a number and no enum: the tables give it, and are
-// read by it.
+// What stands before a record under its parent: the parent's group, the place of the child before it (0, which is below
+// each place, where there is none), and how many HTML tags. A group is a number and no enum, since the tables give it
+// and are read by it.
 #[derive(Clone, Copy, PartialEq, Eq, Debug)]
 pub struct Open {
     pub group: u32,
@@ -96,9 +96,9 @@ pub struct Open {
 
 impl Open {
     // Under a parent, before its first child.
-    #[tactic(auto, unfolding(crate::specs::Refusal::Places::opened))]
-    pub(crate) fn under(group: u32) -> Open
-        ensures { result ≡ opened group }
+    #[tactic(auto, unfolding(crate::specs::Refusal::Places::before_children))]
+    pub(crate) fn before_children(group: u32) -> Open
+        ensures { result ≡ before_children group }
     {
         Open {
             group,
@@ -108,10 +108,10 @@ impl Open {
     }
 
     // The same after one more child, of the kind.
-    #[tactic(auto, unfolding(crate::specs::Refusal::Places::joined))]
-    pub(crate) fn joined(self, tables: &Tables, kind: u32) -> Open
+    #[tactic(auto, unfolding(crate::specs::Refusal::Places::after_child))]
+    pub(crate) fn after_child(self, tables: &Tables, kind: u32) -> Open
         requires { (is_kind kind ≡ true) × (misplaced self kind ≡ false) }
-        ensures { result ≡ joined self kind }
+        ensures { result ≡ after_child self kind }
     {
         let stage = tables.place_of(self.group, kind);
         if kind == kinds::HTML_TAG {
@@ -132,7 +132,10 @@ impl Open {
         ensures { result ≡ misplaced self kind }
     {
         let place = tables.place_of(self.group, kind);
-        let container = matches!(self.group, HOLDS_TAGS_AND_BLOCKS | HOLDS_TAGS_AND_INLINES);
+        let container = matches!(
+            self.group,
+            PARENT_OF_TAGS_AND_BLOCKS | PARENT_OF_TAGS_AND_INLINES
+        );
         let tag = kind == kinds::HTML_TAG;
         place == 0
             || place < self.stage

@@ -35,7 +35,8 @@ fn judge_texts(bytes: &[u8], i: usize, r: Rec) -> Result<(), Malformed>
     Ok(())
 }
 
-// The tests 4 to 9 of record `i`. Its six parameters stay: a struct of the last four would be made for this one call.
+// The tests 4 to 9 of record `i`. It has six parameters, since a struct of the last four would be made for this one
+// call.
 #[tactic(auto, unfolding(crate::specs::Refusal::Record::judge))]
 pub(crate) fn judge(
     tables: &Tables,

@@ -8,7 +8,7 @@ use crate::refusal::verdict::Malformed;
 use crate::sheet::{kinds, records};
 
 // Whether record `i` is there, is an HTML tag, and is deeper than `level`. `n` stands beside the sheet, so that no test
-// divides its words by those of a record again.
+// has to divide the sheet's length by that of a record again.
 #[tactic(auto, unfolding(crate::specs::Refusal::TagsPlaced::tag_under))]
 fn tag_under(sheet: &[u32], n: usize, i: usize, level: u32) -> bool
     requires { n * record_words ≤ length sheet.now }
@@ -28,7 +28,8 @@ fn lacks_tags(sheet: &[u32], n: usize, i: usize) -> bool
         && !(tag_under(sheet, n, i + 1, level) && tag_under(sheet, n, i + 2, level))
 }
 
-// Makes test 10, and answers the first container that lacks a tag. By number, since a refusal names its record.
+// Makes test 10, and answers the first container that lacks a tag. The loop goes by number, since a refusal names its
+// record.
 #[tactic(auto, using(crate::proofs::refusal::TagLaws::tagging))]
 pub(crate) fn judge_tags(sheet: &[u32], n: usize) -> Result<(), Malformed>
     requires { Containers sheet.now n }

@@ -53,8 +53,8 @@ impl Malformed {
     }
 }
 
-// The number of the answer; 0 where the sheet is accepted, as the C interface has it. A function and no `From`: the
-// type is the library's, and the number alone is not the answer.
+// The number of the answer; 0 where the sheet is accepted, as the C interface has it. This is a function and no `From`:
+// the type, a `Result`, is the library's, and the number alone is not the whole answer.
 pub fn number_of(judged: Result<(), Malformed>) -> u32
     ensures { result ≡ (judged_answer judged).number }
 {

@@ -1,7 +1,7 @@
 // Counts the report's entries, and writes those that fit.
 ghost use Rattle.std.specs.Prelude.{◌≡◌, cond, ◌+◌, ◌≤◌, length};
-ghost use Rattle.leaves.specs.Report.Entries.{words, head_words, list_if, capped, start, counted};
-ghost use Rattle.leaves.specs.Text.Lists.{over};
+ghost use Rattle.leaves.specs.Report.Entries.{words, head_words, list_if, capped, empty_tally, counted};
+ghost use Rattle.leaves.specs.Text.Over.{over};
 ghost use Rattle.leaves.specs.Refusal.Limits.{most_level};
 
 use crate::refusal::limits::MOST_LEVEL;
@@ -23,8 +23,8 @@ pub struct Tally {
 
 impl Tally {
     // The tally of no entries.
-    pub fn none() -> Self
-        ensures { result ≡ start }
+    pub fn empty() -> Self
+        ensures { result ≡ empty_tally }
     {
         Tally {
             words: 0,
@@ -52,7 +52,7 @@ fn sum(a: usize, b: usize) -> usize
 }
 
 // Writes an entry at the front of the tail, if the whole entry fits.
-#[tactic(auto, using(crate::proofs::report::EntryLaws::reports), unfolding(crate::specs::Text::Lists::over))]
+#[tactic(auto, using(crate::proofs::report::EntryLaws::reports), unfolding(crate::specs::Text::Over::over))]
 fn write_entry(tail: &mut [u32], rule: u32, span: Span, path: &[u32])
     requires { length path.now ≤ most_level }
     ensures { tail.new
@@ -82,8 +82,8 @@ fn write_at(report: &mut [u32], at: usize, rule: u32, span: Span, path: &[u32])
 
 // A report that a walk writes, with the list's tally. The walk stands at a record of the level `level`, whose path is
 // the first `depth` words of `path`; before the first record both are 0. The path is an array with a length beside it,
-// since nothing may be allocated. A report stands beside the `Records` or the text that a rule reads, and not in one
-// struct with them: it is written while they are read, and they are copied where they are read twice.
+// since nothing may be allocated. The `Records` and the text that a rule reads are not in this struct: the report is
+// written while they are read, and they are copied where they are read twice.
 #[derive(Drop)]
 pub struct Report<'a> {
     pub words: &'a mut [u32],
@@ -105,12 +105,12 @@ impl<'a> Report<'a> {
     pub fn new(words: &'a mut [u32]) -> Self
         ensures loan { result.words.ghost_name ≡ words.entry.ghost_name }
         ensures words { result.words.now ≡ words.old }
-        ensures tally { result.tally ≡ start }
+        ensures tally { result.tally ≡ empty_tally }
         ensures top { (result.depth ≡ 0) × (result.level ≡ 0) }
     {
         Report {
             words,
-            tally: Tally::none(),
+            tally: Tally::empty(),
             path: [0; MOST_LEVEL as usize],
             depth: 0,
             level: 0,
@@ -125,7 +125,7 @@ impl<'a> Report<'a> {
         self.list_number_if(fault, rule.number(), span);
     }
 
-    // The same for any number of a rule: who promised it for every number still does.
+    // The same for any number of a rule, for functions that promise their list for every number.
     pub fn list_number_if(&mut self, fault: bool, rule: u32, span: Span)
         ensures { Adds self.old self.new (list_if fault rule span (path_of self.old)) }
     {

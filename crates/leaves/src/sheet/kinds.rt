@@ -1,6 +1,6 @@
 // Kinds of records, as document 01 numbers them. They are numbers and no enum: the C interface gives a record's kind as
-// a number, a sheet may hold any, and the published definitions ask a record for that number. Every `match` over kinds
-// has an arm for the rest, so an enum would not make one of them safer, and each would first take the number apart.
+// a number, a sheet may hold any, and the definitions of specs/ ask a record for that number. Every `match` over kinds
+// has an arm for the rest, so an enum would make none of them safer.
 ghost use Rattle.std.specs.Prelude.{◌≡◌};
 ghost use Rattle.leaves.specs.Sheet.Kinds.{is_block, is_inline, is_kind};
 

@@ -7,7 +7,7 @@ use crate::sheet::records::{RECORD_WORDS, Rec};
 use crate::sheet::{forest, records};
 
 // The first `n` records of a sheet that keeps to the limits, the sheet's text, and the number of the record that is
-// read next. `n` stands beside the sheet, so that no step divides its words by those of a record.
+// read next. `n` stands beside the sheet, so that no step has to divide the sheet's length by that of a record.
 #[derive(Clone, Copy)]
 pub struct Records<'a> {
     pub sheet: &'a [u32],
@@ -23,7 +23,7 @@ pub struct Records<'a> {
 impl<'a> Records<'a> {
     ghost use Rattle.std.specs.Prelude.{◌≡◌, ◌+◌, eqb, IfSome, IfNone};
     ghost use Rattle.leaves.specs.Sheet.Records.{records_of};
-    ghost use Rattle.leaves.specs.Sheet.Forest.{count, size};
+    ghost use Rattle.leaves.specs.Sheet.Forest.{count_trees, size};
     ghost use Rattle.leaves.specs.Sheet.Roots.{roots, roots_left};
     ghost use Rattle.leaves.specs.Sheet.Trees.{trees, OfSheet, Until, Moved, ReadsNext, Ends};
     ghost use Rattle.leaves.specs.Refusal.Formed.{Sound};
@@ -55,9 +55,10 @@ impl<'a> Records<'a> {
         }
     }
 
-    // Reads the next record where it is deeper than `level`, and goes on behind it. So a loop over this goes through
-    // all records of the trees side by side, and one that skips what stands under each goes from tree to tree. A loop
-    // that enters each tree lends the records to its walk, which moves them on: `roots` would go over each once more.
+    // Reads the next record if it is deeper than `level`, and goes on behind it. So a loop over this goes through all
+    // records of the trees side by side, and one that skips what stands under each goes from tree to tree. A loop that
+    // walks into each tree lends the records to that walk, which moves them on; with `roots` it would go over each tree
+    // once more.
     pub fn next_under(&mut self, level: u32) -> Option<Rec>
         ensures some { IfSome result (λ r. ReadsNext self.old self.new level r) }
         ensures none { IfNone result (Ends self.old self.new level) }
@@ -75,9 +76,9 @@ impl<'a> Records<'a> {
 
     // Whether no record deeper than `level` is next.
     pub fn end(&self, level: u32) -> bool
-        ensures { result ≡ eqb (count (trees self.now level)) 0 }
+        ensures { result ≡ eqb (count_trees (trees self.now level)) 0 }
     {
-        forest::ends(self.sheet, self.n, self.next, level)
+        forest::no_tree_at(self.sheet, self.n, self.next, level)
     }
 
     // Goes on behind the trees that are deeper than `level`.
@@ -99,14 +100,14 @@ impl<'a> Records<'a> {
     }
 
     // How many trees deeper than `level` stand side by side.
-    pub fn count(&self, level: u32) -> usize
-        ensures { result ≡ count (trees self.now level) }
+    pub fn count_trees(&self, level: u32) -> usize
+        ensures { result ≡ count_trees (trees self.now level) }
     {
-        forest::count(self.sheet, self.n, self.next, level)
+        forest::count_trees(self.sheet, self.n, self.next, level)
     }
 }
 
-// A tree: the record at its top, and the records from the one behind that on, so those under it are next.
+// A tree: the record at its top, and the records from the one behind it on, so that those under it are next.
 #[derive(Clone, Copy)]
 pub struct Tree<'a> {
     pub root: Rec,
@@ -118,8 +119,8 @@ pub struct Tree<'a> {
 pub struct Roots<'a> {
     records: Records<'a>,
     level: u32,
-    // The level of the tree that was given last. The records under it are passed over once the next tree is asked for,
-    // so that nobody reads them who has heard enough.
+    // The level of the tree that was given last. The records under it are passed over only when the next tree is asked
+    // for, so a caller that needs no more trees never goes over them.
     given: Option<u32>,
 }
 

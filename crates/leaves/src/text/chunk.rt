@@ -1,7 +1,7 @@
 // Passes over bytes, a chunk of sixteen at a time. The tests of one chunk are joined without a branch, so that the
 // compiler makes them one test of sixteen bytes; an iterator's `all` ends at the first byte that fails, with a branch.
 ghost use Rattle.std.specs.Prelude.{◌≡◌, ◌+◌, ◌≤◌, Bool, ℕ, length, drop};
-ghost use Rattle.leaves.specs.Text.Chunk.{is_ascii, is_neither, is_other, passes, chunk, Past};
+ghost use Rattle.leaves.specs.Text.Chunk.{is_ascii, is_neither, is_other, passes, chunk, Skipped};
 
 pub(crate) const CHUNK: usize = 16;
 
@@ -74,13 +74,13 @@ fn begins<T: ByteTest>(test: &T, s: &[u8]) -> bool
 }
 
 // What is left of the bytes behind chunks whose bytes all pass. How much is passed over is left open: only speed
-// depends on it. What holds of the answer (`Past`) is that every byte before it passes.
-pub(crate) fn past<'a, T: ByteTest>(s: &'a [u8], test: &T) -> &'a [u8]
-    ensures { Past (T.passing test.now) s.now result.now }
+// depends on it. What holds of the answer (`Skipped`) is that every byte before it passes.
+pub(crate) fn skip_passing<'a, T: ByteTest>(s: &'a [u8], test: &T) -> &'a [u8]
+    ensures { Skipped (T.passing test.now) s.now result.now }
 {
     let mut rest = s;
-    // no iterator over chunks: what is left is handed back, and chunks that were counted by `chunks_exact` would have to
-    // be cut off after it
+    // not by `chunks_exact`: what is left is handed back, and the chunks that it went over would have to be cut off
+    // afterwards
     while begins(test, rest) {
         rest = &rest[CHUNK..];
     }

@@ -14,9 +14,9 @@ fn ends_at(s: &[u8], at: usize) -> bool
     at < s.len() && s[at] == LF
 }
 
-// Reads a line from the front of the slice, a field for each of the words, and answers whether it is well-formed.
-// The word of a malformed field is 0, and those behind it are read all the same: all words are promised, so there is
-// nothing that `?` would leave out.
+// Reads a line from the front of the slice, a field for each of the words, and answers whether it is well-formed. The
+// word of a malformed field is 0, and the fields behind it are read all the same: every word is promised, so `?` cannot
+// end the loop early.
 pub fn read_line(s: &[u8], words: &mut [u32]) -> bool
     requires { length words.old ≤ 12 }
     ensures { (result ≡ is_line (length words.old) s.now)
@@ -37,7 +37,7 @@ pub fn write_line(out: &mut [u8], at: usize, words: &[u32]) -> usize
     ensures { Writes out.old at (line words.now) out.new result }
 {
     let mut end = at;
-    // no `chunks_exact_mut`: the fields would have to be cut out of the output first, and the LF stands behind them
+    // not by `chunks_exact_mut`: the fields would have to be cut out of the output first, and the LF stands behind them
     for &word in words {
         write_field(out, end, word);
         end += PLACES;

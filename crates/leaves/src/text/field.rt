@@ -1,6 +1,6 @@
 // Reads and writes a field of 11 places.
 ghost use Rattle.std.specs.Prelude.{◌≡◌, ◌+◌, ◌≤◌, length};
-ghost use Rattle.leaves.specs.Text.Lists.{over};
+ghost use Rattle.leaves.specs.Text.Over.{over};
 ghost use Rattle.leaves.specs.Text.Field.{places, field, last_place, front};
 ghost use Rattle.leaves.specs.Text.Field.{past_spaces, read_digits, read_number, read_field};
 
@@ -19,8 +19,8 @@ fn past_spaces(s: &[u8]) -> &[u8]
     &s[at..]
 }
 
-// The number that the bytes make as digits; none where one is no digit or the number does not fit. By hand: `parse` of
-// the library takes a sign, which no field has.
+// The number that the bytes make as digits; none where one is no digit or the number does not fit. It is made by hand:
+// `parse` of the library takes a sign, which no field has.
 fn read_digits(s: &[u8]) -> Option<u32>
     ensures { result ≡ read_digits 0 s.now }
 {
@@ -69,7 +69,7 @@ fn put_front(cells: &mut [u8], n: u32)
     ensures { cells.new ≡ front (length cells.old) n }
 {
     let mut rest = n;
-    // By index: over `iter_mut().rev()` the invariant would have to speak of the cells that the iterator still lends.
+    // by index: with `iter_mut().rev()` the invariant would have to speak of the cells that the iterator still lends
     for i in (0..cells.len()).rev() {
         cells[i] = last_place(rest);
         rest /= 10;

@@ -1,6 +1,6 @@
 // Lines and line endings.
 ghost use Rattle.std.specs.Prelude.{◌≡◌, ◌+◌, ◌<◌, length, get_or, drop};
-ghost use Rattle.leaves.specs.Text.Lines.{holds_line_ending, is_blank, is_cr_of_crlf};
+ghost use Rattle.leaves.specs.Text.Lines.{holds_line_ending, is_cr_of_crlf};
 
 use crate::text::bytes::{CR, LF};
 use crate::text::chunk::Neither;
@@ -9,15 +9,9 @@ use crate::text::{bytes, chunk};
 pub fn holds_line_ending(s: &[u8]) -> bool
     ensures { result ≡ holds_line_ending s.now }
 {
-    chunk::past(s, &Neither { a: LF, b: CR })
+    chunk::skip_passing(s, &Neither { a: LF, b: CR })
         .iter()
         .any(|b| bytes::is_line_ending_byte(*b))
-}
-
-pub fn is_blank(s: &[u8]) -> bool
-    ensures { result ≡ is_blank s.now }
-{
-    s.iter().all(|b| bytes::is_blank_byte(*b))
 }
 
 // Whether the byte at `i` is a CR with its LF after it.

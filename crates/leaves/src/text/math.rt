@@ -11,15 +11,15 @@ pub fn holds_backtick_dollar(s: &[u8]) -> bool
     ensures { result ≡ holds_backtick_dollar s.now }
 {
     let plain = Other { than: BACKTICK };
-    let mut rest = chunk::past(s, &plain);
-    // no `windows`: a turn may pass over many bytes
+    let mut rest = chunk::skip_passing(s, &plain);
+    // not by `windows`: a turn may pass over many bytes
     while let [first, second, ..] = rest {
         if *first == BACKTICK && *second == DOLLAR {
             return true;
         }
         rest = &rest[1..];
         if *first == BACKTICK {
-            rest = chunk::past(rest, &plain);
+            rest = chunk::skip_passing(rest, &plain);
         }
     }
     false

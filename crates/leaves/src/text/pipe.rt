@@ -12,8 +12,9 @@ pub fn has_odd_escaped_pipe(s: &[u8]) -> bool
 {
     let plain = Other { than: BACKSLASH };
     let mut odd = false;
-    let mut rest = chunk::past(s, &plain);
-    // no iterator over bytes: a turn may pass over many. That is tried once in sixteen bytes, and not at each
+    let mut rest = chunk::skip_passing(s, &plain);
+    // not by an iterator over bytes: a turn may pass over many. That is tried once in sixteen bytes, and not at each
+    // byte
     while let [b, behind @ ..] = rest {
         if odd && *b == PIPE {
             return true;
@@ -21,7 +22,7 @@ pub fn has_odd_escaped_pipe(s: &[u8]) -> bool
         odd = !odd && *b == BACKSLASH;
         rest = behind;
         if !odd && rest.len() % CHUNK == 0 {
-            rest = chunk::past(rest, &plain);
+            rest = chunk::skip_passing(rest, &plain);
         }
     }
     false

@@ -1,7 +1,7 @@
 // Well-formed UTF-8.
 ghost use Rattle.std.specs.Prelude.{◌≡◌, ◌≤◌, ◌++◌, List, ℕ, eqb, length};
 ghost use Rattle.leaves.specs.Text.Utf8.{is_utf8, well_formed, follow, table_3_7, trail};
-ghost use Rattle.leaves.specs.Text.Utf8Scans.{breaks, expected_after};
+ghost use Rattle.leaves.specs.Text.Utf8Scans.{breaks_character, expected_after};
 ghost use Rattle.leaves.specs.Text.Utf8Expected.{expected_of, expects, trails, Expects};
 
 use crate::text::chunk;
@@ -12,8 +12,8 @@ const STRETCH: usize = 64;
 
 // What a sequence that has begun expects: how many more bytes, and the range of the next one. The bytes after the next
 // must be from 0x80 to 0xBF. Where no more bytes are expected, the range is 0x80 to 0xBF too. Where nothing fits any
-// more, the range is one that no byte fits, as in the definition (`nothing`): an Option would be asked at every byte
-// besides.
+// more, the range is one that no byte fits, as in the definition (`nothing`): an Option would be one more test at every
+// byte.
 #[derive(Clone, Copy)]
 pub(crate) struct Expected {
     pub more: u8,
@@ -72,8 +72,8 @@ impl Expected {
 
     // Whether a byte is expected and `b` does not fit.
     #[tactic(auto, using(crate::proofs::text::Utf8Laws::breaks_is))]
-    pub(crate) fn breaks(self, b: u8) -> bool
-        ensures { result ≡ breaks (expected_of self) b }
+    pub(crate) fn breaks_character(self, b: u8) -> bool
+        ensures { result ≡ breaks_character (expected_of self) b }
     {
         self.more != 0 && (b < self.low || self.high < b)
     }
@@ -83,7 +83,7 @@ impl Expected {
     pub(crate) fn after(self, b: u8) -> Expected
         ensures { Expects (expected_after (expected_of self) b) result }
     {
-        if self.more == 0 || self.breaks(b) {
+        if self.more == 0 || self.breaks_character(b) {
             Expected::follow(b)
         } else {
             Expected::trails(self.more - 1)
@@ -100,7 +100,7 @@ impl Expected {
     {
         let mut expected = self;
         for &b in bytes {
-            if expected.breaks(b) {
+            if expected.breaks_character(b) {
                 return Expected::follow(0xFF);
             }
             expected = expected.after(b);
@@ -116,7 +116,7 @@ impl Expected {
             ≡ well_formed (expected_of self) bytes.now) }
     {
         if self.more == 0 {
-            chunk::past(bytes, &Ascii)
+            chunk::skip_passing(bytes, &Ascii)
         } else {
             bytes
         }

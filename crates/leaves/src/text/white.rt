@@ -76,7 +76,7 @@ impl Character {
     fn value_after(self, b: u8) -> u32
         ensures { result ≡ value_after (expected_of self.expected) self.value b }
     {
-        if self.expected.more == 0 || self.expected.breaks(b) {
+        if self.expected.more == 0 || self.expected.breaks_character(b) {
             lead_bits(b)
         } else {
             self.value * 0x40 + u32::from(b) % 0x40
@@ -99,7 +99,7 @@ pub fn starts_with_white(s: &[u8]) -> bool
 {
     let mut character = Character::new();
     for &b in s {
-        if character.expected.breaks(b) {
+        if character.expected.breaks_character(b) {
             return false;
         }
         character = character.after(b);
@@ -126,7 +126,7 @@ fn last_is_white(s: &[u8]) -> bool
     let mut character = Character::new();
     let mut last = REPLACEMENT;
     for &b in s {
-        let broken = character.expected.breaks(b);
+        let broken = character.expected.breaks_character(b);
         character = character.after(b);
         if character.is_whole() {
             last = character.value;

@@ -8,14 +8,14 @@ use native.Mathlib.Omega.{arith}
 use lib.Dec.{leb, ltb, eqb}
 use lib.ListN.{length}
 use borrow.Author.Tests.{leb-true, leb-false, lt-ltb, le-ltb, eq-eqb, ne_eqb}
-use Rattle.leaves.specs.Text.Lists.{when◌then◌else◌}
+use Rattle.std.specs.Prelude.{if◌then◌else◌}
 use Rattle.leaves.specs.Sheet.Kinds.{is_block, list, code_block, blank_line, frontmatter, leaf_directive, container_directive, html_container, item}
-use Rattle.leaves.specs.Sheet.Forest.{Forest, none, tree, size, count}
+use Rattle.leaves.specs.Sheet.Forest.{Forest, no_tree, tree, size, count_trees}
 use Rattle.leaves.specs.declared.sheet.records.Rec.{Rec}
 use Rattle.leaves.specs.declared.sheet.records.Span.{Span}
 use Rattle.leaves.specs.declared.sheet.records.Text.{Text}
 use Rattle.leaves.specs.Report.Entries.{Entry, list_if, ◌⊕◌}
-use Rattle.leaves.specs.Refusal.Groups.{holds_blocks, holds_nothing, parent_group, other_group}
+use Rattle.leaves.specs.Refusal.Groups.{parent_of_blocks, parent_of_nothing, parent_group, other_group}
 use Rattle.leaves.specs.Sheet.Classes.{is_break}
 use Rattle.inlines.specs.Depth.{validate_one_line}
 use Rattle.inlines.specs.Nodes.{validate_inline_nodes_after, validate_inline_nodes, validate_inlines}
@@ -54,7 +54,7 @@ pub data Root (p : Rec) (k : ℕ) : Type 0 where
   inlined : p.kind ≡ container_directive → InlineKind k → Root p k
   blocked : BlockKind k → Root p k
 
-pub hold-blocks : (p : Rec) → group_of p ≡ holds_blocks → (k : ℕ) → Stands p k → Root p k
+pub hold-blocks : (p : Rec) → group_of p ≡ parent_of_blocks → (k : ℕ) → Stands p k → Root p k
 hold-blocks p e k s = blocked (under-blocks p k s e)
 
 -- the list before; and rule 1
@@ -138,11 +138,11 @@ pub record CleanLabel (bytes p : List ℕ) (c : ℕ) (ts : Forest) : Type 0 wher
   pub nodes : Clean (validate_inline_nodes_after bytes p c (before_blocks ts))
   pub line : Clean (validate_one_line 23 p (before_blocks ts))
 
-before-none : before_blocks none ≡ none
+before-none : before_blocks no_tree ≡ no_tree
 unfolding before_blocks
 before-none = refl
 
-before-block : (r : Rec) (kids rest : Forest) → is_block r.kind ≡ true → before_blocks (tree r kids rest) ≡ none
+before-block : (r : Rec) (kids rest : Forest) → is_block r.kind ≡ true → before_blocks (tree r kids rest) ≡ no_tree
 unfolding before_blocks
 before-block r kids rest h = rw h
 
@@ -150,7 +150,7 @@ before-other : (r : Rec) (kids rest : Forest) → is_block r.kind ≡ false → 
 unfolding before_blocks
 before-other r kids rest h = rw h
 
-label-none : (bytes p : List ℕ) (c : ℕ) (ts : Forest) → before_blocks ts ≡ none → CleanLabel bytes p c ts
+label-none : (bytes p : List ℕ) (c : ℕ) (ts : Forest) → before_blocks ts ≡ no_tree → CleanLabel bytes p c ts
 label-none bytes p c ts e = record { nodes = bare-nodes bytes p c (before_blocks ts) e; line = bare-line 23 p (before_blocks ts) e }
 
 -- a label alone
@@ -160,7 +160,7 @@ no-block k (node kd) = (inliny k kd).no_block
 
 all-before : (p : Rec) (m : ℕ) (ts : Forest) → ((k : ℕ) → Stands p k → InlineRoot k) → Placed p m ts → before_blocks ts ≡ ts
 unfolding Placed
-all-before p m none a h = before-none
+all-before p m no_tree a h = before-none
 all-before p m (tree r kids rest) a h =
     before-other r kids rest (no-block r.kind (a r.kind h.0)) ∙ ap (λ (t : Forest). tree r kids t) (all-before p (rank r.kind) rest a h.3)
 
@@ -197,9 +197,9 @@ depth_same a = go (leb 1 a) refl (leb a 6) refl
 -- what a block lists of its items or blocks
 abbrev held : List ℕ → List ℕ → Rec → Forest → List Entry
 held bytes q r kids =
-    when eqb r.kind list
+    if eqb r.kind list
     then validate_list_items bytes q 0 r.a r.c kids
-    else when Holds.holds_blocks r.kind r.a
+    else if Holds.holds_blocks r.kind r.a
     then validate_blocks bytes q 0 no_block kids
     else []
 
@@ -228,7 +228,7 @@ module _ (bytes : List ℕ) (es : List Entry) (f : Frame) (st : List Frame) (i :
 
   -- the sorts of blocks, each with what is asked of its kind
   -- no stop, no child
-  block-plain : group_of r ≡ holds_nothing → eqb r.kind list ≡ false → open₀ ≡ 0 → close₀ ≡ 0 → Clean own₀ → Clean held₀ → Block
+  block-plain : group_of r ≡ parent_of_nothing → eqb r.kind list ≡ false → open₀ ≡ 0 → close₀ ≡ 0 → Clean own₀ → Clean held₀ → Block
   block-plain bare nl o c n m = fits-map (λ x. (apart nl, n, m)) (fits-alone f st i r kids (still o) (fits-leaf _ _ _ _ (leaf r 0 kids placed bare)) (still c))
 
   -- a container of blocks
@@ -248,8 +248,8 @@ module _ (bytes : List ℕ) (es : List Entry) (f : Frame) (st : List Frame) (i :
   block-list ih e =
       let l : Sub (validate_list q r.span r.c kids) es = rw e at s in
       let u : Sub (validate_list_items bytes q 0 r.a r.c kids) es = rw e at t in
-      let m : count kids ≡ length (pile kids []) = omega (arith, length-pile kids []) in
-      let n : eqb (count kids) 0 ≡ eqb (length (pile kids [])) 0 = ap (λ (x : ℕ). eqb x 0) m in
+      let m : count_trees kids ≡ length (pile kids []) = omega (arith, length-pile kids []) in
+      let n : eqb (count_trees kids) 0 ≡ eqb (length (pile kids [])) 0 = ap (λ (x : ℕ). eqb x 0) m in
       let j : joins b r ≡ behind_list f.kids r = joins-is b r (rw e) ∙ sym same in
       fits-map (λ c. (clean-if 1 _ q (j ∙ c.0), rw e (clean-append (clean-if 12 _ q (n ∙ c.2)) (clean-noise _ 13 _ q refl)), rw e c.1))
       (fits-alone f st i r kids
@@ -427,7 +427,7 @@ module _ (bytes : List ℕ) (es : List Entry) (f : Frame) (st : List Frame) (i m
       let y : Extras r.kind = extras r.kind x in
       let low : m ≤ 0 = rw y.is_first at placed.1 in
       let next : rank r.kind ≤ 1 = let z : rank r.kind ≡ 0 = y.is_first in omega arith in
-      let z : kids ≡ none = extra-leaf r kids placed.2 x in
+      let z : kids ≡ no_tree = extra-leaf r kids placed.2 x in
       let eb = of_other bytes r kids rest (frame_path (f ∷ st)) k b y.no_block in
       let ef = before-other r kids rest y.no_block in
       let en = nodes-out bytes r kids (before_blocks rest) (frame_path (f ∷ st)) y.no_inline c in
@@ -444,8 +444,8 @@ module _ (bytes : List ℕ) (es : List Entry) (f : Frame) (st : List Frame) (i m
 
 pub blocks-fit : (bytes : List ℕ) (ts : Forest) → Blocks bytes ts × Items bytes ts
 unfolding walk validate_blocks validate_list_items Placed
-blocks-fit bytes none = (
-  λ es f st i m k b c holder placed told out s t. fits-map (λ x. (clean-none, λ h g. label-none bytes _ c none before-none)) fits-none,
+blocks-fit bytes no_tree = (
+  λ es f st i m k b c holder placed told out s t. fits-map (λ x. (clean-none, λ h g. label-none bytes _ c no_tree before-none)) fits-none,
   λ es f st i m k tight e placed t out s. fits-map (λ x. clean-none) fits-none,
 )
 blocks-fit bytes (tree r kids rest) = (

@@ -6,9 +6,9 @@ use Prim.Native.Nat.{ℕ, ◌+◌}
 use native.Mathlib.Omega.{arith}
 use lib.ListN.{length}
 use Rattle.leaves.specs.Sheet.Kinds.{is_block, is_inline}
-use Rattle.leaves.specs.Sheet.Forest.{Forest, none, tree, count}
+use Rattle.leaves.specs.Sheet.Forest.{Forest, no_tree, tree, count_trees}
 use Rattle.leaves.specs.declared.sheet.records.Rec.{Rec}
-use Rattle.leaves.specs.Refusal.Groups.{holds_inlines}
+use Rattle.leaves.specs.Refusal.Groups.{parent_of_inlines}
 use Rattle.leaves.specs.Sheet.Empty.{is_empty_text}
 use Rattle.inlines.specs.Content.{all_empty}
 use Rattle.inlines.proofs.ContentLaws.{all_empty-none, all_empty-tree}
@@ -53,14 +53,14 @@ unfolding nearest
 nearest-inline f st h = rw h
 
 -- the pile
-pub empty-pile : (p : Rec) (m : ℕ) (ts : Forest) (ks : List Rec) → group_of p ≡ holds_inlines → Placed p m ts → only_empty (pile ts ks) ≡ (all_empty ts && only_empty ks)
+pub empty-pile : (p : Rec) (m : ℕ) (ts : Forest) (ks : List Rec) → group_of p ≡ parent_of_inlines → Placed p m ts → only_empty (pile ts ks) ≡ (all_empty ts && only_empty ks)
 unfolding only_empty pile Placed
-empty-pile p m none ks e h = rw all_empty-none
+empty-pile p m no_tree ks e h = rw all_empty-none
 empty-pile p m (tree r kids rest) ks e h =
     let i : is_inline r.kind ≡ true = (inliny r.kind (under-inlines p r.kind h.0 e)).an_inline in
     rw (all_empty-tree r kids rest, i) (empty-pile p (rank r.kind) rest (r ∷ ks) e h.3 ∙ sym (and_assoc (all_empty rest) (is_empty_text r) (only_empty ks)) ∙ ap (λ (b : Bool). b && only_empty ks) (and_comm (all_empty rest) (is_empty_text r)))
 
-pub empty-kids : (r : Rec) (ts : Forest) → group_of r ≡ holds_inlines → Placed r 0 ts → only_empty (pile ts []) ≡ all_empty ts
+pub empty-kids : (r : Rec) (ts : Forest) → group_of r ≡ parent_of_inlines → Placed r 0 ts → only_empty (pile ts []) ≡ all_empty ts
 unfolding only_empty
 empty-kids r ts e h = empty-pile r 0 ts [] e h ∙ go (all_empty ts)
   where
@@ -68,7 +68,7 @@ empty-kids r ts e h = empty-pile r 0 ts [] e h ∙ go (all_empty ts)
     go true = refl
     go false = refl
 
-pub length-pile : (ts : Forest) (ks : List Rec) → length (pile ts ks) ≡ count ts + length ks
-unfolding pile count
-length-pile none ks = omega arith
+pub length-pile : (ts : Forest) (ks : List Rec) → length (pile ts ks) ≡ count_trees ts + length ks
+unfolding pile count_trees
+length-pile no_tree ks = omega arith
 length-pile (tree r kids rest) ks = omega (arith, length-pile rest (r ∷ ks))

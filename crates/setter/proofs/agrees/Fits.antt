@@ -5,30 +5,30 @@ use mathlib.Core.Bool.{Bool, true, false}
 use mathlib.Core.List.{List, [], ◌∷◌, ◌++◌, append_assoc}
 use Prim.Native.Nat.{ℕ, suc, ◌+◌}
 use native.Mathlib.Omega.{arith}
-use Rattle.leaves.specs.Text.Lists.{when◌then◌else◌}
-use Rattle.leaves.specs.Sheet.Forest.{Forest, none, tree, size}
+use Rattle.std.specs.Prelude.{if◌then◌else◌}
+use Rattle.leaves.specs.Sheet.Forest.{Forest, no_tree, tree, size}
 use Rattle.leaves.specs.declared.sheet.records.Rec.{Rec}
 use Rattle.leaves.specs.declared.sheet.records.Span.{Span}
 use Rattle.leaves.specs.Report.Entries.{Entry, list_if, ◌⊕◌}
 use Rattle.setter.specs.Steps.{Frame, fresh, with_kid, Step, opens, closes}
 use Rattle.setter.specs.Machine.{opened_at, block_path}
 use Rattle.setter.specs.Stops.{stop_of}
-use Rattle.setter.specs.Agrees.{Some, Told, Begins}
+use Rattle.setter.specs.Agrees.{SomeEntry, BesideStop, Begins}
 use Rattle.setter.specs.Stops.{beside, named}
 use Rattle.setter.proofs.agrees.Flat.{walk, filled, pile}
 
 -- an entry of a rule beside stop_of bytes s, at a path that begins with p
 pub record Found (es : List Entry) (s : ℕ) (p : List ℕ) : Type 0 where
-  pub is : Some (Told s p) es
+  pub is : SomeEntry (BesideStop s p) es
 
-some_left : (P : Entry → Type 0) (a b : List Entry) → Some P a → Some P (a ++ b)
-unfolding Some
+some_left : (P : Entry → Type 0) (a b : List Entry) → SomeEntry P a → SomeEntry P (a ++ b)
+unfolding SomeEntry
 some_left P [] b h = absurd h
 some_left P (e ∷ a) b (inl h) = inl h
 some_left P (e ∷ a) b (inr h) = inr (some_left P a b h)
 
-some_right : (P : Entry → Type 0) (a b : List Entry) → Some P b → Some P (a ++ b)
-unfolding Some
+some_right : (P : Entry → Type 0) (a b : List Entry) → SomeEntry P b → SomeEntry P (a ++ b)
+unfolding SomeEntry
 some_right P [] b h = h
 some_right P (e ∷ a) b h = inr (some_right P a b h)
 
@@ -42,14 +42,14 @@ sub-all es = record { tell = λ s p h. h }
 module _ {a es : List Entry} (b : List Entry) where
   pub sub-left : Sub (a ⊕ b) es → Sub a es
   unfolding ◌⊕◌
-  sub-left h = record { tell = λ s p g. h.tell s p (record { is = some_left (Told s p) a b g.is }) }
+  sub-left h = record { tell = λ s p g. h.tell s p (record { is = some_left (BesideStop s p) a b g.is }) }
 
   pub sub-right : Sub (b ⊕ a) es → Sub a es
   unfolding ◌⊕◌
-  sub-right h = record { tell = λ s p g. h.tell s p (record { is = some_right (Told s p) b a g.is }) }
+  sub-right h = record { tell = λ s p g. h.tell s p (record { is = some_right (BesideStop s p) b a g.is }) }
 
 pub sub-if : {b : Bool} {s : ℕ} {q : List ℕ} {es : List Entry} (n : ℕ) (sp : Span) (p : List ℕ) → Sub (list_if b n sp p) es → b ≡ true → beside s n ≡ true → Begins q p → Found es s q
-unfolding list_if Some
+unfolding list_if SomeEntry
 sub-if {s = s} {q = q} n sp p h c e g = (rw c at h).tell s q (record { is = inl (e, g) })
 
 -- no entry is of a rule beside a stop
@@ -132,11 +132,11 @@ module _ {bytes : List ℕ} {es : List Entry} where
   pub still : {s : Step} → stop_of bytes s ≡ 0 → Fit bytes es s (Unit {0})
   still e = record { heard = inl e; quiet = λ h. tt }
 
-  pub one-stop : {s : Step} (b : Bool) (n : ℕ) → stop_of bytes s ≡ (when b then suc n else 0) → (b ≡ true → Found es (suc n) (block_path (opened_at s))) → Fit bytes es s (b ≡ false)
+  pub one-stop : {s : Step} (b : Bool) (n : ℕ) → stop_of bytes s ≡ (if b then suc n else 0) → (b ≡ true → Found es (suc n) (block_path (opened_at s))) → Fit bytes es s (b ≡ false)
   one-stop true n e k = record { heard = inr (rw e (k refl)); quiet = λ h. absurd (let z : suc n ≡ 0 = sym e ∙ h in omega arith) }
   one-stop false n e k = record { heard = inl e; quiet = λ h. refl }
 
-  pub two-stops : {s : Step} (b c : Bool) (n m : ℕ) → stop_of bytes s ≡ (when b then suc n else when c then suc m else 0) → (b ≡ true → Found es (suc n) (block_path (opened_at s))) → (c ≡ true → Found es (suc m) (block_path (opened_at s))) → Fit bytes es s ((b ≡ false) × (c ≡ false))
+  pub two-stops : {s : Step} (b c : Bool) (n m : ℕ) → stop_of bytes s ≡ (if b then suc n else if c then suc m else 0) → (b ≡ true → Found es (suc n) (block_path (opened_at s))) → (c ≡ true → Found es (suc m) (block_path (opened_at s))) → Fit bytes es s ((b ≡ false) × (c ≡ false))
   two-stops true c n m e k l = record { heard = inr (rw e (k refl)); quiet = λ h. absurd (let z : suc n ≡ 0 = sym e ∙ h in omega arith) }
   two-stops false true n m e k l = record { heard = inr (rw e (l refl)); quiet = λ h. absurd (let z : suc m ≡ 0 = sym e ∙ h in omega arith) }
   two-stops false false n m e k l = record { heard = inl e; quiet = λ h. (refl, refl) }
@@ -154,6 +154,6 @@ module _ {bytes : List ℕ} {es : List Entry} (f : Frame) (st : List Frame) (i :
   fits-tree rest a b =
       rw append_assoc at (fits-append a b)
 
-pub fits-leaf : {bytes : List ℕ} {es : List Entry} (f : Frame) (st : List Frame) (i : ℕ) (ts : Forest) → ts ≡ none → Fits bytes es (walk f st i ts) (Unit {0})
+pub fits-leaf : {bytes : List ℕ} {es : List Entry} (f : Frame) (st : List Frame) (i : ℕ) (ts : Forest) → ts ≡ no_tree → Fits bytes es (walk f st i ts) (Unit {0})
 unfolding walk
 fits-leaf f st i ts e = rw e fits-none

@@ -6,14 +6,14 @@ use mathlib.Core.List.{List, [], ◌∷◌}
 use Prim.Native.Nat.{ℕ, suc, ◌+◌, ◌≤◌}
 use native.Mathlib.Omega.{arith}
 use lib.Dec.{eqb}
-use Rattle.leaves.specs.Text.Lists.{when◌then◌else◌}
+use Rattle.std.specs.Prelude.{if◌then◌else◌}
 use Rattle.leaves.specs.Text.Lines.{holds_line_ending}
 use Rattle.leaves.specs.Sheet.Kinds.{among, is_inline, cell, leaf_directive, container_directive}
-use Rattle.leaves.specs.Sheet.Forest.{Forest, none, tree, size}
+use Rattle.leaves.specs.Sheet.Forest.{Forest, no_tree, tree, size, records_in}
 use Rattle.leaves.specs.declared.sheet.records.Rec.{Rec}
 use Rattle.leaves.specs.Sheet.Texts.{text_of}
 use Rattle.leaves.specs.Report.Entries.{Entry, list_if, ◌⊕◌}
-use Rattle.leaves.specs.Refusal.Groups.{holds_inlines, holds_label, holds_nothing, parent_group, other_group}
+use Rattle.leaves.specs.Refusal.Groups.{parent_of_inlines, parent_of_label, parent_of_nothing, parent_group, other_group}
 use Rattle.leaves.specs.Sheet.Classes.{is_break, is_plain_break, is_link}
 use Rattle.inlines.specs.Single.{validate_siblings}
 use Rattle.inlines.specs.Literal.{validate_text, validate_code_inline}
@@ -35,6 +35,7 @@ use Rattle.setter.proofs.agrees.KindCases.{rank, InlineKind, i31, i32, i33, i34,
 use Rattle.setter.proofs.agrees.Placed.{group_of, Stands, Placed, leaf, under-inlines, under-label}
 use Rattle.setter.proofs.agrees.Noise.{clean-destination, clean-identifier, clean-escape, clean-math, clean-text-directive, clean-final}
 use Rattle.setter.proofs.agrees.Context.{place_other, nearest-inline, empty-kids}
+use Rattle.inlines.proofs.DepthLaws.{each-tree}
 
 -- the nearest open record that is no inline holds one line
 abbrev pub lined : List Frame → Bool
@@ -53,7 +54,7 @@ pub record Spotless (bytes p : List ℕ) (line link : Bool) (b : ℕ) (ts : Fore
 
 -- of the link text: one inline
 abbrev pub linked : List ℕ → Rec → Forest → List Entry
-linked p r kids = when is_link r.kind then list_if true 42 r.span p else validate_link_text p kids
+linked p r kids = if is_link r.kind then list_if true 42 r.span p else validate_link_text p kids
 
 -- the same of one inline
 pub record Shown₁ (bytes : List ℕ) (es : List Entry) (p : List ℕ) (line link : Bool) (b : ℕ) (r : Rec) (kids : Forest) : Type 0 where
@@ -77,8 +78,8 @@ module _ (bytes : List ℕ) (r : Rec) (kids rest : Forest) (p : List ℕ) where
   nodes-in h b = rw h
 
   pub line-in : (n : ℕ) → validate_one_line n p (tree r kids rest) ≡ list_if (is_break r.kind) n r.span p ⊕ (validate_one_line n p kids ⊕ validate_one_line n p rest)
-  unfolding validate_one_line each_record
-  line-in n = refl
+  unfolding validate_one_line
+  line-in n = each-tree _ r kids rest
 
   link-in : validate_link_text p (tree r kids rest) ≡ linked p r kids ⊕ validate_link_text p rest
   unfolding validate_link_text
@@ -88,10 +89,10 @@ module _ (bytes : List ℕ) (r : Rec) (kids rest : Forest) (p : List ℕ) where
   unfolding validate_inline_nodes_after validate_node ◌⊕◌
   nodes-out h b = rw h
 
-  module _ (z : kids ≡ none) where
+  module _ (z : kids ≡ no_tree) where
     pub line-out : is_break r.kind ≡ false → (n : ℕ) → validate_one_line n p (tree r kids rest) ≡ validate_one_line n p rest
-    unfolding validate_one_line each_record list_if ◌⊕◌
-    line-out h n = rw (z, h)
+    unfolding validate_one_line each_record records_in list_if ◌⊕◌
+    line-out h n = rw z (each-tree (λ x. list_if (is_break x.kind) n x.span p) r no_tree rest ∙ rw h)
 
     link-out : is_link r.kind ≡ false → validate_link_text p (tree r kids rest) ≡ validate_link_text p rest
     unfolding validate_link_text ◌⊕◌
@@ -118,7 +119,7 @@ module _ {bytes : List ℕ} {es : List Entry} {p : List ℕ} {line link : Bool} 
           links = λ g. sub-right _ (rw (link-in bytes r kids rest p) at (s.links g));
         }
 
-  shown-out : kids ≡ none → Extras r.kind → Shown bytes es p line link b (tree r kids rest) → Shown bytes es p line link b rest
+  shown-out : kids ≡ no_tree → Extras r.kind → Shown bytes es p line link b (tree r kids rest) → Shown bytes es p line link b rest
   shown-out z y s =
       record {
         listed = rw (nodes-out bytes r kids rest p y.no_inline b) at s.listed;
@@ -136,7 +137,7 @@ module _ {bytes p : List ℕ} {line link : Bool} {b : ℕ} {r : Rec} {kids rest 
         links = λ g. rw (link-in bytes r kids rest p) (clean-append (s.links g) (t.links g));
       }
 
-  spotless-out : kids ≡ none → Extras r.kind → Spotless bytes p line link b rest → Spotless bytes p line link b (tree r kids rest)
+  spotless-out : kids ≡ no_tree → Extras r.kind → Spotless bytes p line link b rest → Spotless bytes p line link b (tree r kids rest)
   spotless-out z y t =
       record {
         listed = rw (nodes-out bytes r kids rest p y.no_inline b) t.listed;
@@ -149,10 +150,10 @@ pub data InlineRoot (k : ℕ) : Type 0 where
   beforehand : Extra k → InlineRoot k
   node : InlineKind k → InlineRoot k
 
-pub hold-inlines : (p : Rec) → group_of p ≡ holds_inlines → (k : ℕ) → Stands p k → InlineRoot k
+pub hold-inlines : (p : Rec) → group_of p ≡ parent_of_inlines → (k : ℕ) → Stands p k → InlineRoot k
 hold-inlines p e k s = node (under-inlines p k s e)
 
-pub hold-label : (p : Rec) → group_of p ≡ holds_label → (k : ℕ) → Stands p k → InlineRoot k
+pub hold-label : (p : Rec) → group_of p ≡ parent_of_label → (k : ℕ) → Stands p k → InlineRoot k
 hold-label p e k s = ⊎_elim beforehand node (under-label p k s e)
 
 -- the law of a forest of inlines, under any open records
@@ -162,15 +163,15 @@ Inlines bytes ts =
     → Shown bytes es p (lined (f ∷ st)) (in_link (f ∷ st)) b ts → Fits bytes es (walk f st i ts) (Spotless bytes p (lined (f ∷ st)) (in_link (f ∷ st)) b ts)
 
 -- no inline stands under a record that holds nothing
-pub bare-nodes : (bytes p : List ℕ) (b : ℕ) (ts : Forest) → ts ≡ none → Clean (validate_inline_nodes_after bytes p b ts)
+pub bare-nodes : (bytes p : List ℕ) (b : ℕ) (ts : Forest) → ts ≡ no_tree → Clean (validate_inline_nodes_after bytes p b ts)
 unfolding validate_inline_nodes_after
 bare-nodes bytes p b ts e = rw e clean-none
 
-pub bare-line : (n : ℕ) (p : List ℕ) (ts : Forest) → ts ≡ none → Clean (validate_one_line n p ts)
-unfolding validate_one_line each_record
+pub bare-line : (n : ℕ) (p : List ℕ) (ts : Forest) → ts ≡ no_tree → Clean (validate_one_line n p ts)
+unfolding validate_one_line each_record records_in
 bare-line n p ts e = rw e clean-none
 
-bare-link : (p : List ℕ) (ts : Forest) → ts ≡ none → Clean (validate_link_text p ts)
+bare-link : (p : List ℕ) (ts : Forest) → ts ≡ no_tree → Clean (validate_link_text p ts)
 unfolding validate_link_text
 bare-link p ts e = rw e clean-none
 
@@ -206,23 +207,23 @@ module _ (bytes : List ℕ) (es : List Entry) (f : Frame) (st : List Frame) (i b
 
   -- the sorts of inlines, each with what is asked of its kind
   -- no stop, no child
-  node-plain : group_of r ≡ holds_nothing → is_plain_break r.kind r.a ≡ false → is_break r.kind ≡ false → is_link r.kind ≡ false → open₀ ≡ 0 → close₀ ≡ 0 → Clean own₀ → Here
+  node-plain : group_of r ≡ parent_of_nothing → is_plain_break r.kind r.a ≡ false → is_break r.kind ≡ false → is_link r.kind ≡ false → open₀ ≡ 0 → close₀ ≡ 0 → Clean own₀ → Here
   node-plain bare np nb nl o c n =
-      let z : kids ≡ none = leaf r 0 kids placed bare in
+      let z : kids ≡ no_tree = leaf r 0 kids placed bare in
       fits-map
       (λ x. record { broken = unbroken np; own = n; under = bare-nodes bytes p 0 kids z; lines = λ h n. (clean-if n _ p nb, bare-line n p kids z); links = λ h. rw nl (bare-link p kids z) })
       (fits-alone f st i r kids (still o) (fits-leaf _ _ _ _ z) (still c))
 
   -- a text or code: stop 13
-  node-ending : (x : Bool) → group_of r ≡ holds_nothing → is_plain_break r.kind r.a ≡ false → is_break r.kind ≡ false → is_link r.kind ≡ false → open₀ ≡ (when x then 13 else 0) → close₀ ≡ 0 → (n : ℕ) → beside 13 n ≡ true → Sub (list_if x n r.span p) es → (x ≡ false → Clean own₀) → Here
+  node-ending : (x : Bool) → group_of r ≡ parent_of_nothing → is_plain_break r.kind r.a ≡ false → is_break r.kind ≡ false → is_link r.kind ≡ false → open₀ ≡ (if x then 13 else 0) → close₀ ≡ 0 → (n : ℕ) → beside 13 n ≡ true → Sub (list_if x n r.span p) es → (x ≡ false → Clean own₀) → Here
   node-ending x bare np nb nl o c n g u v =
-      let z : kids ≡ none = leaf r 0 kids placed bare in
+      let z : kids ≡ no_tree = leaf r 0 kids placed bare in
       fits-map
       (λ w. record { broken = unbroken np; own = v w.0; under = bare-nodes bytes p 0 kids z; lines = λ h n. (clean-if n _ p nb, bare-line n p kids z); links = λ h. rw nl (bare-link p kids z) })
       (fits-alone f st i r kids (one-stop x 12 o (λ h. sub-if n _ p u h g (at []))) (fits-leaf _ _ _ _ z) (still c))
 
   -- emphasis and its like: stop 10
-  node-emphatic : Inlines bytes kids → group_of r ≡ holds_inlines → is_plain_break r.kind r.a ≡ false → is_break r.kind ≡ false → is_link r.kind ≡ false → in_link (fresh i r ∷ f ∷ st) ≡ in_link (f ∷ st) → open₀ ≡ 0 → close₀ ≡ (when only_empty (pile kids []) then 10 else 0) → own₀ ≡ validate_emphasis_container bytes p r.span r.kind r.a kids → Here
+  node-emphatic : Inlines bytes kids → group_of r ≡ parent_of_inlines → is_plain_break r.kind r.a ≡ false → is_break r.kind ≡ false → is_link r.kind ≡ false → in_link (fresh i r ∷ f ∷ st) ≡ in_link (f ∷ st) → open₀ ≡ 0 → close₀ ≡ (if only_empty (pile kids []) then 10 else 0) → own₀ ≡ validate_emphasis_container bytes p r.span r.kind r.a kids → Here
   unfolding beside named validate_emphasis_container
   node-emphatic ih a np nb nl k o c n =
       let l = rw n at s.own in
@@ -254,7 +255,7 @@ module _ (bytes : List ℕ) (es : List Entry) (f : Frame) (st : List Frame) (i b
       (still c))
 
   -- links that hold inlines: stop 5
-  node-link : Inlines bytes kids → group_of r ≡ holds_inlines → is_plain_break r.kind r.a ≡ false → is_break r.kind ≡ false → is_link r.kind ≡ true → in_link (fresh i r ∷ f ∷ st) ≡ true → open₀ ≡ (when in_link (f ∷ st) then 5 else 0) → close₀ ≡ 0 → (x : List Entry) → Clean x → own₀ ≡ x ⊕ validate_link_text p kids → Here
+  node-link : Inlines bytes kids → group_of r ≡ parent_of_inlines → is_plain_break r.kind r.a ≡ false → is_break r.kind ≡ false → is_link r.kind ≡ true → in_link (fresh i r ∷ f ∷ st) ≡ true → open₀ ≡ (if in_link (f ∷ st) then 5 else 0) → close₀ ≡ 0 → (x : List Entry) → Clean x → own₀ ≡ x ⊕ validate_link_text p kids → Here
   unfolding beside
   node-link ih a np nb nl k o c x cx n =
       let l = rw n at s.own in
@@ -274,19 +275,19 @@ module _ (bytes : List ℕ) (es : List Entry) (f : Frame) (st : List Frame) (i b
       (still c))
 
   -- links that hold nothing: stop 5
-  node-auto : group_of r ≡ holds_nothing → is_plain_break r.kind r.a ≡ false → is_break r.kind ≡ false → is_link r.kind ≡ true → open₀ ≡ (when in_link (f ∷ st) then 5 else 0) → close₀ ≡ 0 → Clean own₀ → Here
+  node-auto : group_of r ≡ parent_of_nothing → is_plain_break r.kind r.a ≡ false → is_break r.kind ≡ false → is_link r.kind ≡ true → open₀ ≡ (if in_link (f ∷ st) then 5 else 0) → close₀ ≡ 0 → Clean own₀ → Here
   unfolding beside
   node-auto bare np nb nl o c n =
-      let z : kids ≡ none = leaf r 0 kids placed bare in
+      let z : kids ≡ no_tree = leaf r 0 kids placed bare in
       fits-map
       (λ w. record { broken = unbroken np; own = n; under = bare-nodes bytes p 0 kids z; lines = λ h n. (clean-if n _ p nb, bare-line n p kids z); links = λ h. absurd (true≢false (sym h ∙ w.0)) })
       (fits-alone f st i r kids (one-stop (in_link (f ∷ st)) 4 o (λ h. sub-if 42 r.span p (rw nl at (s.links h)) refl refl (at []))) (fits-leaf _ _ _ _ z) (still c))
 
   -- breaks: stops 4 and 11
-  node-break : group_of r ≡ holds_nothing → is_break r.kind ≡ true → is_link r.kind ≡ false → open₀ ≡ (when lined (f ∷ st) then 4 else when is_plain_break r.kind r.a && behind_break f.kids then 11 else 0) → close₀ ≡ 0 → Clean own₀ → Here
+  node-break : group_of r ≡ parent_of_nothing → is_break r.kind ≡ true → is_link r.kind ≡ false → open₀ ≡ (if lined (f ∷ st) then 4 else if is_plain_break r.kind r.a && behind_break f.kids then 11 else 0) → close₀ ≡ 0 → Clean own₀ → Here
   unfolding beside
   node-break bare ib nl o c n =
-      let z : kids ≡ none = leaf r 0 kids placed bare in
+      let z : kids ≡ no_tree = leaf r 0 kids placed bare in
       let same : (is_break b && is_plain_break r.kind r.a) ≡ (is_plain_break r.kind r.a && behind_break f.kids) = ap (λ (x : Bool). x && is_plain_break r.kind r.a) broke ∙ and_comm (behind_break f.kids) (is_plain_break r.kind r.a) in
       fits-map
       (λ w. record { broken = clean-if 37 _ p (same ∙ w.0.1); own = n; under = bare-nodes bytes p 0 kids z; lines = λ h n. absurd (true≢false (sym h ∙ w.0.0)); links = λ h. rw nl (bare-link p kids z) })
@@ -324,7 +325,7 @@ module _ (bytes : List ℕ) (es : List Entry) (f : Frame) (st : List Frame) (i b
   node-fits ih (i53 e) = node-plain (rw e) (rw e) (rw e) (rw e) (rw e) (rw e) (rw e clean-none)
 
 -- a tag or an attribute
-pub extra-leaf : (r : Rec) (kids : Forest) → Placed r 0 kids → Extra r.kind → kids ≡ none
+pub extra-leaf : (r : Rec) (kids : Forest) → Placed r 0 kids → Extra r.kind → kids ≡ no_tree
 unfolding group_of parent_group other_group
 extra-leaf r kids placed (tag e) = leaf r 0 kids placed (rw e)
 extra-leaf r kids placed (attr e) = leaf r 0 kids placed (rw e)
@@ -347,7 +348,7 @@ module _ (bytes : List ℕ) (es : List Entry) (f : Frame) (st : List Frame) (i m
   inline-tree (beforehand x) =
       let y : Extras r.kind = extras r.kind x in
       let low : m ≤ 0 = rw y.is_first at placed.1 in
-      let z : kids ≡ none = extra-leaf r kids placed.2 x in
+      let z : kids ≡ no_tree = extra-leaf r kids placed.2 x in
       fits-map (λ c. spotless-out z y c.1)
       (fits-tree f st i r kids rest
       (extra-fits bytes es f st i r kids placed.2 x)
@@ -355,6 +356,6 @@ module _ (bytes : List ℕ) (es : List Entry) (f : Frame) (st : List Frame) (i m
 
 pub inlines-fit : (bytes : List ℕ) (ts : Forest) → Inlines bytes ts
 unfolding Placed walk
-inlines-fit bytes none es f st i m b p here holder placed broke start s = fits-map (λ c. record { listed = bare-nodes bytes p b none refl; lines = λ h n. bare-line n p none refl; links = λ h. bare-link p none refl }) fits-none
+inlines-fit bytes no_tree es f st i m b p here holder placed broke start s = fits-map (λ c. record { listed = bare-nodes bytes p b no_tree refl; lines = λ h n. bare-line n p no_tree refl; links = λ h. bare-link p no_tree refl }) fits-none
 inlines-fit bytes (tree r kids rest) es f st i m b p here holder placed broke start s =
     inline-tree bytes es f st i m b p here r kids rest (inlines-fit bytes kids) (inlines-fit bytes rest) holder placed broke start s (holder r.kind placed.0)

@@ -7,7 +7,7 @@ use Prim.Native.Nat.{ℕ, suc, ◌+◌, ◌<◌, ◌≤◌}
 use native.Mathlib.Omega.{arith}
 use lib.Dec.{eqb}
 use Rattle.leaves.specs.Sheet.Records.{records_of}
-use Rattle.leaves.specs.Sheet.Forest.{Forest, none, tree, forest_of, size}
+use Rattle.leaves.specs.Sheet.Forest.{Forest, no_tree, tree, forest_of, size}
 use Rattle.leaves.specs.Refusal.Judge.{judge_sheet}
 use Rattle.leaves.proofs.refusal.FormedLaws.{accepted}
 use Rattle.setter.specs.Steps.{Frame, fresh, with_kid, the_sheet, Step, steps_of}
@@ -29,7 +29,7 @@ inside-append n (s ∷ a) b h g = (h.0, inside-append n a b h.1 g)
 
 walk_inside : (n : ℕ) (f : Frame) (st : List Frame) (i : ℕ) (ts : Forest) → i + size ts ≤ n → Inside n (walk f st i ts)
 unfolding Inside walk size
-walk_inside n f st i none h = tt
+walk_inside n f st i no_tree h = tt
 walk_inside n f st i (tree r kids rest) h =
     (omega arith, inside-append n (walk (fresh i r) (f ∷ st) (suc i) kids) _ (walk_inside n (fresh i r) (f ∷ st) (suc i) kids (omega arith)) (omega arith, walk_inside n (with_kid r f) st (suc i + size kids) rest (omega arith)))
 

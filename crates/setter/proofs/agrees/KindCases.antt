@@ -7,7 +7,7 @@ use Prim.Native.Nat.{ℕ, ◌≤◌, ◌<◌}
 use native.Mathlib.Omega.{arith}
 use lib.Dec.{leb, eqb}
 use borrow.Author.Tests.{eqb-true, leb-true}
-use Rattle.leaves.specs.Text.Lists.{when◌then◌else◌}
+use Rattle.std.specs.Prelude.{if◌then◌else◌}
 use Rattle.leaves.proofs.text.TestLaws.{all_below, each, and_right}
 use Rattle.leaves.specs.Sheet.Kinds.{is_block, is_inline, html_tag, attribute, blank_line, list}
 use Rattle.setter.specs.Machine.{in_path}
@@ -15,7 +15,7 @@ use Rattle.leaves.specs.Sheet.Classes.{is_break, is_link}
 
 -- tags and attributes, then inlines, then blocks and the others
 unfoldable pub rank : ℕ → ℕ
-rank k = when eqb k html_tag || eqb k attribute then 0 else when is_inline k then 1 else 2
+rank k = if eqb k html_tag || eqb k attribute then 0 else if is_inline k then 1 else 2
 
 abbrev one_of : ℕ → List ℕ → Bool
 one_of n [] = false

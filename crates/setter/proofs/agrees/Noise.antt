@@ -1,12 +1,12 @@
 -- The entries of rules that no stop goes by: they are clean, whatever holds.
 use mathlib.Core.Path.{◌≡◌, refl}
 use mathlib.Core.Bool.{Bool, true, false, ◌&&◌, ◌||◌}
-use mathlib.Core.List.{List, [], ◌∷◌, ◌++◌, map}
+use mathlib.Core.List.{List, [], ◌∷◌, ◌++◌, map, get_last_d}
 use Prim.Native.Nat.{ℕ, suc}
 use lib.Dec.{eqb}
-use Rattle.leaves.specs.Text.Lists.{when◌then◌else◌, last_or}
+use Rattle.std.specs.Prelude.{if◌then◌else◌}
 use Rattle.leaves.specs.Sheet.Kinds.{is_inline, line_break, blank_line}
-use Rattle.leaves.specs.Sheet.Forest.{Forest, none, tree, count}
+use Rattle.leaves.specs.Sheet.Forest.{Forest, no_tree, tree, count_trees, records_in}
 use Rattle.leaves.specs.declared.sheet.records.Rec.{Rec}
 use Rattle.leaves.specs.declared.sheet.records.Span.{Span}
 use Rattle.leaves.specs.declared.sheet.records.Text.{Text}
@@ -24,8 +24,9 @@ use Rattle.blocks.specs.Item.{validate_blank_line, validate_item_blank_lines, va
 use Rattle.blocks.specs.Html.{validate_tag_pair, validate_tags}
 use Rattle.setter.specs.Stops.{named}
 use Rattle.setter.proofs.agrees.Fits.{Clean, clean-none, clean-append, clean-noise}
+use Rattle.inlines.proofs.DepthLaws.{each-tree}
 
-clean-either : (b : Bool) {x y : List Entry} → Clean x → Clean y → Clean (when b then x else y)
+clean-either : (b : Bool) {x y : List Entry} → Clean x → Clean y → Clean (if b then x else y)
 clean-either true p q = p
 clean-either false p q = q
 
@@ -69,15 +70,15 @@ module _ (bytes path : List ℕ) (span : Span) where
 
   pub clean-tags : (kids : Forest) → Clean (validate_tags bytes path span kids)
   unfolding validate_tags validate_tag_pair named
-  clean-tags none = clean-none
-  clean-tags (tree o k none) = clean-none
+  clean-tags no_tree = clean-none
+  clean-tags (tree o k no_tree) = clean-none
   clean-tags (tree o k (tree c l m)) =
       clean-append (clean-noise _ 5 o.span path refl) (clean-append (clean-noise _ 6 c.span path refl) (clean-append (clean-noise _ 7 span path refl) (clean-append (clean-noise _ 8 o.span path refl) (clean-noise _ 9 c.span path refl))))
 
 -- ---- trees side by side
 pub clean-attributes : (bytes path : List ℕ) (ts : Forest) → Clean (validate_directive_attributes bytes path ts)
 unfolding validate_directive_attributes named
-clean-attributes bytes path none = clean-none
+clean-attributes bytes path no_tree = clean-none
 clean-attributes bytes path (tree r kids rest) = clean-append (clean-noise _ 55 _ path refl) (clean-attributes bytes path rest)
 
 pub clean-text-directive : (bytes path : List ℕ) (span : Span) (t : Text) (kids : Forest) → Clean (validate_text_directive bytes path span t kids)
@@ -85,9 +86,9 @@ unfolding validate_text_directive
 clean-text-directive bytes path span t kids = clean-append (clean-name bytes path span t) (clean-attributes bytes path kids)
 
 clean-each : (entries : Rec → List Entry) → ((r : Rec) → Clean (entries r)) → (ts : Forest) → Clean (each_record entries ts)
-unfolding each_record
-clean-each entries h none = clean-none
-clean-each entries h (tree r kids rest) = clean-append (h r) (clean-append (clean-each entries h kids) (clean-each entries h rest))
+unfolding each_record records_in
+clean-each entries h no_tree = clean-none
+clean-each entries h (tree r kids rest) = rw (each-tree entries r kids rest) (clean-append (h r) (clean-append (clean-each entries h kids) (clean-each entries h rest)))
 
 pub clean-values : (bytes path : List ℕ) (ts : Forest) → Clean (validate_cell_values bytes path ts)
 unfolding validate_cell_values named
@@ -99,21 +100,21 @@ clean-blank path span blank tight first last = clean-append (clean-noise _ 51 sp
 
 pub clean-blanks : (path : List ℕ) (tight last : Bool) (k : ℕ) (ts : Forest) → Clean (validate_item_blank_lines path tight last k ts)
 unfolding validate_item_blank_lines
-clean-blanks path tight last k none = clean-none
+clean-blanks path tight last k no_tree = clean-none
 clean-blanks path tight last k (tree r kids rest) = clean-append (clean-blank _ _ _ tight _ _) (clean-blanks path tight last (suc k) rest)
 
 clean_at : (path : List ℕ) (k : ℕ) (ts : Forest) → Clean (blank_line_at path k ts)
 unfolding blank_line_at named
-clean_at path k none = clean-none
-clean_at path k (tree r kids rest) = clean-either (eqb r.kind blank_line && (eqb k 0 || eqb (count rest) 0)) (clean-noise true 4 r.span (path ++ k ∷ []) refl) (clean_at path (suc k) rest)
+clean_at path k no_tree = clean-none
+clean_at path k (tree r kids rest) = clean-either (eqb r.kind blank_line && (eqb k 0 || eqb (count_trees rest) 0)) (clean-noise true 4 r.span (path ++ k ∷ []) refl) (clean_at path (suc k) rest)
 
 pub clean-footnote : (path : List ℕ) (span : Span) (t : Text) (kids : Forest) → Clean (validate_footnote_definition path span t kids)
 unfolding validate_footnote_definition named
 clean-footnote path span t kids = clean-append (clean-noise _ 3 span path refl) (clean_at path 0 kids)
 
-clean_after : (path : List ℕ) (ts : Forest) (last : List Entry) → Clean last → Clean (last_or last (map (break_entries path) (inlines_of ts)))
+clean_after : (path : List ℕ) (ts : Forest) (last : List Entry) → Clean last → Clean (get_last_d (map (break_entries path) (inlines_of ts)) last)
 unfolding break_entries named
-clean_after path none last h = rw (last-none path last) h
+clean_after path no_tree last h = rw (last-none path last) h
 clean_after path (tree r kids rest) last h = rw (last-tree r kids rest path last) (clean_after path rest _ (clean-either (is_inline r.kind) (clean-noise (eqb r.kind line_break) 30 r.span path refl) h))
 
 pub clean-final : (path : List ℕ) (ts : Forest) → Clean (final_break path ts)

@@ -8,7 +8,7 @@ use lib.Dec.{leb, ltb, eqb}
 use lib.ListN.{length}
 use borrow.Author.Tests.{eqb-true, eqb-false, leb-true, leb-false, ltb-true, ltb-false, eq-eqb, ne_eqb}
 use Rattle.leaves.specs.Sheet.Kinds.{table, row, cell}
-use Rattle.leaves.specs.Sheet.Forest.{Forest, none, tree, size, count}
+use Rattle.leaves.specs.Sheet.Forest.{Forest, no_tree, tree, size, count_trees}
 use Rattle.leaves.specs.declared.sheet.records.Rec.{Rec}
 use Rattle.leaves.specs.declared.sheet.records.Span.{Span}
 use Rattle.leaves.specs.Report.Entries.{Entry, list_if, ◌⊕◌}
@@ -49,9 +49,9 @@ one_cell bytes es f st i q r kids e b out p s wide =
     (still (rw e)))
 
 -- the cells of a row, at the path q of its own
-cells_fit : (ts : Forest) (bytes : List ℕ) (es : List Entry) (f : Frame) (st : List Frame) (i m k : ℕ) (q : List ℕ) → f.of.kind ≡ row → Placed f.of m ts → Begins (block_path (f ∷ st)) q → in_link (f ∷ st) ≡ false → Sub (validate_cells bytes q k ts) es → (columns (f ∷ st) < length f.kids + count ts → Found es 1 (block_path (f ∷ st))) → Fits bytes es (walk f st i ts) (Clean (validate_cells bytes q k ts) × (length f.kids ≤ columns (f ∷ st) → length f.kids + count ts ≤ columns (f ∷ st)))
-unfolding walk validate_cells count Placed frame_path block_path in_link columns
-cells_fit none bytes es f st i m k q e p b out s wide = fits-map (λ c. (clean-none, λ h. omega arith)) fits-none
+cells_fit : (ts : Forest) (bytes : List ℕ) (es : List Entry) (f : Frame) (st : List Frame) (i m k : ℕ) (q : List ℕ) → f.of.kind ≡ row → Placed f.of m ts → Begins (block_path (f ∷ st)) q → in_link (f ∷ st) ≡ false → Sub (validate_cells bytes q k ts) es → (columns (f ∷ st) < length f.kids + count_trees ts → Found es 1 (block_path (f ∷ st))) → Fits bytes es (walk f st i ts) (Clean (validate_cells bytes q k ts) × (length f.kids ≤ columns (f ∷ st) → length f.kids + count_trees ts ≤ columns (f ∷ st)))
+unfolding walk validate_cells count_trees Placed frame_path block_path in_link columns
+cells_fit no_tree bytes es f st i m k q e p b out s wide = fits-map (λ c. (clean-none, λ h. omega arith)) fits-none
 cells_fit (tree r kids rest) bytes es f st i m k q e p b out s wide =
     let one : r.kind ≡ cell = under-row f.of r.kind p.0 (unfold group_of parent_group in rw e) in
     fits-map (λ c. (clean-append c.0.0 c.1.0, λ h. omega (arith, c.1.1 (omega (arith, c.0.1)))))
@@ -61,8 +61,8 @@ cells_fit (tree r kids rest) bytes es f st i m k q e p b out s wide =
 
 -- all rows are a wide
 unfoldable pub Widths : ℕ → Forest → Type 0
-Widths a none = Unit {0}
-Widths a (tree r kids rest) = (count kids ≡ a) × Widths a rest
+Widths a no_tree = Unit {0}
+Widths a (tree r kids rest) = (count_trees kids ≡ a) × Widths a rest
 
 -- a row that is not as wide as A is told of: by the header's width, or by its own
 odd : (es : List Entry) (p q : List ℕ) (n a w : ℕ) (sp : Span) → Sub (list_if (not (eqb n w)) 19 sp q) es → Begins p q → ((a ≡ w → ⊥) → (s : ℕ) → beside s 18 ≡ true → Found es s p) → (n ≡ a → ⊥) → (s : ℕ) → beside s 18 ≡ true → beside s 19 ≡ true → Found es s p
@@ -73,15 +73,15 @@ odd es p q n a w sp h g narrow ne s x y = go (eqb a w) refl
     go false e = narrow (eqb-false _ _ e) s x
 
 -- a row, at the path q of its own, where the header has w cells
-one-row : (bytes : List ℕ) (es : List Entry) (f : Frame) (st : List Frame) (i w : ℕ) (q : List ℕ) (r : Rec) (kids : Forest) → f.of.kind ≡ table → r.kind ≡ row → Begins (block_path (f ∷ st)) q → in_link (f ∷ st) ≡ false → Placed r 0 kids → Sub (list_if (not (eqb (count kids) w)) 19 r.span q) es → Sub (validate_cells bytes q 0 kids) es → ((f.of.a ≡ w → ⊥) → (s : ℕ) → beside s 18 ≡ true → Found es s (block_path (f ∷ st))) → Fits bytes es (alone f st i r kids) ((count kids ≡ f.of.a) × Clean (validate_cells bytes q 0 kids))
+one-row : (bytes : List ℕ) (es : List Entry) (f : Frame) (st : List Frame) (i w : ℕ) (q : List ℕ) (r : Rec) (kids : Forest) → f.of.kind ≡ table → r.kind ≡ row → Begins (block_path (f ∷ st)) q → in_link (f ∷ st) ≡ false → Placed r 0 kids → Sub (list_if (not (eqb (count_trees kids) w)) 19 r.span q) es → Sub (validate_cells bytes q 0 kids) es → ((f.of.a ≡ w → ⊥) → (s : ℕ) → beside s 18 ≡ true → Found es s (block_path (f ∷ st))) → Fits bytes es (alone f st i r kids) ((count_trees kids ≡ f.of.a) × Clean (validate_cells bytes q 0 kids))
 unfolding stop_of stop_at in_link columns beside
 one-row bytes es f st i w q r kids g e b out p s₁ s narrow =
-    let n : length (pile kids []) ≡ count kids + 0 = length-pile kids [] in
+    let n : length (pile kids []) ≡ count_trees kids + 0 = length-pile kids [] in
     let cols : columns (fresh i r ∷ f ∷ st) ≡ f.of.a = rw (e, g) in
-    let told : (count kids ≡ f.of.a → ⊥) → (s : ℕ) → beside s 18 ≡ true → beside s 19 ≡ true → Found es s (block_path (f ∷ st)) = odd es (block_path (f ∷ st)) q (count kids) f.of.a w r.span s₁ b narrow in
+    let told : (count_trees kids ≡ f.of.a → ⊥) → (s : ℕ) → beside s 18 ≡ true → beside s 19 ≡ true → Found es s (block_path (f ∷ st)) = odd es (block_path (f ∷ st)) q (count_trees kids) f.of.a w r.span s₁ b narrow in
     fits-map
     (λ c.
-    let full : count kids ≡ f.of.a = omega (arith, c.1.1 (omega arith), ltb-false (length (pile kids [])) f.of.a c.2) in
+    let full : count_trees kids ≡ f.of.a = omega (arith, c.1.1 (omega arith), ltb-false (length (pile kids [])) f.of.a c.2) in
     (full, c.1.0))
     (fits-alone f st i r kids
     (still (rw e))
@@ -91,10 +91,10 @@ one-row bytes es f st i w q r kids g e b out p s₁ s narrow =
 -- the rows of a table, at the path q of its own
 rows_fit : (ts : Forest) (bytes : List ℕ) (es : List Entry) (f : Frame) (st : List Frame) (i m k w : ℕ) (q : List ℕ) → f.of.kind ≡ table → Placed f.of m ts → Begins (block_path (f ∷ st)) q → in_link (f ∷ st) ≡ false → Sub (validate_rows bytes q w k ts) es → ((f.of.a ≡ w → ⊥) → (s : ℕ) → beside s 18 ≡ true → Found es s (block_path (f ∷ st))) → Fits bytes es (walk f st i ts) (Widths f.of.a ts × (w ≡ f.of.a → Clean (validate_rows bytes q w k ts)))
 unfolding walk validate_rows Placed frame_path block_path in_link Widths
-rows_fit none bytes es f st i m k w q e p b out s narrow = fits-map (λ c. (tt, λ h. clean-none)) fits-none
+rows_fit no_tree bytes es f st i m k w q e p b out s narrow = fits-map (λ c. (tt, λ h. clean-none)) fits-none
 rows_fit (tree r kids rest) bytes es f st i m k w q e p b out s narrow =
     let line : r.kind ≡ row = under_table f.of r.kind p.0 (unfold group_of parent_group in rw e) in
-    fits-map (λ c. ((c.0.0, c.1.0), λ h. clean-append (clean-if 19 _ _ (ap not (eq-eqb (count kids) w (c.0.0 ∙ sym h)))) (clean-append c.0.1 (c.1.1 h))))
+    fits-map (λ c. ((c.0.0, c.1.0), λ h. clean-append (clean-if 19 _ _ (ap not (eq-eqb (count_trees kids) w (c.0.0 ∙ sym h)))) (clean-append c.0.1 (c.1.1 h))))
     (fits-tree f st i r kids rest
     (one-row bytes es f st i w (q ++ k ∷ []) r kids e line (begins-more (block_path (f ∷ st)) q (k ∷ []) b) out p.2 (sub-left _ s) (sub-left _ (sub-right _ s)) narrow)
     (rows_fit rest bytes es (with_kid r f) st (suc i + size kids) (rank r.kind) (suc k) w q e p.3 b out (sub-right _ (sub-right _ s)) narrow))
@@ -108,23 +108,23 @@ no-columns es p q a n sp x y g z = go (eqb n 0) refl
     go true e = sub-if 17 _ q x e refl g
     go false e = sub-if 18 _ q y (ap not (ne_eqb a n (λ d. eqb-false _ _ e (sym d ∙ z)))) refl g
 
-table_none : (bytes q : List ℕ) (sp : Span) (a : ℕ) → validate_table bytes q sp a none ≡ list_if true 16 sp q
-unfolding validate_table count
+table_none : (bytes q : List ℕ) (sp : Span) (a : ℕ) → validate_table bytes q sp a no_tree ≡ list_if true 16 sp q
+unfolding validate_table count_trees
 table_none bytes q sp a = refl
 
-table-some : (bytes q : List ℕ) (sp : Span) (a : ℕ) (h : Rec) (cs rest : Forest) → validate_table bytes q sp a (tree h cs rest) ≡ list_if (eqb (count cs) 0) 17 sp q ⊕ (list_if (not (eqb a (count cs))) 18 sp q ⊕ validate_rows bytes q (count cs) 0 (tree h cs rest))
-unfolding validate_table header_width count
-table-some bytes q sp a h cs rest = rw (ne_eqb (suc (count rest)) 0 (λ d. omega arith))
+table-some : (bytes q : List ℕ) (sp : Span) (a : ℕ) (h : Rec) (cs rest : Forest) → validate_table bytes q sp a (tree h cs rest) ≡ list_if (eqb (count_trees cs) 0) 17 sp q ⊕ (list_if (not (eqb a (count_trees cs))) 18 sp q ⊕ validate_rows bytes q (count_trees cs) 0 (tree h cs rest))
+unfolding validate_table header_width count_trees
+table-some bytes q sp a h cs rest = rw (ne_eqb (suc (count_trees rest)) 0 (λ d. omega arith))
 
 -- a table, whose path is q
 pub table_fits : (bytes : List ℕ) (es : List Entry) (f : Frame) (st : List Frame) (i : ℕ) (q : List ℕ) (r : Rec) (kids : Forest) → r.kind ≡ table → frame_path (fresh i r ∷ f ∷ st) ≡ q → in_link (f ∷ st) ≡ false → Placed r 0 kids → Sub (validate_table bytes q r.span r.a kids) es → Fits bytes es (alone f st i r kids) (Clean (validate_table bytes q r.span r.a kids))
 unfolding stop_of stop_at in_link beside pile walk Widths
-table_fits bytes es f st i q r none e d out p s =
+table_fits bytes es f st i q r no_tree e d out p s =
     fits-map (λ c. absurd (true≢false c.2))
-    (fits-alone f st i r none
+    (fits-alone f st i r no_tree
     (still (rw e))
     fits-none
-    (one-stop true 2 (rw e) (λ h. sub-if 16 r.span q (rw (table_none bytes q r.span r.a) at s) refl refl (rw d at (begins-filled (fresh i r) (f ∷ st) (pile none []))))))
+    (one-stop true 2 (rw e) (λ h. sub-if 16 r.span q (rw (table_none bytes q r.span r.a) at s) refl refl (rw d at (begins-filled (fresh i r) (f ∷ st) (pile no_tree []))))))
 table_fits bytes es f st i q r (tree h cs rest) e d out p s =
     let z : eqb (length (pile rest (h ∷ []))) 0 ≡ false = ne_eqb (length (pile rest (h ∷ []))) 0 (λ d. omega (arith, length-pile rest (h ∷ []))) in
     let t = table-some bytes q r.span r.a h cs rest in
@@ -132,11 +132,11 @@ table_fits bytes es f st i q r (tree h cs rest) e d out p s =
     let b : Begins (block_path (fresh i r ∷ f ∷ st)) q = rw d at (begins (fresh i r ∷ f ∷ st)) in
     fits-map
     (λ c.
-    let full : count cs ≡ r.a = c.1.0.0 in
+    let full : count_trees cs ≡ r.a = c.1.0.0 in
     rw t
-    (clean-append (clean-if 17 _ _ (ne_eqb (count cs) 0 (λ d. eqb-false _ _ c.2 (sym full ∙ d))))
-    (clean-append (clean-if 18 _ _ (ap not (eq-eqb r.a (count cs) (sym full)))) (c.1.1 full))))
+    (clean-append (clean-if 17 _ _ (ne_eqb (count_trees cs) 0 (λ d. eqb-false _ _ c.2 (sym full ∙ d))))
+    (clean-append (clean-if 18 _ _ (ap not (eq-eqb r.a (count_trees cs) (sym full)))) (c.1.1 full))))
     (fits-alone f st i r (tree h cs rest)
     (still (rw e))
-    (rows_fit (tree h cs rest) bytes es (fresh i r) (f ∷ st) (suc i) 0 0 (count cs) q e p b (rw e out) (sub-right _ (sub-right _ l)) (λ n t g. sub-if 18 _ q (sub-left _ (sub-right _ l)) (ap not (ne_eqb _ _ n)) g b))
-    (one-stop (eqb r.a 0) 2 (rw (e, z)) (λ g. no-columns es _ q r.a (count cs) r.span (sub-left _ l) (sub-left _ (sub-right _ l)) (rw d at (begins-filled (fresh i r) (f ∷ st) (pile rest (h ∷ [])))) (eqb-true _ _ g))))
+    (rows_fit (tree h cs rest) bytes es (fresh i r) (f ∷ st) (suc i) 0 0 (count_trees cs) q e p b (rw e out) (sub-right _ (sub-right _ l)) (λ n t g. sub-if 18 _ q (sub-left _ (sub-right _ l)) (ap not (ne_eqb _ _ n)) g b))
+    (one-stop (eqb r.a 0) 2 (rw (e, z)) (λ g. no-columns es _ q r.a (count_trees cs) r.span (sub-left _ l) (sub-left _ (sub-right _ l)) (rw d at (begins-filled (fresh i r) (f ∷ st) (pile rest (h ∷ [])))) (eqb-true _ _ g))))

@@ -11,7 +11,7 @@ use lib.Seq.{take_all, take_at, drop_at}
 use borrow.Author.Rules.{rules}
 use borrow.Author.Tests.{leb-true, leb-false}
 use Rattle.leaves.specs.Report.Entries.{Entry, words, flat}
-use Rattle.leaves.specs.Text.Lists.{over}
+use Rattle.leaves.specs.Text.Over.{over}
 use Rattle.leaves.proofs.text.OverLaws.{over-fits, over-nil, over-two, length_over}
 use Rattle.leaves.specs.Text.Field.{places}
 use Rattle.leaves.specs.Text.Columns.{line, line_bytes, Writes}

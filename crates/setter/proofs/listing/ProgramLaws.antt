@@ -18,9 +18,9 @@ use Rattle.leaves.specs.Refusal.Verdict.{Answer, answer}
 use Rattle.leaves.specs.Refusal.Judge.{judge_sheet}
 use Rattle.blocks.specs.Walk.{validate_document}
 use Rattle.setter.specs.Machine.{run_answer}
-use Rattle.setter.specs.Answer.{Set, setting_answer, Answers}
-use Rattle.setter.specs.Setting.{after_run, setting_of}
-use Rattle.blocks.specs.Check.{outcome}
+use Rattle.setter.specs.Answer.{SetAnswer, setting_answer, Answers}
+use Rattle.setter.specs.SetOutcome.{after_run, set_outcome}
+use Rattle.blocks.specs.Check.{check_outcome}
 use Rattle.blocks.proofs.CheckLaws.{no-entries}
 use Rattle.blocks.specs.Answer.{Checked, check_error_answer, checked_answer}
 use Rattle.blocks.specs.declared.answer.CheckError.{CheckError}
@@ -45,18 +45,18 @@ use Rattle.setter.specs.Agrees.{Demand}
 use Rattle.setter.proofs.BothLaws.{Written, written}
 
 -- ---- the check's answer goes by how long the report is, and not by its words
-answer-same : (w bytes x z : List ℕ) → length x ≡ length z → (outcome w bytes x).0 ≡ (outcome w bytes z).0
-unfolding outcome
+answer-same : (w bytes x z : List ℕ) → length x ≡ length z → (check_outcome w bytes x).0 ≡ (check_outcome w bytes z).0
+unfolding check_outcome
 answer-same w bytes x z h = go (is_ok (judge_sheet w bytes)) refl (ltb (length z) (length (flat (validate_document w bytes)))) refl
   where
-    go : (a : Bool) → is_ok (judge_sheet w bytes) ≡ a → (b : Bool) → ltb (length z) (length (flat (validate_document w bytes))) ≡ b → (outcome w bytes x).0 ≡ (outcome w bytes z).0
+    go : (a : Bool) → is_ok (judge_sheet w bytes) ≡ a → (b : Bool) → ltb (length z) (length (flat (validate_document w bytes))) ≡ b → (check_outcome w bytes x).0 ≡ (check_outcome w bytes z).0
     go false p b q = rw p
     go true p true q = rw (p, h, q)
     go true p false q = rw (p, h, q)
 
 -- ---- the machine's answer, where the sheet was accepted and has no more records than marks
-ran : (w bytes m : List ℕ) → judge_sheet w bytes ≡ Ok tt → records_of w ≤ length m → (setting_of w bytes m).0 ≡ run_answer w bytes
-unfolding setting_of after_run
+ran : (w bytes m : List ℕ) → judge_sheet w bytes ≡ Ok tt → records_of w ≤ length m → (set_outcome w bytes m).0 ≡ run_answer w bytes
+unfolding set_outcome after_run
 ran w bytes m a h = rw (a, le-ltb _ _ h)
 
 -- ---- the check's answer, where it is a count and where it is an error
@@ -71,14 +71,14 @@ error-numbered (Malformed r) h = absurd (omega (arith, (refusal-numbered r).some
 error-numbered ShortReport h = absurd (omega arith)
 
 -- ---- `list_sheet`: x is the report before the check, and y after it
-module _ (w bytes x : List ℕ) {y : List ℕ} {c : Answer} {number value : ℕ} (e : (c, y) ≡ outcome w bytes x) (long : length x ≡ report_words) (s : answer number value ≡ c) where
+module _ (w bytes x : List ℕ) {y : List ℕ} {c : Answer} {number value : ℕ} (e : (c, y) ≡ check_outcome w bytes x) (long : length x ≡ report_words) (s : answer number value ≡ c) where
   a : number ≡ c.number
   a = same_number s
 
   b : value ≡ c.value
   b = same-value s
 
-  answer-is : c ≡ (outcome w bytes x).0
+  answer-is : c ≡ (check_outcome w bytes x).0
   answer-is = ap (λ (u : Answer × List ℕ). u.0) e
 
   checked-is : checked_with w bytes ≡ c
@@ -98,7 +98,7 @@ module _ (w bytes x : List ℕ) {y : List ℕ} {c : Answer} {number value : ℕ}
     pub list-few : value ≤ report_words
     list-few = omega (arith, few-entries (validate_document w bytes), list-is.fits, list-is.count)
 
-    module _ (marks : List ℕ) {m : List ℕ} {set : Set} {stop at : ℕ} (q : Answers (setting_of w bytes marks) set m) (few : records_of w ≤ most_film_records) (same : length marks ≡ most_film_records) (f : stop ≡ (setting_answer set).number) (g : at ≡ (setting_answer set).value) where
+    module _ (marks : List ℕ) {m : List ℕ} {set : SetAnswer} {stop at : ℕ} (q : Answers (set_outcome w bytes marks) set m) (few : records_of w ≤ most_film_records) (same : length marks ≡ most_film_records) (f : stop ≡ (setting_answer set).number) (g : at ≡ (setting_answer set).value) where
       run_is : setting_answer set ≡ run_answer w bytes
       run_is = ap (λ (u : Answer × List ℕ). u.0) q.answer ∙ ran w bytes marks list-is.accepted (omega arith)
 

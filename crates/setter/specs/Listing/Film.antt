@@ -1,9 +1,8 @@
 -- A film: what the program reads, a sheet and its text.
 -- Document 01: "The program reads a sheet on standard input: counts of records and text bytes; a line a record; the
 -- text."
-use Rattle.std.specs.Prelude.{ℕ, ◌+◌, ◌*◌, ◌≡◌, Bool, true, false, not, ◌&&◌, ◌||◌}
+use Rattle.std.specs.Prelude.{ℕ, ◌+◌, ◌*◌, ◌≡◌, Bool, true, false, not, ◌&&◌, ◌||◌, if◌then◌else◌}
 use Rattle.std.specs.Prelude.{List, ◌++◌, eqb, ltb, length, get_or, drop, Result, Ok, Err}
-use Rattle.leaves.specs.Text.Lists.{when◌then◌else◌}
 use Rattle.leaves.specs.Sheet.Records.{record_words}
 use Rattle.leaves.specs.Text.Columns.{line_bytes, is_line, numbers}
 unfoldable pub use Rattle.setter.specs.Listing.Records.{are_records, sheet_of}
@@ -55,17 +54,18 @@ is_big s = ltb most_film_records (record_count s) || ltb most_film_bytes (byte_c
 -- 13, bad column: "malformed line, or text too short or long"; 0 and the number of records where the film is ready
 unfoldable pub film_of : List ℕ → Answer
 film_of s =
-    when not (is_line count_fields s)
+    if not (is_line count_fields s)
     then answer bad_column 0
-    else when is_big s
+    else if is_big s
     then answer big_film 0
-    else when not (are_records (record_count s) (behind_counts s))
+    else if not (are_records (record_count s) (behind_counts s))
     then answer bad_column 0
-    else when not (eqb (length (film_text s)) (byte_count s))
+    else if not (eqb (length (film_text s)) (byte_count s))
     then answer bad_column 0
     else answer 0 (record_count s)
 
--- the first line is good and not too big, and has these two counts; or it is why the film is refused
+-- what reading the first line gives: its two counts, where the line is well-formed and not too big; or why the film is
+-- refused
 abbrev pub ReadsCounts : List ℕ → Result (ℕ × ℕ) FilmError → Type 0
 ReadsCounts s (Ok counts) =
     (is_line count_fields s ≡ true) × (is_big s ≡ false) × (counts ≡ (record_count s, byte_count s))
@@ -76,7 +76,7 @@ ReadsCounts s (Err error) =
 -- behind them the old words stay; else all stay.
 unfoldable pub filled_sheet : List ℕ → List ℕ → List ℕ
 filled_sheet s old =
-    when is_line count_fields s && not (is_big s)
+    if is_line count_fields s && not (is_big s)
     then film_sheet s ++ drop (record_count s * record_words) old
     else old
 

@@ -8,7 +8,7 @@ use Rattle.leaves.specs.Text.Columns.{line}
 abbrev pub entry_words : List ℕ → ℕ
 entry_words w = head_words + path_length w
 
--- .. and no more than there are
+-- the same, but no more words than there are
 abbrev pub front_words : List ℕ → ℕ
 front_words w = min (entry_words w) (length w)
 

@@ -6,8 +6,8 @@ use crate::listing::film::MOST_BYTES;
 use std::io;
 use std::io::{ErrorKind, Read};
 
-// One byte more than the largest film has. Who reads no more than this of a longer film reads enough: what is printed
-// for these bytes is what would be printed for all of it, as `listing-cut` proves.
+// One byte more than the largest film has. Of a longer film no more need be read: what is printed for these bytes is
+// what would be printed for all of it, as `listing-cut` proves.
 pub const INPUT_BYTES: usize = MOST_BYTES + 1;
 
 // Reads until the buffer is full or the input's end is reached, and answers how many bytes were read: they stand at the
@@ -19,7 +19,7 @@ pub fn read_full<R: Read>(from: &mut R, buffer: &mut [u8]) -> io::Result<usize>
     ensures end { IfOk result (λ n. n < length buffer.new → IsAtEnd (R.remaining from.new)) }
 {
     let mut at = 0;
-    // a `for` and no `loop`: each run ends, and nothing says how often a reading is interrupted
+    // a `for`, so that each run ends: nothing says how often a reading is interrupted
     for _ in 0..u64::MAX {
         if at == buffer.len() {
             return Ok(at);

@@ -17,8 +17,9 @@ pub(crate) fn behind(s: &[u8], at: usize) -> &[u8]
     s.get(at..).unwrap_or(&[])
 }
 
-// Reads the lines of `n` records from the front of the slice into the sheet; answers whether they are well-formed. By
-// number: `n` is what the film says, and the words behind the last record stay. A bool, as `read_line` has it.
+// Reads the lines of `n` records from the front of the slice into the sheet; answers whether they are well-formed, with
+// a bool as `read_line` does. The loop goes by number: `n` is what the film says, and the words behind the last record
+// stay.
 pub(crate) fn read_records(s: &[u8], n: usize, sheet: &mut [u32]) -> bool
     requires { (n ≤ most_film_records) × (n * record_words ≤ length sheet.old) }
     ensures { (result ≡ are_records n s.now)

@@ -15,7 +15,7 @@ pub leave-requires : goal.leave-requires
 leave-requires c = paced-leave c.loop-row.invariant c.enter.ensures (adds-then c.list_if.ensures c.validate_cells.ensures.adds)
 
 pub loop-row-preserved : goal.loop-row-preserved
-loop-row-preserved c = rows-turn c.in-Some.ensures.some c.enter.ensures c.leave.ensures _ c.loop-row.invariant c.count.ensures c.list_if.ensures c.validate_cells.ensures
+loop-row-preserved c = rows-turn c.in-Some.ensures.some c.enter.ensures c.leave.ensures _ c.loop-row.invariant c.count_trees.ensures c.list_if.ensures c.validate_cells.ensures
 
 pub returns : goal.returns
 returns c = loop-end c.loop-row.invariant.loop (rows_none _ _ _ _) c.in_default.ensures.none

@@ -7,6 +7,7 @@ use Rattle.leaves.specs.Report.Listed.{path_of}
 use Rattle.inlines.specs.Nodes.{validate_inline_nodes_after, validate_inline_nodes}
 use Rattle.inlines.proofs.WalkLaws.{Loop}
 use Rattle.inlines.proofs.nodes.+nodes.Given as goal
+use Rattle.leaves.specs.Sheet.Kinds.{no_kind}
 
 -- the levels left fall from a loop to the records in it, and a record stands just above the loop over its children
 abbrev pub decreases-validate_inline_nodes : goal.decreases-validate_inline_nodes
@@ -20,7 +21,7 @@ abbrev pub invariant-validate_inline_nodes-loop-r : goal.invariant-validate_inli
 invariant-validate_inline_nodes-loop-r l =
     let bytes = l.initial.records.bytes.now in
     let path = path_of l.initial.report in
-    Loop (validate_inline_nodes bytes path (trees l.initial.records l.level)) (validate_inline_nodes_after bytes path (unwrap_or l.before 0)) l.level l.initial.records l.records l.initial.report l.report
+    Loop (validate_inline_nodes bytes path (trees l.initial.records l.level)) (validate_inline_nodes_after bytes path (unwrap_or l.before no_kind)) l.level l.initial.records l.records l.initial.report l.report
 
 abbrev pub decreases-validate_inline_nodes-loop-r : goal.decreases-validate_inline_nodes-loop-r
 decreases-validate_inline_nodes-loop-r l = l.records.n - l.records.next

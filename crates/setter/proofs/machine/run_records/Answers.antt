@@ -21,14 +21,14 @@ returns-in-Some c = close-stop (closes-next c.loop-i.invariant c.next_level-leve
 pub overflow_sub-depth : goal.overflow_sub-depth
 overflow_sub-depth c = let v = (closes-next c.loop-i.invariant c.next_level-level.ensures c.if-level-depth.true).running in search rules
 
-pub joined-requires : goal.joined-requires
-joined-requires c = close-fits (closes-next c.loop-i.invariant c.next_level-level.ensures c.if-level-depth.true)
+pub after_kid-requires : goal.after_kid-requires
+after_kid-requires c = close-fits (closes-next c.loop-i.invariant c.next_level-level.ensures c.if-level-depth.true)
 
 pub loop-i-smaller-then-level-depth : goal.loop-i-smaller-then-level-depth
 loop-i-smaller-then-level-depth c = let v = (closes-next c.loop-i.invariant c.next_level-level.ensures c.if-level-depth.true).running in search rules
 
 pub loop-i-preserved-then-level-depth : goal.loop-i-preserved-then-level-depth
-loop-i-preserved-then-level-depth c = close-turn (closes-next c.loop-i.invariant c.next_level-level.ensures c.if-level-depth.true) c.record_at-r.ensures c.in_default.ensures refl c.joined.ensures
+loop-i-preserved-then-level-depth c = close-turn (closes-next c.loop-i.invariant c.next_level-level.ensures c.if-level-depth.true) c.record_at-r.ensures c.in_default.ensures refl c.after_kid.ensures
 
 pub returns-in-Some-opening_stop : goal.returns-in-Some-opening_stop
 returns-in-Some-opening_stop c = open-stop (opens-next c.loop-i.invariant c.next_level-level.ensures c.if-level-depth.false (elim c.if-i-n.branch [ then-i-n w ↦ omega arith | else-i-n+then-depth-gt0 w ↦ omega (arith, c.loop-i.invariant.within) ])) c.record_at-r-in-loop-i.ensures c.in-Some-opening_stop.ensures refl

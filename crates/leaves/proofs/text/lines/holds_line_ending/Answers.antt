@@ -7,4 +7,4 @@ use Rattle.leaves.specs.Text.Bytes.{is_line_ending_byte}
 use Rattle.leaves.proofs.text.lines.holds_line_ending.Goals as goal
 
 pub returns : goal.returns
-returns c = endings-past c.past.ensures (any-of is_line_ending_byte c.past.result.now c.any.ensures.ran (cc) (λ x b q k. search (rules, tests)))
+returns c = endings-past c.skip_passing.ensures (any-of is_line_ending_byte c.skip_passing.result.now c.any.ensures.ran (cc) (λ x b q k. search (rules, tests)))

@@ -8,7 +8,7 @@ use Rattle.leaves.proofs.text.math.holds_backtick_dollar.Goals as goal
 use Rattle.leaves.proofs.text.math.holds_backtick_dollar.Goals.{else-first-eq-BACKTICK-via-then-first-eq-BACKTICK+else-second-eq-DOLLAR, else-first-eq-BACKTICK-via-else-first-eq-BACKTICK}
 
 pub loop-rest-init : goal.loop-rest-init
-loop-rest-init c = ticks-leap c.past-rest.ensures
+loop-rest-init c = ticks-leap c.skip_passing-rest.ensures
 
 pub returns-then-second-eq-DOLLAR : goal.returns-then-second-eq-DOLLAR
 returns-then-second-eq-DOLLAR c = ticks-stop _ c.in-len2-up.len_at_least c.if-first-eq-BACKTICK.true c.if-second-eq-DOLLAR.true ∙ sym c.loop-rest.invariant
@@ -21,7 +21,7 @@ loop-rest-preserved-then-first-eq-BACKTICK-2 c =
       | else-first-eq-BACKTICK-via-then-first-eq-BACKTICK+else-second-eq-DOLLAR w ↦ ticks-second rest c.in-len2-up.len_at_least w.if-second-eq-DOLLAR.false
       | else-first-eq-BACKTICK-via-else-first-eq-BACKTICK w ↦ ticks-first rest c.in-len2-up.len_at_least w.if-first-eq-BACKTICK.false
     ] in
-    c.loop-rest.invariant ∙ step ∙ ap holds_backtick_dollar (sym (tail-all rest 1)) ∙ ticks-leap c.past-rest-then-first-eq-BACKTICK-2.ensures
+    c.loop-rest.invariant ∙ step ∙ ap holds_backtick_dollar (sym (tail-all rest 1)) ∙ ticks-leap c.skip_passing-rest-then-first-eq-BACKTICK-2.ensures
 
 pub loop-rest-preserved : goal.loop-rest-preserved
 loop-rest-preserved c =

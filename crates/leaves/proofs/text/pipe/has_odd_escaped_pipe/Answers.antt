@@ -14,7 +14,7 @@ use Rattle.leaves.proofs.text.pipe.has_odd_escaped_pipe.Goals as goal
 
 pub loop-rest-init : goal.loop-rest-init
 unfolding has_odd_escaped_pipe
-loop-rest-init c = pipe-leap false refl c.past-rest.ensures
+loop-rest-init c = pipe-leap false refl c.skip_passing-rest.ensures
 
 pub returns-then-b-eq-PIPE : goal.returns-then-b-eq-PIPE
 returns-then-b-eq-PIPE c =
@@ -26,7 +26,7 @@ loop-rest-preserved-then-rest-eq0 c =
     let rest = c.loop-rest.rest.now in
     let no : (eqb (get_or rest 0 0) pipe && c.loop-rest.odd) ≡ false = grind (arith, common_steps) in
     let next : c.if-not-odd.odd ≡ (eqb (get_or rest 0 0) backslash && not c.loop-rest.odd) = grind (arith, common_steps) in
-    c.loop-rest.invariant ∙ pipe-no _ _ c.in-len1-up.len_at_least no ∙ rw (← next, ← tail-all rest 1) (pipe-leap _ (search rules) c.past-rest-then-rest-eq0.ensures)
+    c.loop-rest.invariant ∙ pipe-no _ _ c.in-len1-up.len_at_least no ∙ rw (← next, ← tail-all rest 1) (pipe-leap _ (search rules) c.skip_passing-rest-then-rest-eq0.ensures)
 
 pub loop-rest-preserved : goal.loop-rest-preserved
 loop-rest-preserved c =

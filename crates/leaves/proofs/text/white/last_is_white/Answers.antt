@@ -11,9 +11,9 @@ loop-b-init c = end_init c.args.s.now c.new-character.ensures.expected.all c.new
 pub loop-b-preserved : goal.loop-b-preserved
 loop-b-preserved c =
     elim c.if-is_whole.branch [
-      | then-is_whole w ↦ turn c.loop-b-test.true c.loop-b.invariant (end-whole _ _ _ _ _ c.after-character.result.expected.more c.after-character.result.expected.low c.after-character.result.expected.high c.breaks-broken.ensures c.after-character.ensures.expected.all c.after-character.ensures.value w.last-is (sym c.is_whole.ensures ∙ w.if-is_whole.true))
-      | else-is_whole+then-broken w ↦ turn c.loop-b-test.true c.loop-b.invariant (end-broken _ _ _ _ _ c.after-character.result.expected.more c.after-character.result.expected.low c.after-character.result.expected.high c.breaks-broken.ensures c.after-character.ensures.expected.all c.after-character.ensures.value w.last-is (sym c.is_whole.ensures ∙ w.if-is_whole.false) w.if-broken.true)
-      | else-is_whole+else-broken w ↦ turn c.loop-b-test.true c.loop-b.invariant (end-kept _ _ _ _ _ c.after-character.result.expected.more c.after-character.result.expected.low c.after-character.result.expected.high c.breaks-broken.ensures c.after-character.ensures.expected.all c.after-character.ensures.value w.last-is (sym c.is_whole.ensures ∙ w.if-is_whole.false) w.if-broken.false)
+      | then-is_whole w ↦ turn c.loop-b-test.true c.loop-b.invariant (end-whole _ _ _ _ _ c.after-character.result.expected.more c.after-character.result.expected.low c.after-character.result.expected.high c.breaks_character-broken.ensures c.after-character.ensures.expected.all c.after-character.ensures.value w.last-is (sym c.is_whole.ensures ∙ w.if-is_whole.true))
+      | else-is_whole+then-broken w ↦ turn c.loop-b-test.true c.loop-b.invariant (end-broken _ _ _ _ _ c.after-character.result.expected.more c.after-character.result.expected.low c.after-character.result.expected.high c.breaks_character-broken.ensures c.after-character.ensures.expected.all c.after-character.ensures.value w.last-is (sym c.is_whole.ensures ∙ w.if-is_whole.false) w.if-broken.true)
+      | else-is_whole+else-broken w ↦ turn c.loop-b-test.true c.loop-b.invariant (end-kept _ _ _ _ _ c.after-character.result.expected.more c.after-character.result.expected.low c.after-character.result.expected.high c.breaks_character-broken.ensures c.after-character.ensures.expected.all c.after-character.ensures.value w.last-is (sym c.is_whole.ensures ∙ w.if-is_whole.false) w.if-broken.false)
     ]
 
 pub returns-then-is_whole-2 : goal.returns-then-is_whole-2

@@ -8,4 +8,4 @@ use Rattle.leaves.proofs.text.utf8.Expected.past_ascii.Goals as goal
 pub returns-then-self-eq0 : goal.returns-then-self-eq0
 returns-then-self-eq0 c =
     let o = c.args.self in
-    (shorter is_ascii c.past.ensures, sym (utf8-leap o.more o.low o.high c.if-self-eq0.true c.past.ensures))
+    (shorter is_ascii c.skip_passing.ensures, sym (utf8-leap o.more o.low o.high c.if-self-eq0.true c.skip_passing.ensures))

@@ -1,7 +1,7 @@
--- `leaves::sheet::forest::count` meets its contract.
+-- `leaves::sheet::forest::count_trees` meets its contract.
 use Prim.Native.Nat.{◌-◌}
 use Rattle.leaves.proofs.sheet.TreeLaws.{Counting}
-use Rattle.leaves.proofs.sheet.forest.count.Given as goal
+use Rattle.leaves.proofs.sheet.forest.count_trees.Given as goal
 
 abbrev pub invariant-loop-next : goal.invariant-loop-next
 invariant-loop-next l = Counting l.sheet l.n l.«from» l.level l.next l.trees

@@ -1,4 +1,4 @@
--- `leaves::text::chunk::past` meets its contract.
+-- `leaves::text::chunk::skip_passing` meets its contract.
 use mathlib.Core.Path.{sym, ◌∙◌}
 use Prim.Native.Nat.{◌≤◌}
 use native.Mathlib.Omega.{arith}
@@ -6,7 +6,7 @@ use lib.ListN.{length}
 use Rattle.leaves.specs.Text.Chunk.{chunk}
 use Rattle.leaves.proofs.text.ChainLaws.{tail-all}
 use Rattle.leaves.proofs.text.ChunkLaws.{past_none, past_chunk, nearer, reach}
-use Rattle.leaves.proofs.text.chunk.past.Goals as goal
+use Rattle.leaves.proofs.text.chunk.skip_passing.Goals as goal
 
 pub loop-rest-init : goal.loop-rest-init
 loop-rest-init g c = past_none (g.T.ByteTest.passing c.args.test.now) c.args.s.now

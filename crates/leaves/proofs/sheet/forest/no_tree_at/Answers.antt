@@ -1,9 +1,9 @@
--- `leaves::sheet::forest::ends` meets its contract.
+-- `leaves::sheet::forest::no_tree_at` meets its contract.
 use mathlib.Core.Path.{◌∙◌}
 use borrow.Author.Tests.{le-leb}
 use Rattle.leaves.proofs.sheet.TreeLaws.{ends-end, ends_at}
 use borrow.Author.Rules.{rules}
-use Rattle.leaves.proofs.sheet.forest.ends.Goals as goal
+use Rattle.leaves.proofs.sheet.forest.no_tree_at.Goals as goal
 
 pub returns-then-n-i : goal.returns-then-n-i
 returns-then-n-i c = le-leb _ _ c.if-n-i.true ∙ ends-end _ _ _ _ c.if-n-i.true
