@@ -1,5 +1,22 @@
 /* Reedsander: the checker of grade notes, and the setting machine. Both are in
- * libsetter.a, which `./staticlib` proves and writes. */
+ * libsetter.a, which `./staticlib` proves and writes. docs/SHEET.md is the page
+ * for those who build sheets: kinds, values, refusals, rules and stops.
+ *
+ * What is lent. A call lends a sheet and its text, which are only read, and a
+ * buffer of words, which is written: a report or marks. Lengths count words,
+ * or bytes for the text. No pointer may be null, not even where its length is
+ * 0; then it is not read through. Those to words are aligned for uint32_t. The
+ * sheet and the text may overlap each other; the written buffer overlaps
+ * neither of them.
+ *
+ * Threads. Calls share nothing, keep nothing and allocate nothing. So any
+ * number of calls may run at once, in any threads and on one sheet and text,
+ * where each has a written buffer of its own, and where nothing writes into
+ * the sheet or the text meanwhile.
+ *
+ * Stack. A call goes down by the levels of the sheet, of which there are at
+ * most 64. The deepest sheets and the longest are tested on a stack of
+ * 256 KiB. */
 #ifndef REEDSANDER_H
 #define REEDSANDER_H
 
@@ -13,8 +30,174 @@ extern "C" {
 /* How many words a record of a sheet has. */
 #define REEDSANDER_RECORD_WORDS 12
 
-/* The number of a check's answer: 0 accepted, 1 to 11 refused. The setting
- * machine refuses by the same numbers, with 12 in place of 11, and
+/* The kinds of records. */
+enum {
+    /* blocks */
+    REEDSANDER_KIND_PARAGRAPH = 1,
+    REEDSANDER_KIND_HEADING = 2,
+    REEDSANDER_KIND_THEMATIC_BREAK = 3,
+    REEDSANDER_KIND_BLOCK_QUOTE = 4,
+    REEDSANDER_KIND_ALERT = 5,
+    REEDSANDER_KIND_LIST = 6,
+    REEDSANDER_KIND_CODE_BLOCK = 7,
+    REEDSANDER_KIND_HTML_BLOCK = 8,
+    REEDSANDER_KIND_HTML_CONTAINER = 9,
+    REEDSANDER_KIND_DEFINITION = 10,
+    REEDSANDER_KIND_FOOTNOTE_DEFINITION = 11,
+    REEDSANDER_KIND_TABLE = 12,
+    REEDSANDER_KIND_MATH_BLOCK = 13,
+    REEDSANDER_KIND_FRONTMATTER = 14,
+    REEDSANDER_KIND_LEAF_DIRECTIVE = 15,
+    REEDSANDER_KIND_CONTAINER_DIRECTIVE = 16,
+    REEDSANDER_KIND_BLANK_LINE = 17,
+    /* what stands under some blocks alone */
+    REEDSANDER_KIND_ITEM = 20,
+    REEDSANDER_KIND_ROW = 21,
+    REEDSANDER_KIND_CELL = 22,
+    REEDSANDER_KIND_HTML_TAG = 23,
+    REEDSANDER_KIND_ATTRIBUTE = 24,
+    /* inlines */
+    REEDSANDER_KIND_TEXT = 31,
+    REEDSANDER_KIND_ESCAPE = 32,
+    REEDSANDER_KIND_CHARACTER_REFERENCE = 33,
+    REEDSANDER_KIND_EMPHASIS = 34,
+    REEDSANDER_KIND_STRONG = 35,
+    REEDSANDER_KIND_DELETE = 36,
+    REEDSANDER_KIND_MARK = 37,
+    REEDSANDER_KIND_SHORTCODE = 38,
+    REEDSANDER_KIND_CODE = 39,
+    REEDSANDER_KIND_LINK = 40,
+    REEDSANDER_KIND_AUTOLINK = 41,
+    REEDSANDER_KIND_IMAGE = 42,
+    REEDSANDER_KIND_LINK_REFERENCE = 43,
+    REEDSANDER_KIND_IMAGE_REFERENCE = 44,
+    REEDSANDER_KIND_HTML = 45,
+    REEDSANDER_KIND_SOFT_BREAK = 46,
+    REEDSANDER_KIND_LINE_BREAK = 47,
+    REEDSANDER_KIND_MATH = 48,
+    REEDSANDER_KIND_FOOTNOTE_REFERENCE = 49,
+    REEDSANDER_KIND_INLINE_FOOTNOTE = 50,
+    REEDSANDER_KIND_WIKI_LINK = 51,
+    REEDSANDER_KIND_TEXT_DIRECTIVE = 52,
+    REEDSANDER_KIND_TAG = 53
+};
+
+/* The rules, each with what the Rust reference reports for it. */
+enum {
+    /* adjacent lists cannot use the same marker */
+    REEDSANDER_RULE_ADJACENT_LISTS = 1,
+    /* paragraph cannot be empty */
+    REEDSANDER_RULE_EMPTY_PARAGRAPH = 2,
+    /* footnote definition identifier cannot be empty */
+    REEDSANDER_RULE_EMPTY_FOOTNOTE_DEFINITION = 3,
+    /* a footnote definition cannot open or end with a blank line */
+    REEDSANDER_RULE_BLANK_LINE_IN_FOOTNOTE = 4,
+    /* HTML container opening tag name cannot be empty */
+    REEDSANDER_RULE_EMPTY_OPENING_NAME = 5,
+    /* HTML container closing tag name cannot be empty */
+    REEDSANDER_RULE_EMPTY_CLOSING_NAME = 6,
+    /* HTML container opening and closing tag names must match */
+    REEDSANDER_RULE_TAG_NAMES_DIFFER = 7,
+    /* HTML container opening tag source cannot be empty */
+    REEDSANDER_RULE_EMPTY_OPENING_SOURCE = 8,
+    /* HTML container closing tag source cannot be empty */
+    REEDSANDER_RULE_EMPTY_CLOSING_SOURCE = 9,
+    /* heading depth must be in the range 1..=6 */
+    REEDSANDER_RULE_HEADING_DEPTH = 10,
+    /* alert title cannot be empty or start or end with a space or a tab */
+    REEDSANDER_RULE_ALERT_TITLE = 11,
+    /* list must hold at least one item */
+    REEDSANDER_RULE_EMPTY_LIST = 12,
+    /* a loose list must hold two items or an item of two blocks */
+    REEDSANDER_RULE_LOOSE_LIST = 13,
+    /* task list item must hold a non-empty paragraph after its leading definitions */
+    REEDSANDER_RULE_TASK_ITEM = 14,
+    /* an indented code block must not be read as part of the block before it */
+    REEDSANDER_RULE_INDENTED_CODE_TAKEN = 15,
+    /* table must contain at least a header row */
+    REEDSANDER_RULE_TABLE_WITHOUT_ROW = 16,
+    /* table header row must contain at least one cell */
+    REEDSANDER_RULE_TABLE_WITHOUT_CELL = 17,
+    /* table alignment count must match header width */
+    REEDSANDER_RULE_ALIGNMENT_COUNT = 18,
+    /* table row width must match header width */
+    REEDSANDER_RULE_ROW_WIDTH = 19,
+    /* a table cell cannot hold a line break */
+    REEDSANDER_RULE_BREAK_IN_CELL = 20,
+    /* a value in a table cell cannot hold a `|` after an odd run of backslashes */
+    REEDSANDER_RULE_PIPE_IN_CELL = 21,
+    /* a leaf directive label cannot hold a line break */
+    REEDSANDER_RULE_BREAK_IN_LEAF_LABEL = 22,
+    /* a container directive label cannot hold a line break */
+    REEDSANDER_RULE_BREAK_IN_CONTAINER_LABEL = 23,
+    /* definition identifier cannot be empty */
+    REEDSANDER_RULE_BLANK_DEFINITION = 24,
+    /* a bare destination cannot be empty */
+    REEDSANDER_RULE_EMPTY_BARE_DESTINATION = 25,
+    /* code block info string cannot be empty */
+    REEDSANDER_RULE_EMPTY_INFO = 26,
+    /* indented code cannot be empty or start or end with a blank line */
+    REEDSANDER_RULE_BLANK_EDGE_IN_CODE = 27,
+    /* frontmatter cannot be inside a container */
+    REEDSANDER_RULE_FRONTMATTER_INSIDE = 28,
+    /* frontmatter value cannot hold its own fence line */
+    REEDSANDER_RULE_FENCE_IN_FRONTMATTER = 29,
+    /* hard line break cannot be the final inline of its container */
+    REEDSANDER_RULE_FINAL_HARD_BREAK = 30,
+    /* text cannot hold a line ending; a line ends with a soft or hard break */
+    REEDSANDER_RULE_LINE_ENDING_IN_TEXT = 31,
+    /* link reference identifier cannot be empty */
+    REEDSANDER_RULE_EMPTY_LINK_REFERENCE = 32,
+    /* image reference identifier cannot be empty */
+    REEDSANDER_RULE_EMPTY_IMAGE_REFERENCE = 33,
+    /* footnote reference identifier cannot be empty */
+    REEDSANDER_RULE_EMPTY_FOOTNOTE_REFERENCE = 34,
+    /* inline footnote cannot be empty */
+    REEDSANDER_RULE_EMPTY_INLINE_FOOTNOTE = 35,
+    /* wikilink target cannot be empty */
+    REEDSANDER_RULE_EMPTY_WIKI_LINK = 36,
+    /* a soft break or a spaces hard break cannot follow a line break */
+    REEDSANDER_RULE_BREAK_AFTER_BREAK = 37,
+    /* adjacent strikethroughs cannot be written */
+    REEDSANDER_RULE_ADJACENT_STRIKETHROUGHS = 38,
+    /* emphasis-like inline container cannot have empty children */
+    REEDSANDER_RULE_EMPTY_EMPHASIS = 39,
+    /* emphasis-like inline content cannot start or end with whitespace */
+    REEDSANDER_RULE_WHITE_EMPHASIS = 40,
+    /* emphasis-like span cannot hold only a span written with the same delimiter */
+    REEDSANDER_RULE_JOINED_EMPHASIS = 41,
+    /* link text cannot hold a link */
+    REEDSANDER_RULE_LINK_IN_LINK = 42,
+    /* escaped value must be an ASCII punctuation character */
+    REEDSANDER_RULE_ESCAPED_VALUE = 43,
+    /* inline code value cannot be empty */
+    REEDSANDER_RULE_EMPTY_CODE = 44,
+    /* inline code value cannot hold a line ending */
+    REEDSANDER_RULE_LINE_ENDING_IN_CODE = 45,
+    /* inline math value cannot be empty */
+    REEDSANDER_RULE_EMPTY_MATH = 46,
+    /* dollar-fenced inline math must have a fence length of at least 1 */
+    REEDSANDER_RULE_MATH_WITHOUT_FENCE = 47,
+    /* code-form inline math value cannot contain a backtick followed by `$` */
+    REEDSANDER_RULE_BACKTICK_DOLLAR_IN_MATH = 48,
+    /* a bullet list item cannot hold a number */
+    REEDSANDER_RULE_BULLET_NUMBER = 49,
+    /* ordered list item number must be representable in at most 9 digits */
+    REEDSANDER_RULE_LONG_NUMBER = 50,
+    /* a tight list cannot hold a blank line */
+    REEDSANDER_RULE_BLANK_LINE_IN_TIGHT_LIST = 51,
+    /* a list item cannot open with a blank line */
+    REEDSANDER_RULE_BLANK_LINE_FIRST = 52,
+    /* the last item of a list cannot end with a blank line */
+    REEDSANDER_RULE_BLANK_LINE_LAST = 53,
+    /* directive name must be runs of ASCII letters joined by single `-` */
+    REEDSANDER_RULE_DIRECTIVE_NAME = 54,
+    /* directive attribute name must start with a letter, `_`, or `-` */
+    REEDSANDER_RULE_ATTRIBUTE_NAME = 55
+};
+
+/* The number of a check's answer: 0 accepted, or why it is refused, 1 to 11.
+ * The setting machine refuses by the same numbers, with 12 in place of 11, and
  * REEDSANDER_REFUSED is added to them. */
 enum {
     REEDSANDER_ACCEPTED = 0,
@@ -77,10 +260,7 @@ enum {
  * `sheet` points to `sheet_words` words, twelve for each record: kind, level,
  * span flag, start, end, A, B, C, first text's start and length, second
  * text's start and length. `text` points to `text_bytes` bytes and `report`
- * to `report_words` words. Lengths count words, or bytes for the text. A
- * length may be 0, and its pointer is then not read through, but no pointer
- * may be null, and those to words are aligned for uint32_t. The three must
- * not overlap. Nothing is kept after the call, and nothing is allocated.
+ * to `report_words` words. They are lent as the top of this file says.
  *
  * The answer's upper 32 bits are its number:
  *
@@ -100,11 +280,11 @@ enum {
  *
  *   rule, span flag, start, end, path length, path...
  *
- * The rule is 1 to 55. The span is the one of the record that is reported;
- * without one, flag, start and end are 0. The path has as many words as its
- * length says: one index, counted from 0, for each block, item, row and cell
- * from the sheet down to where the entry belongs. So an entry takes 5 words
- * and its path, and the next one begins right behind. */
+ * The rule is one of REEDSANDER_RULE_... The span is the one of the record
+ * that is reported; without one, flag, start and end are 0. The path has as
+ * many words as its length says: one index, counted from 0, for each block,
+ * item, row and cell from the sheet down to where the entry belongs. So an
+ * entry takes 5 words and its path, and the next one begins right behind. */
 uint64_t reedsander_check(const uint32_t *sheet, size_t sheet_words,
                           const uint8_t *text, size_t text_bytes,
                           uint32_t *report, size_t report_words);
@@ -119,10 +299,7 @@ uint64_t reedsander_check(const uint32_t *sheet, size_t sheet_words,
  * reads a report.
  *
  * `sheet` and `text` are lent as for reedsander_check, and `marks` points to
- * `marks_words` words, of which it wants one for each record. A length may be
- * 0, and its pointer is then not read through, but no pointer may be null,
- * and those to words are aligned for uint32_t. The three must not overlap.
- * Nothing is kept after the call, and nothing is allocated.
+ * `marks_words` words, of which it wants one for each record.
  *
  * The answer's upper 32 bits are its number:
  *
@@ -155,6 +332,12 @@ uint64_t reedsander_check(const uint32_t *sheet, size_t sheet_words,
 uint64_t reedsander_set(const uint32_t *sheet, size_t sheet_words,
                         const uint8_t *text, size_t text_bytes,
                         uint32_t *marks, size_t marks_words);
+
+/* The form of this interface: what the words of a record, of an entry and of an
+ * answer are. The function answers its number. When the form changes, so does
+ * the name, so a program that names it is not linked with a library of another
+ * form. */
+uint32_t reedsander_form_1(void);
 
 /* The two halves of an answer. */
 #define REEDSANDER_NUMBER(answer) ((uint32_t)((uint64_t)(answer) >> 32))

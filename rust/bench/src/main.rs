@@ -12,6 +12,9 @@
 //! the sheet that is known to be accepted (`machine`), and the refusals in
 //! Rust and then that machine (`accept`), which is what `reedsander_set` does.
 //!
+//! At last the records of many entries are looked up by their paths, with an
+//! index that is made once.
+//!
 //! The medians of all rounds are compared.
 
 #![forbid(unsafe_code)]
@@ -27,7 +30,7 @@ use std::{
 
 use oracle::ast::Document;
 use pages::Page;
-use reedsander::{Answer, Setting, Sheet};
+use reedsander::Sheet;
 
 /// How long the rounds of one page last together, about.
 const BUDGET: Duration = Duration::from_secs(3);
@@ -52,6 +55,8 @@ fn main() {
         set(&page);
     }
     growth(&few, &many);
+    println!();
+    look_up(&pages::bad_rows());
 }
 
 /// The median times of a page.
@@ -97,8 +102,8 @@ fn set(page: &Page) -> Times {
     let sheet = &page.sheet;
     let mut marks = vec![0; sheet.records()];
     let mut theirs = marks.clone();
-    let setting = sheet.set_into(&mut marks);
-    assert!(matches!(setting, Setting::Ended { .. }), "{}", page.name);
+    let setting = sheet.set_into(&mut marks).expect("an accepted sheet");
+    assert!(setting.is_ended(), "{}", page.name);
     let answer = machine::set(sheet.words(), sheet.text(), &mut theirs);
     assert_eq!(answer, u64::from(setting), "{}", page.name);
     assert_eq!(marks, theirs, "{}", page.name);
@@ -134,13 +139,36 @@ fn timed(page: &Page, count: u32, mut round: impl FnMut() -> Times) -> Times {
     times
 }
 
+/// Times the check of a page, the index of its paths, and the look-up of every
+/// entry's record, and prints a line.
+fn look_up(page: &Page) {
+    let sheet = &page.sheet;
+    let mut rounds = Vec::new();
+    for _ in 0..*ROUNDS.start() {
+        let start = Instant::now();
+        let report = sheet.check().expect("an accepted sheet");
+        let checked = start.elapsed();
+        let start = Instant::now();
+        let paths = sheet.paths();
+        let indexed = start.elapsed();
+        let start = Instant::now();
+        let records = report.iter().filter_map(|entry| paths.record(entry.path));
+        let found = records.map(black_box).count();
+        rounds.push([checked, indexed, start.elapsed()]);
+        assert_eq!(found, report.len(), "{}", page.name);
+    }
+    let [checked, indexed, found] =
+        [0, 1, 2].map(|at| micros(median(rounds.iter().map(|times| times[at]))));
+    println!(
+        "{}: check {checked:.1} us, index of paths {indexed:.1} us, all records {found:.1} us",
+        page.name
+    );
+}
+
 /// How many entries the checker writes.
 fn entries(sheet: &Sheet, report: &mut [u32]) -> u32 {
-    let answer = reedsander::check_raw(sheet.words(), sheet.text(), report);
-    match Answer::of(answer) {
-        Some(Answer::Accepted { entries }) => entries,
-        other => panic!("{other:?}"),
-    }
+    let entries = sheet.check_into(report).expect("an accepted sheet");
+    entries.len() as u32
 }
 
 /// One of each.

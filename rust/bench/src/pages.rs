@@ -61,6 +61,14 @@ pub fn set_to_the_end() -> Vec<Page> {
     ]
 }
 
+/// A table whose rows, but for the first, have a cell too few.
+pub fn bad_rows() -> Page {
+    let count = 20_000;
+    let row = |cells: usize| Row::new((0..cells).map(|_| Cell::new([])));
+    let rows = [row(2)].into_iter().chain((0..count).map(|_| row(1)));
+    page(format!("{count} bad rows"), &[Block::table(2, rows)])
+}
+
 /// Headings of every depth.
 fn good_headings() -> Page {
     let depths = (1..=6).cycle().take(MOST_RECORDS);

@@ -99,6 +99,12 @@ impl Counts {
         self.checks.calls() + self.sets.calls()
     }
 
+    /// The rules that have entries, and how many.
+    pub fn rules(&self) -> impl Iterator<Item = (u32, u64)> + '_ {
+        let rules = (1..=RULES).map(|rule| (rule, self.rules[rule as usize]));
+        rules.filter(|&(_, entries)| entries > 0)
+    }
+
     /// Each number by name, with how often the oracle and the library gave
     /// it. The entries of the rules are counted once, since every word of a
     /// report is compared.

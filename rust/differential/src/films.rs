@@ -225,7 +225,7 @@ mod tests {
     fn films_of_the_wrapper() {
         for seed in 0..50 {
             let sheet = random::tree(seed, 9);
-            assert_eq!(films::film(&sheet), reedsander::listing(&sheet.0, &sheet.1));
+            assert_eq!(films::film(&sheet), reedsander::film(&sheet.0, &sheet.1));
         }
     }
 }

@@ -11,6 +11,8 @@ mod demand;
 mod expected;
 mod films;
 mod limits;
+pub mod notes;
+mod published;
 mod runs;
 mod shrink;
 
@@ -20,5 +22,6 @@ pub use demand::Broken;
 pub use expected::{Call, Expected};
 pub use films::{Films, Printed};
 pub use limits::{limits, Limit};
+pub use published::Published;
 pub use runs::{Harness, Plan};
 pub use shrink::{describe, shrunk, Found};

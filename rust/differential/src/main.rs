@@ -3,22 +3,27 @@
 //! `differential [--short] [--seed N] [--trees N]`. With `--trees` it makes so
 //! many random trees, as many damaged ones, and those mended, and no other
 //! sheet. With `--listing PROGRAM` it runs the listing program instead, on
-//! `--films N` of each sort of film.
+//! `--films N` of each sort of film. With `--published FILE..` it parses
+//! Markdown files, folders of them, and published suites in JSON with
+//! cmark-gfm, and compares the sheets of their documents.
 //!
 //! It exits with 1 where a call or a film differs, or where a rule, a stop or a
 //! refusal was never seen.
 
 #![forbid(unsafe_code)]
 
-use std::{env, ops::Range, path::PathBuf, process::ExitCode, time::Instant};
+use std::{env, ops::Range, path::PathBuf, process::ExitCode, thread, time::Instant};
 
-use differential::{Films, Harness, Plan};
+use differential::{Films, Harness, Plan, Published};
 
 /// The seed without `--seed`.
 const SEED: u64 = 1;
 
 /// How many films of each sort without `--films`.
 const FILMS: u64 = 5000;
+
+/// Bytes of a stack for documents as deep as can be.
+const LONG_STACK: usize = 1 << 28;
 
 /// What is to be done.
 enum Work {
@@ -27,6 +32,10 @@ enum Work {
         program: PathBuf,
         seed: u64,
         many: u64,
+    },
+    Published {
+        files: Vec<PathBuf>,
+        seed: u64,
     },
 }
 
@@ -38,9 +47,11 @@ fn main() -> ExitCode {
             seed,
             many,
         }) => run_films(program, seed, many),
+        Some(Work::Published { files, seed }) => on_long_stack(move || run_published(&files, seed)),
         None => {
             eprintln!("usage: differential [--short] [--seed N] [--trees N]");
             eprintln!("       differential --listing PROGRAM [--films N] [--seed N]");
+            eprintln!("       differential [--seed N] --published FILE..");
             ExitCode::from(2)
         }
     }
@@ -56,6 +67,7 @@ fn work(mut arguments: impl Iterator<Item = String>) -> Option<Work> {
             "--trees" => trees = Some(arguments.next()?.parse().ok()?),
             "--listing" => program = Some(PathBuf::from(arguments.next()?)),
             "--films" => many = Some(arguments.next()?.parse().ok()?),
+            "--published" => return published(arguments, seed),
             _ => return None,
         }
     }
@@ -69,6 +81,12 @@ fn work(mut arguments: impl Iterator<Item = String>) -> Option<Work> {
         (None, None, false) => Some(calls(Plan::full(seed), trees)),
         _ => None,
     }
+}
+
+/// The rest of the arguments names files, one or more.
+fn published(arguments: impl Iterator<Item = String>, seed: u64) -> Option<Work> {
+    let files: Vec<PathBuf> = arguments.map(PathBuf::from).collect();
+    (!files.is_empty()).then_some(Work::Published { files, seed })
 }
 
 /// The whole plan, or so many trees alone.
@@ -101,6 +119,33 @@ fn run_films(program: PathBuf, seed: u64, many: u64) -> ExitCode {
     match films.differences() == 0 && unseen.is_empty() {
         true => ExitCode::SUCCESS,
         false => ExitCode::FAILURE,
+    }
+}
+
+/// Does the work where calls may be as deep as a document.
+fn on_long_stack(work: impl FnOnce() -> ExitCode + Send + 'static) -> ExitCode {
+    let thread = thread::Builder::new().stack_size(LONG_STACK).spawn(work);
+    let done = thread.map(thread::JoinHandle::join);
+    done.expect("a thread").unwrap_or(ExitCode::FAILURE)
+}
+
+/// Compares every document of the files.
+fn run_published(files: &[PathBuf], seed: u64) -> ExitCode {
+    let start = Instant::now();
+    let mut published = Published::new(seed, |shown| println!("{shown}"));
+    if let Err(error) = published.all(files) {
+        eprintln!("differential: {error}");
+        return ExitCode::FAILURE;
+    }
+    print!("{published}");
+    let differences = published.harness.differences;
+    println!(
+        "differences {differences}, {:.1} s",
+        start.elapsed().as_secs_f64()
+    );
+    match differences {
+        0 => ExitCode::SUCCESS,
+        _ => ExitCode::FAILURE,
     }
 }
 

@@ -74,11 +74,16 @@ impl Harness {
 
     /// Compares one sheet with a report and marks that are long enough and
     /// ones that are not, and says whether longer sheets may be accepted.
-    fn sheet(&mut self, name: &str, sheet: &[u32], text: &[u8]) -> bool {
+    pub(crate) fn sheet(&mut self, name: &str, sheet: &[u32], text: &[u8]) -> bool {
         let expected = Expected::of(sheet, text);
-        let calls = self.both(&expected);
-        self.calls(name, sheet, text, &expected, &calls);
+        self.wanted(name, sheet, text, &expected);
         matches!(expected.refusal.0, 0 | 10)
+    }
+
+    /// Compares one sheet in the same way with what is wanted of it.
+    pub(crate) fn wanted(&mut self, name: &str, sheet: &[u32], text: &[u8], expected: &Expected) {
+        let calls = self.both(expected);
+        self.calls(name, sheet, text, expected, &calls);
     }
 
     /// Calls of both functions.
@@ -140,9 +145,21 @@ impl Harness {
         }
     }
 
-    fn differs(&mut self, name: &str, sheet: &[u32], text: &[u8], call: Option<Call>) {
+    /// Counts a difference, and says whether it is printed.
+    fn is_printed(&mut self) -> bool {
         self.differences += 1;
-        if self.differences > MOST_PRINTED {
+        self.differences <= MOST_PRINTED
+    }
+
+    /// Keeps a difference that is not one of a call.
+    pub(crate) fn differs_otherwise(&mut self, name: &str, what: &str) {
+        if self.is_printed() {
+            (self.print)(&format!("DIFFERENCE in {name}: {what}"));
+        }
+    }
+
+    fn differs(&mut self, name: &str, sheet: &[u32], text: &[u8], call: Option<Call>) {
+        if !self.is_printed() {
             return;
         }
         let shown = match shrunk(sheet, text, call) {

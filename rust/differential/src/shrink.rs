@@ -1,6 +1,7 @@
 //! A sheet that differs, made as small as it goes, and its listing.
 
 use cases::RECORD_WORDS;
+use reedsander::Rule;
 
 use crate::{
     call::{differ, Difference},
@@ -266,7 +267,7 @@ pub fn describe(sheet: &[u32], text: &[u8], call: Option<Call>) -> String {
         Some(Call::Set(marks)) => format!("set, marks: {marks}\n"),
         None => "check and set\n".into(),
     };
-    lines += &String::from_utf8_lossy(&reedsander::listing(sheet, b""));
+    lines += &String::from_utf8_lossy(&reedsander::film(sheet, b""));
     lines += &format!("text: \"{}\"\n", text.escape_ascii());
     if !matches!(call, Some(Call::Set(_))) {
         lines += &described_check(sheet, text, call, &expected);
@@ -317,7 +318,7 @@ fn described_set(sheet: &[u32], text: &[u8], call: Option<Call>, expected: &Expe
 fn shown(list: &[u32]) -> String {
     entries(list)
         .map(|entry| {
-            let name = reedsander::rules::name(entry[0]).unwrap_or("no rule");
+            let name = Rule::from_raw(entry[0]).map_or("no rule", Rule::name);
             format!("  {entry:?} {name}\n")
         })
         .collect()

@@ -35,7 +35,17 @@ pub fn document(sheet: &[u32], text: &[u8]) -> Document {
 ///
 /// On some sheets that [`refusal`](crate::refusal()) refuses.
 pub fn list(sheet: &[u32], text: &[u8]) -> Vec<u32> {
-    kept(&document(sheet, text))
+    words(&document(sheet, text))
+}
+
+/// The report of a document: the words of each entry of the kept list, in its
+/// order.
+///
+/// # Panics
+///
+/// Where a span or an index does not fit a word.
+pub fn words(document: &Document) -> Vec<u32> {
+    kept(document)
         .iter()
         .flat_map(|(rule, diagnostic)| entry(*rule, diagnostic))
         .collect()

@@ -37,7 +37,7 @@ mod refusal;
 mod serialize;
 mod swar;
 
-pub use document::{document, list};
+pub use document::{document, list, words};
 pub use listing::listing;
 pub use machine::{set, Run, Step, Stop, REFUSED, STOP_RULES};
 pub use messages::{rule, DROPPED, KEPT};

@@ -8,7 +8,7 @@ mod notes;
 
 use std::{env, fs, path::Path, process::ExitCode};
 
-use reedsander::{listing, Sheet};
+use reedsander::{film, Sheet};
 
 fn main() -> ExitCode {
     let arguments: Vec<_> = env::args_os().skip(1).collect();
@@ -18,8 +18,8 @@ fn main() -> ExitCode {
     };
     let folder = Path::new(folder);
     for (name, sheet) in notes::all() {
-        let film = listing(sheet.words(), sheet.text());
-        if let Err(error) = fs::write(folder.join(name), film) {
+        let bytes = film(sheet.words(), sheet.text());
+        if let Err(error) = fs::write(folder.join(name), bytes) {
             eprintln!("sheets: {}: {error}", folder.join(name).display());
             return ExitCode::FAILURE;
         }
@@ -36,5 +36,8 @@ fn print(sheet: &Sheet) {
         Ok(report) => print!("{report}"),
         Err(refusal) => println!("refused: {refusal}"),
     }
-    println!("setting machine: {}\n", sheet.set().0);
+    match sheet.set() {
+        Ok((setting, _)) => println!("setting machine: {setting}\n"),
+        Err(refusal) => println!("setting machine: refused: {refusal}\n"),
+    }
 }

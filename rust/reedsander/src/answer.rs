@@ -4,15 +4,21 @@ use std::{error::Error, fmt};
 
 /// What the checker answers.
 #[derive(Clone, Copy, PartialEq, Eq, Hash, Debug)]
+#[must_use]
+#[non_exhaustive]
 pub enum Answer {
-    /// The list has so many entries, and stands in the report.
-    Accepted { entries: u32 },
+    /// The list stands in the report.
+    Accepted {
+        /// How many entries it has.
+        entries: u32,
+    },
     /// Nothing was changed.
     Refused(Refusal),
 }
 
 /// Why a sheet is refused. Records are counted from 0.
 #[derive(Clone, Copy, PartialEq, Eq, Hash, Debug)]
+#[non_exhaustive]
 pub enum Refusal {
     /// 1: the words are not a multiple of 12.
     OddSheet,
@@ -21,26 +27,55 @@ pub enum Refusal {
     /// 3: over 16,777,216 bytes of text.
     LongText,
     /// 4: the record's kind is not listed.
-    UnknownKind { record: u32 },
+    UnknownKind {
+        /// The record.
+        record: u32,
+    },
     /// 5: the record's level is 0, over 64, not 1 for the first record, or
     /// over the level before plus 1.
-    BadLevel { record: u32 },
+    BadLevel {
+        /// The record.
+        record: u32,
+    },
     /// 6: the record is not allowed under its parent, or is out of order
     /// there.
-    Misplaced { record: u32 },
+    Misplaced {
+        /// The record.
+        record: u32,
+    },
     /// 7: a value of the record is out of range, or a word that it does not
     /// use is not 0.
-    BadField { record: u32 },
+    BadField {
+        /// The record.
+        record: u32,
+    },
     /// 8: a text of the record starts or ends past the text.
-    TextOutside { record: u32 },
+    TextOutside {
+        /// The record.
+        record: u32,
+    },
     /// 9: a text of the record is not UTF-8.
-    NotUtf8 { record: u32 },
+    NotUtf8 {
+        /// The record.
+        record: u32,
+    },
     /// 10: the record is an HTML container with fewer than two tags.
-    TagsMissing { record: u32 },
+    TagsMissing {
+        /// The record.
+        record: u32,
+    },
     /// 11, of a check alone: the list needs more words than the report has.
     ShortReport,
     /// 12, of the setting machine alone: there are fewer marks than records.
     ShortMarks,
+    /// An answer that this crate does not know: the library is newer.
+    Unknown {
+        /// The answer's upper half; 0 where the list's entries are not of the
+        /// form that this crate reads.
+        number: u32,
+        /// The answer's lower half.
+        record: u32,
+    },
 }
 
 impl Answer {
@@ -48,13 +83,13 @@ impl Answer {
     /// and the lower ones the number of entries, or the upper ones are the
     /// refusal's number and the lower ones its record. None for a number that
     /// is no answer.
-    pub fn of(answer: u64) -> Option<Self> {
-        let number = (answer >> 32) as u32;
-        let low = answer as u32;
+    #[must_use]
+    pub fn from_raw(answer: u64) -> Option<Self> {
+        let (number, low) = halves(answer);
         if number == 0 {
             return Some(Self::Accepted { entries: low });
         }
-        Refusal::of(number, low)
+        Refusal::from_raw(number, low)
             .filter(|refusal| *refusal != Refusal::ShortMarks)
             .map(Self::Refused)
     }
@@ -64,19 +99,27 @@ impl From<Answer> for u64 {
     /// The C function's number for the answer.
     fn from(answer: Answer) -> Self {
         match answer {
-            Answer::Accepted { entries } => entries.into(),
-            Answer::Refused(refusal) => {
-                Self::from(refusal.number()) << 32 | Self::from(refusal.record().unwrap_or(0))
-            }
+            Answer::Accepted { entries } => whole(0, entries),
+            Answer::Refused(refusal) => whole(refusal.number(), refusal.record().unwrap_or(0)),
         }
     }
 }
 
+/// The upper and the lower half of a C function's answer.
+pub(crate) const fn halves(answer: u64) -> (u32, u32) {
+    ((answer >> 32) as u32, answer as u32)
+}
+
+/// The answer of two halves.
+pub(crate) fn whole(number: u32, low: u32) -> u64 {
+    u64::from(number) << 32 | u64::from(low)
+}
+
 impl Refusal {
     /// The refusal of a number and a record, which is 0 for 1, 2, 3, 11
-    /// and 12.
-    /// None for a number that is no refusal.
-    pub fn of(number: u32, record: u32) -> Option<Self> {
+    /// and 12. None for a number that is no refusal.
+    #[must_use]
+    pub const fn from_raw(number: u32, record: u32) -> Option<Self> {
         Some(match (number, record) {
             (1, 0) => Self::OddSheet,
             (2, 0) => Self::LongSheet,
@@ -94,8 +137,15 @@ impl Refusal {
         })
     }
 
+    /// The refusal for an answer that is none of those that are known.
+    pub(crate) const fn unknown(answer: u64) -> Self {
+        let (number, record) = halves(answer);
+        Self::Unknown { number, record }
+    }
+
     /// Its number, 1 to 12.
-    pub fn number(self) -> u32 {
+    #[must_use]
+    pub const fn number(self) -> u32 {
         match self {
             Self::OddSheet => 1,
             Self::LongSheet => 2,
@@ -109,11 +159,13 @@ impl Refusal {
             Self::TagsMissing { .. } => 10,
             Self::ShortReport => 11,
             Self::ShortMarks => 12,
+            Self::Unknown { number, .. } => number,
         }
     }
 
     /// The record that it is about, where it is about one.
-    pub fn record(self) -> Option<u32> {
+    #[must_use]
+    pub const fn record(self) -> Option<u32> {
         match self {
             Self::OddSheet
             | Self::LongSheet
@@ -126,12 +178,14 @@ impl Refusal {
             | Self::BadField { record }
             | Self::TextOutside { record }
             | Self::NotUtf8 { record }
-            | Self::TagsMissing { record } => Some(record),
+            | Self::TagsMissing { record }
+            | Self::Unknown { record, .. } => Some(record),
         }
     }
 
     /// The trade's word for it.
-    pub fn name(self) -> &'static str {
+    #[must_use]
+    pub const fn name(self) -> &'static str {
         match self {
             Self::OddSheet => "odd sheet",
             Self::LongSheet => "long sheet",
@@ -145,15 +199,20 @@ impl Refusal {
             Self::TagsMissing { .. } => "tags missing",
             Self::ShortReport => "short report",
             Self::ShortMarks => "short marks",
+            Self::Unknown { .. } => "unknown answer",
         }
     }
 }
 
 impl fmt::Display for Refusal {
     fn fmt(&self, formatter: &mut fmt::Formatter<'_>) -> fmt::Result {
+        formatter.write_str(self.name())?;
+        if let Self::Unknown { number, .. } = self {
+            write!(formatter, " {number}")?;
+        }
         match self.record() {
-            Some(record) => write!(formatter, "{} (record {record})", self.name()),
-            None => formatter.write_str(self.name()),
+            Some(record) => write!(formatter, " (record {record})"),
+            None => Ok(()),
         }
     }
 }
@@ -166,9 +225,9 @@ mod tests {
 
     #[test]
     fn accepted() {
-        assert_eq!(Answer::of(0), Some(Answer::Accepted { entries: 0 }));
+        assert_eq!(Answer::from_raw(0), Some(Answer::Accepted { entries: 0 }));
         let most = Answer::Accepted { entries: u32::MAX };
-        assert_eq!(Answer::of(u32::MAX.into()), Some(most));
+        assert_eq!(Answer::from_raw(u32::MAX.into()), Some(most));
         assert_eq!(u64::from(most), u32::MAX.into());
     }
 
@@ -193,11 +252,11 @@ mod tests {
             let about = (4..=10).contains(&number);
             let record = if about { 65_534 } else { 0 };
             let answer = u64::from(number) << 32 | u64::from(record);
-            let refusal = Refusal::of(number, record).unwrap();
+            let refusal = Refusal::from_raw(number, record).unwrap();
             // A check does not refuse for its marks: it has none.
             let of_check = refusal != Refusal::ShortMarks;
             let wanted = of_check.then_some(Answer::Refused(refusal));
-            assert_eq!(Answer::of(answer), wanted);
+            assert_eq!(Answer::from_raw(answer), wanted);
             assert_eq!(u64::from(Answer::Refused(refusal)), answer);
             assert_eq!((refusal.number(), refusal.name()), (number, name));
             assert_eq!(refusal.record(), about.then_some(record));
@@ -209,11 +268,24 @@ mod tests {
 
     #[test]
     fn no_answer() {
-        assert_eq!(Answer::of(1 << 32 | 1), None);
-        assert_eq!(Answer::of(11 << 32 | 1), None);
-        assert_eq!(Answer::of(12 << 32), None);
-        assert_eq!(Answer::of(u64::MAX), None);
-        assert_eq!((Refusal::of(0, 0), Refusal::of(13, 0)), (None, None));
-        assert_eq!(Refusal::of(12, 1), None);
+        assert_eq!(Answer::from_raw(1 << 32 | 1), None);
+        assert_eq!(Answer::from_raw(11 << 32 | 1), None);
+        assert_eq!(Answer::from_raw(12 << 32), None);
+        assert_eq!(Answer::from_raw(u64::MAX), None);
+        assert_eq!(
+            (Refusal::from_raw(0, 0), Refusal::from_raw(13, 0)),
+            (None, None)
+        );
+        assert_eq!(Refusal::from_raw(12, 1), None);
+    }
+
+    /// The number and the record of an answer that is not known are kept.
+    #[test]
+    fn unknown() {
+        let answer = 99 << 32 | 7;
+        let refusal = Refusal::unknown(answer);
+        assert_eq!((refusal.number(), refusal.record()), (99, Some(7)));
+        assert_eq!(refusal.to_string(), "unknown answer 99 (record 7)");
+        assert_eq!(u64::from(Answer::Refused(refusal)), answer);
     }
 }

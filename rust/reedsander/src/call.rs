@@ -21,8 +21,9 @@ extern "C" {
 }
 
 /// The C function's own answer, as `include/reedsander.h` describes it; see
-/// [`Answer::of`](crate::Answer::of). [`check`](crate::check()) is more
+/// [`Answer::from_raw`](crate::Answer::from_raw). [`check`](crate::check()) is more
 /// convenient.
+#[must_use]
 pub fn check_raw(sheet: &[u32], text: &[u8], report: &mut [u32]) -> u64 {
     // SAFETY: the pointers and lengths are those of three slices, so they are
     // not null (an empty slice's pointer is not), aligned, and good for
@@ -41,8 +42,9 @@ pub fn check_raw(sheet: &[u32], text: &[u8], report: &mut [u32]) -> u64 {
 }
 
 /// The C function's own answer, as `include/reedsander.h` describes it; see
-/// [`Setting::of`](crate::Setting::of). [`set`](crate::set()) is more
+/// [`Setting::from_raw`](crate::Setting::from_raw). [`set`](crate::set()) is more
 /// convenient.
+#[must_use]
 pub fn set_raw(sheet: &[u32], text: &[u8], marks: &mut [u32]) -> u64 {
     // SAFETY: as in `check_raw`, with the marks in place of the report.
     unsafe {

@@ -16,7 +16,7 @@
 //! ```
 //! use reedsander::{
 //!     tree::{Block, Cell, Inline, Row},
-//!     Refusal, Sheet,
+//!     Refusal, Rule, Sheet,
 //! };
 //!
 //! let sheet = Sheet::new(&[
@@ -33,8 +33,8 @@
 //!
 //! let report = sheet.check()?;
 //! assert_eq!(report.len(), 1);
-//! let entry = report.entries().next().unwrap();
-//! assert_eq!(entry.rule, 19);
+//! let entry = report.iter().next().unwrap();
+//! assert_eq!(entry.rule, Rule::ROW_WIDTH);
 //! assert_eq!(entry.span, Some((61, 67)));
 //! assert_eq!(entry.path, [1, 2], "the second block's third row");
 //! assert_eq!(
@@ -46,7 +46,7 @@
 //! let mut report = [0; 64];
 //! let mut entries = reedsander::check(sheet.words(), sheet.text(), &mut report)?;
 //! assert_eq!(entries.len(), 1);
-//! assert_eq!(entries.next().unwrap().rule, 19);
+//! assert_eq!(entries.next().unwrap().rule, Rule::ROW_WIDTH);
 //!
 //! // An entry takes five words and its path.
 //! let mut short = [0; 6];
@@ -63,13 +63,14 @@
 //! exactly when the list has an entry of a rule that belongs to a stop. So a
 //! sheet whose list is empty is set to its end.
 //!
-//! A setter that sets nothing while there is something in the list, and marks
-//! each fault where its path leads:
+//! A setter that hands on no page while there is something in the list, and
+//! marks each fault where its path leads. The records of all paths are found
+//! once, in [`Paths`]:
 //!
 //! ```
 //! use reedsander::{
 //!     tree::{Block, Inline, Item, Marker},
-//!     Refusal, Setting, Sheet,
+//!     Refusal, Sheet,
 //! };
 //!
 //! /// What goes to the setting room.
@@ -83,18 +84,16 @@
 //!
 //! fn page(sheet: &Sheet) -> Result<Page, Refusal> {
 //!     let report = sheet.check()?;
-//!     if !report.is_empty() {
-//!         let faults = report.entries().map(|entry| {
-//!             let record = sheet.record_at(entry.path).expect("a path of this sheet");
-//!             (record, entry.name().to_string())
-//!         });
-//!         return Ok(Page::Faulty(faults.collect()));
+//!     let (setting, marks) = sheet.set()?;
+//!     if report.is_empty() && setting.is_ended() {
+//!         return Ok(Page::Set(marks));
 //!     }
-//!     match sheet.set() {
-//!         (Setting::Ended { .. }, marks) => Ok(Page::Set(marks)),
-//!         (Setting::Refused(refusal), _) => Err(refusal),
-//!         (Setting::Stopped { .. }, _) => unreachable!("the list is empty"),
-//!     }
+//!     let paths = sheet.paths();
+//!     let faults = report.iter().map(|entry| {
+//!         let record = paths.record(entry.path).expect("a path of this sheet");
+//!         (record, entry.name().to_string())
+//!     });
+//!     Ok(Page::Faulty(faults.collect()))
 //! }
 //!
 //! /// Two numbered passes, the first of which is the seventh of the reel.
@@ -117,23 +116,60 @@
 //! assert_eq!(faulty, Page::Faulty(vec![fault]));
 //! # Ok::<(), Refusal>(())
 //! ```
+//!
+//! A setter that has words and text of its own does the same with a
+//! [`SheetRef`] of them.
+//!
+//! # From a `Document`
+//!
+//! [`adapt!`] makes the sheet of a `Document` of the notes' own tree, and leads
+//! back from a path or a record to the node; see the module
+//! [`adapt`](mod@adapt).
+//!
+//! # The library
+//!
+//! The checker and the setting machine are in `libsetter.a`, for x86-64. In a
+//! clone of Reedsander's repository the build script proves and builds it by
+//! `./staticlib`, which takes some minutes and needs Rattle's command `rt`.
+//! Anywhere else, and where `rt` is not at hand, `REEDSANDER_LIB_DIR` names
+//! the folder that holds the library, by an absolute path.
+//!
+//! Calls share nothing: any number of them may run at once, in as many
+//! threads, each on a stack of 256 KiB or more.
 
 #![deny(unsafe_code)]
+#![warn(
+    missing_docs,
+    clippy::must_use_candidate,
+    clippy::return_self_not_must_use,
+    clippy::missing_errors_doc,
+    clippy::missing_panics_doc
+)]
 
+pub mod adapt;
 mod answer;
 #[allow(unsafe_code)]
 mod call;
+mod film;
+mod kind;
+mod paths;
 mod report;
-pub mod rules;
+mod rule;
 mod setting;
 mod sheet;
+mod sheet_ref;
 pub mod tree;
 
 pub use answer::{Answer, Refusal};
 pub use call::{check_raw, set_raw};
+pub use film::film;
+pub use kind::Kind;
+pub use paths::Paths;
 pub use report::{Entries, Entry, Report};
+pub use rule::Rule;
 pub use setting::{Setting, Stop};
-pub use sheet::{listing, Sheet, RECORD_WORDS};
+pub use sheet::Sheet;
+pub use sheet_ref::{SheetRef, RECORD_WORDS};
 
 /// How many words the first report of [`check_to_vec`] has.
 const FIRST_REPORT: usize = 1024;
@@ -150,19 +186,23 @@ pub fn check<'r>(
     text: &[u8],
     report: &'r mut [u32],
 ) -> Result<Entries<'r>, Refusal> {
-    match answer(sheet, text, report) {
-        Answer::Accepted { entries } => Ok(Entries::new(report, entries)),
-        Answer::Refused(refusal) => Err(refusal),
-    }
+    let answer = check_raw(sheet, text, report);
+    let entries = accepted(answer)?;
+    Entries::new(report, entries).ok_or(Refusal::unknown(answer))
 }
 
 /// Sets a sheet with its text: opens its records in order and closes them
 /// innermost first, or stops. Each record that was opened has its mark at its
 /// own number, counted from 0; all other marks are as they were. It wants as
 /// many marks as there are records, or more.
-pub fn set(sheet: &[u32], text: &[u8], marks: &mut [u32]) -> Setting {
+///
+/// # Errors
+///
+/// Where the sheet is refused, or there are fewer marks than records. Then no
+/// mark is changed.
+pub fn set(sheet: &[u32], text: &[u8], marks: &mut [u32]) -> Result<Setting, Refusal> {
     let answer = set_raw(sheet, text, marks);
-    Setting::of(answer).unwrap_or_else(|| panic!("{answer:#x} is no answer of the machine"))
+    Setting::from_raw(answer).unwrap_or(Err(Refusal::unknown(answer)))
 }
 
 /// Checks a sheet with its text, with a report that grows until the list has
@@ -174,16 +214,20 @@ pub fn set(sheet: &[u32], text: &[u8], marks: &mut [u32]) -> Setting {
 pub fn check_to_vec(sheet: &[u32], text: &[u8]) -> Result<Report, Refusal> {
     let mut words = vec![0; FIRST_REPORT];
     loop {
-        match answer(sheet, text, &mut words) {
-            Answer::Accepted { entries } => return Ok(Report::new(words, entries)),
-            Answer::Refused(Refusal::ShortReport) => words.resize(words.len() * 4, 0),
-            Answer::Refused(refusal) => return Err(refusal),
+        let answer = check_raw(sheet, text, &mut words);
+        match accepted(answer) {
+            Ok(entries) => return Report::new(words, entries).ok_or(Refusal::unknown(answer)),
+            Err(Refusal::ShortReport) => words.resize(words.len() * 4, 0),
+            Err(refusal) => return Err(refusal),
         }
     }
 }
 
-/// The answer as an enum.
-fn answer(sheet: &[u32], text: &[u8], report: &mut [u32]) -> Answer {
-    let answer = check_raw(sheet, text, report);
-    Answer::of(answer).unwrap_or_else(|| panic!("{answer:#x} is no answer of the checker"))
+/// How many entries an answer of the checker counts.
+fn accepted(answer: u64) -> Result<u32, Refusal> {
+    match Answer::from_raw(answer) {
+        Some(Answer::Accepted { entries }) => Ok(entries),
+        Some(Answer::Refused(refusal)) => Err(refusal),
+        None => Err(Refusal::unknown(answer)),
+    }
 }

@@ -2,24 +2,55 @@
 
 use std::fmt;
 
-use crate::Refusal;
+use crate::{
+    answer::{halves, whole},
+    Refusal, Rule,
+};
 
 /// What is added to the number of a refusal in the machine's answer.
 const REFUSED: u32 = 256;
 
-/// What the setting machine answers. Records are counted from 0.
+/// How the setting machine's run came out. Records are counted from 0.
+///
+/// A setting that is not looked at may hide a stop, so the compiler warns:
+///
+/// ```compile_fail
+/// #![deny(unused_must_use)]
+/// # let sheet = reedsander::Sheet::default();
+/// sheet.set_into(&mut [])?;
+/// # Ok::<(), reedsander::Refusal>(())
+/// ```
+///
+/// and this is what to write:
+///
+/// ```
+/// #![deny(unused_must_use)]
+/// # let sheet = reedsander::Sheet::default();
+/// let setting = sheet.set_into(&mut [])?;
+/// assert!(setting.is_ended());
+/// # Ok::<(), reedsander::Refusal>(())
+/// ```
 #[derive(Clone, Copy, PartialEq, Eq, Hash, Debug)]
+#[must_use]
+#[non_exhaustive]
 pub enum Setting {
-    /// Every record was opened and closed; there are so many.
-    Ended { records: u32 },
-    /// The record was not opened, or not closed, and the run ended there.
-    Stopped { stop: Stop, record: u32 },
-    /// Nothing was changed.
-    Refused(Refusal),
+    /// Every record was opened and closed.
+    Ended {
+        /// How many there are.
+        records: u32,
+    },
+    /// A record was not opened, or not closed, and the run ended there.
+    Stopped {
+        /// Why.
+        stop: Stop,
+        /// The record.
+        record: u32,
+    },
 }
 
 /// Why the setting machine stops at a record.
 #[derive(Clone, Copy, PartialEq, Eq, PartialOrd, Ord, Hash, Debug)]
+#[non_exhaustive]
 pub enum Stop {
     /// 1: a cell, opened past the columns that its table aligns.
     CellTooMany,
@@ -60,15 +91,33 @@ impl Setting {
     /// and the lower ones the number of records, or the upper ones are the
     /// number of a stop, or 256 and that of a refusal, and the lower ones the
     /// record. None for a number that is no answer.
-    pub fn of(answer: u64) -> Option<Self> {
-        let number = (answer >> 32) as u32;
-        let low = answer as u32;
+    #[must_use]
+    pub fn from_raw(answer: u64) -> Option<Result<Self, Refusal>> {
+        let (number, low) = halves(answer);
         match number {
-            0 => Some(Self::Ended { records: low }),
-            1..REFUSED => Stop::of(number).map(|stop| Self::Stopped { stop, record: low }),
-            REFUSED.. => Refusal::of(number - REFUSED, low)
+            0 => Some(Ok(Self::Ended { records: low })),
+            1..REFUSED => {
+                let stop = Stop::from_raw(number)?;
+                Some(Ok(Self::Stopped { stop, record: low }))
+            }
+            REFUSED.. => Refusal::from_raw(number - REFUSED, low)
                 .filter(|refusal| *refusal != Refusal::ShortReport)
-                .map(Self::Refused),
+                .map(Err),
+        }
+    }
+
+    /// Whether every record was opened and closed.
+    #[must_use]
+    pub const fn is_ended(self) -> bool {
+        matches!(self, Self::Ended { .. })
+    }
+
+    /// The stop, and the record that it is at. None at the end.
+    #[must_use]
+    pub const fn stop(self) -> Option<(Stop, usize)> {
+        match self {
+            Self::Ended { .. } => None,
+            Self::Stopped { stop, record } => Some((stop, record as usize)),
         }
     }
 }
@@ -76,14 +125,10 @@ impl Setting {
 impl From<Setting> for u64 {
     /// The C function's number for the answer.
     fn from(setting: Setting) -> Self {
-        let (number, low) = match setting {
-            Setting::Ended { records } => (0, records),
-            Setting::Stopped { stop, record } => (stop.number(), record),
-            Setting::Refused(refusal) => {
-                (REFUSED + refusal.number(), refusal.record().unwrap_or(0))
-            }
-        };
-        Self::from(number) << 32 | Self::from(low)
+        match setting {
+            Setting::Ended { records } => whole(0, records),
+            Setting::Stopped { stop, record } => whole(stop.number(), record),
+        }
     }
 }
 
@@ -93,14 +138,13 @@ impl fmt::Display for Setting {
         match self {
             Self::Ended { records } => write!(formatter, "ended, records {records}"),
             Self::Stopped { stop, record } => write!(formatter, "{stop} at record {record}"),
-            Self::Refused(refusal) => write!(formatter, "refused: {refusal}"),
         }
     }
 }
 
 impl Stop {
     /// Every stop, in the order of the numbers.
-    pub const ALL: [Self; 14] = [
+    pub const ALL: &'static [Self] = &[
         Self::CellTooMany,
         Self::CellTooFew,
         Self::EmptyTable,
@@ -118,18 +162,21 @@ impl Stop {
     ];
 
     /// The stop of a number; None for a number that is no stop.
-    pub fn of(number: u32) -> Option<Self> {
+    #[must_use]
+    pub fn from_raw(number: u32) -> Option<Self> {
         let index = usize::try_from(number).ok()?.checked_sub(1)?;
         Self::ALL.get(index).copied()
     }
 
     /// Its number, 1 to 14.
-    pub fn number(self) -> u32 {
+    #[must_use]
+    pub const fn number(self) -> u32 {
         self as u32 + 1
     }
 
     /// What it is called.
-    pub fn name(self) -> &'static str {
+    #[must_use]
+    pub const fn name(self) -> &'static str {
         match self {
             Self::CellTooMany => "cell too many",
             Self::CellTooFew => "cell too few",
@@ -151,20 +198,30 @@ impl Stop {
     /// The rules that belong to it: where the machine stops so, the checker's
     /// list has an entry of one of them, whose path begins with that of the
     /// block it stopped in; see [`Sheet::block_path`](crate::Sheet::block_path).
-    pub fn rules(self) -> &'static [u32] {
+    #[must_use]
+    pub const fn rules(self) -> &'static [Rule] {
         match self {
-            Self::CellTooMany | Self::CellTooFew | Self::EmptyTable => &[16, 17, 18, 19],
-            Self::BreakInLine => &[20, 22, 23],
-            Self::LinkInLink => &[42],
-            Self::HeadingDepth => &[10],
-            Self::ItemNumber => &[50],
-            Self::BulletNumber => &[49],
-            Self::EmptyList => &[12],
-            Self::EmptyContent => &[2, 39],
-            Self::BreakAfterBreak => &[37],
-            Self::InnerFrontmatter => &[28],
-            Self::LineEnding => &[31, 45],
-            Self::AdjacentLists => &[1],
+            Self::CellTooMany | Self::CellTooFew | Self::EmptyTable => &[
+                Rule::TABLE_WITHOUT_ROW,
+                Rule::TABLE_WITHOUT_CELL,
+                Rule::ALIGNMENT_COUNT,
+                Rule::ROW_WIDTH,
+            ],
+            Self::BreakInLine => &[
+                Rule::BREAK_IN_CELL,
+                Rule::BREAK_IN_LEAF_LABEL,
+                Rule::BREAK_IN_CONTAINER_LABEL,
+            ],
+            Self::LinkInLink => &[Rule::LINK_IN_LINK],
+            Self::HeadingDepth => &[Rule::HEADING_DEPTH],
+            Self::ItemNumber => &[Rule::LONG_NUMBER],
+            Self::BulletNumber => &[Rule::BULLET_NUMBER],
+            Self::EmptyList => &[Rule::EMPTY_LIST],
+            Self::EmptyContent => &[Rule::EMPTY_PARAGRAPH, Rule::EMPTY_EMPHASIS],
+            Self::BreakAfterBreak => &[Rule::BREAK_AFTER_BREAK],
+            Self::InnerFrontmatter => &[Rule::FRONTMATTER_INSIDE],
+            Self::LineEnding => &[Rule::LINE_ENDING_IN_TEXT, Rule::LINE_ENDING_IN_CODE],
+            Self::AdjacentLists => &[Rule::ADJACENT_LISTS],
         }
     }
 }
@@ -181,7 +238,7 @@ mod tests {
     use super::*;
 
     fn there_and_back(answer: u64, setting: Setting) {
-        assert_eq!(Setting::of(answer), Some(setting));
+        assert_eq!(Setting::from_raw(answer), Some(Ok(setting)));
         assert_eq!(u64::from(setting), answer);
     }
 
@@ -189,29 +246,32 @@ mod tests {
     fn ended() {
         there_and_back(0, Setting::Ended { records: 0 });
         there_and_back(65_535, Setting::Ended { records: 65_535 });
-        let shown = Setting::Ended { records: 7 }.to_string();
-        assert_eq!(shown, "ended, records 7");
+        let ended = Setting::Ended { records: 7 };
+        assert_eq!(ended.to_string(), "ended, records 7");
+        assert_eq!((ended.is_ended(), ended.stop()), (true, None));
     }
 
     /// Every number, there and back, and no two names alike.
     #[test]
     fn stopped() {
-        for (stop, number) in Stop::ALL.into_iter().zip(1..) {
+        for (&stop, number) in Stop::ALL.iter().zip(1..) {
             assert_eq!(stop.number(), number);
-            assert_eq!(Stop::of(number), Some(stop));
+            assert_eq!(Stop::from_raw(number), Some(stop));
             let record = 65_534;
-            let answer = u64::from(number) << 32 | u64::from(record);
-            there_and_back(answer, Setting::Stopped { stop, record });
-            let others = Stop::ALL.iter().filter(|&&other| other != stop);
-            assert!(others.clone().all(|other| other.name() != stop.name()));
+            there_and_back(whole(number, record), Setting::Stopped { stop, record });
+            let mut others = Stop::ALL.iter().filter(|&&other| other != stop);
+            assert!(others.all(|other| other.name() != stop.name()));
         }
         let stopped = Setting::Stopped {
             stop: Stop::HeadingDepth,
             record: 3,
         };
         assert_eq!(stopped.to_string(), "stop 6 (heading depth) at record 3");
-        assert_eq!((Stop::of(0), Stop::of(15)), (None, None));
-        assert_eq!(Stop::of(u32::MAX), None);
+        let stop = Some((Stop::HeadingDepth, 3));
+        assert_eq!((stopped.is_ended(), stopped.stop()), (false, stop));
+        for number in [0, 15, u32::MAX] {
+            assert_eq!(Stop::from_raw(number), None);
+        }
     }
 
     /// Every refusal of the machine, which has 12 and not 11.
@@ -220,40 +280,46 @@ mod tests {
         for number in 1..=12 {
             let about = (4..=10).contains(&number);
             let record = if about { 9 } else { 0 };
-            let answer = u64::from(256 + number) << 32 | u64::from(record);
-            match Refusal::of(number, record).unwrap() {
-                Refusal::ShortReport => assert_eq!(Setting::of(answer), None),
-                refusal => there_and_back(answer, Setting::Refused(refusal)),
-            }
+            let refusal = Refusal::from_raw(number, record).unwrap();
+            let wanted = Some(Err(refusal)).filter(|_| refusal != Refusal::ShortReport);
+            assert_eq!(Setting::from_raw(whole(256 + number, record)), wanted);
         }
-        let shown = Setting::Refused(Refusal::ShortMarks).to_string();
-        assert_eq!(shown, "refused: short marks");
     }
 
     #[test]
     fn no_answer() {
-        for number in [15, 255, 256, 269, u64::from(u32::MAX)] {
-            assert_eq!(Setting::of(number << 32), None);
+        for number in [15, 255, 256, 269, u32::MAX] {
+            assert_eq!(Setting::from_raw(whole(number, 0)), None);
         }
-        assert_eq!(Setting::of(257 << 32 | 1), None);
-        assert_eq!(Setting::of(268 << 32 | 1), None);
+        for number in [257, 268] {
+            assert_eq!(Setting::from_raw(whole(number, 1)), None);
+        }
     }
 
     /// Document 01 names each of these beside a stop, and no other rule.
     #[test]
     fn rules() {
-        let mut all: Vec<u32> = Stop::ALL
-            .into_iter()
-            .flat_map(|stop| stop.rules().to_vec())
+        let all: Vec<Vec<u32>> = Stop::ALL
+            .iter()
+            .map(|stop| stop.rules().iter().map(|rule| rule.number()).collect())
             .collect();
-        all.sort_unstable();
-        all.dedup();
+        let table = vec![16, 17, 18, 19];
         let named = [
-            1, 2, 10, 12, 16, 17, 18, 19, 20, 22, 23, 28, 31, 37, 39, 42, 45, 49, 50,
+            table.clone(),
+            table.clone(),
+            table,
+            vec![20, 22, 23],
+            vec![42],
+            vec![10],
+            vec![50],
+            vec![49],
+            vec![12],
+            vec![2, 39],
+            vec![37],
+            vec![28],
+            vec![31, 45],
+            vec![1],
         ];
         assert_eq!(all, named);
-        assert!(all
-            .into_iter()
-            .all(|rule| crate::rules::name(rule).is_some()));
     }
 }

@@ -6,49 +6,82 @@
 //! together wrongly; only its size and its depth can be too large, which the
 //! checker refuses. A node has a span where `at` gives it one. Texts are
 //! borrowed.
+//!
+//! Trees may be of any depth: nothing that is done with one, dropping it
+//! included, goes down by calls, so a small stack does. They are put together
+//! in time that grows hardly faster than their size.
 
-/// A record and what stands under it.
-#[derive(Clone, PartialEq, Eq, Debug, Default)]
-pub(crate) struct Node<'a> {
-    pub(crate) kind: u32,
+use std::{collections::VecDeque, iter, mem};
+
+use crate::Kind;
+
+/// A record of the tree, and how many stand under it, at any depth.
+#[derive(Clone, PartialEq, Eq, Debug)]
+pub(crate) struct Record<'a> {
+    pub(crate) kind: Kind,
     pub(crate) span: Option<(u32, u32)>,
     /// A, B and C.
     pub(crate) values: [u32; 3],
     /// None where the record has no such text.
     pub(crate) texts: [Option<&'a str>; 2],
-    pub(crate) children: Vec<Node<'a>>,
+    pub(crate) under: usize,
+}
+
+/// A record and what stands under it.
+#[derive(Clone, PartialEq, Eq, Debug)]
+pub(crate) struct Node<'a> {
+    record: Record<'a>,
+    /// All that stands under it, at any depth, in the sheet's order.
+    under: VecDeque<Record<'a>>,
 }
 
 impl<'a> Node<'a> {
-    fn new(kind: u32) -> Self {
-        Self {
+    fn new(kind: Kind) -> Self {
+        let record = Record {
             kind,
-            ..Self::default()
+            span: None,
+            values: [0; 3],
+            texts: [None; 2],
+            under: 0,
+        };
+        Self {
+            record,
+            under: VecDeque::new(),
         }
     }
 
+    /// Its record, and all that stand under it, in the sheet's order.
+    pub(crate) fn records(&self) -> impl Iterator<Item = &Record<'a>> {
+        iter::once(&self.record).chain(&self.under)
+    }
+
+    /// Its record alone.
+    pub(crate) fn into_record(self) -> Record<'a> {
+        self.record
+    }
+
     fn a(mut self, a: u32) -> Self {
-        self.values[0] = a;
+        self.record.values[0] = a;
         self
     }
 
     fn b(mut self, b: u32) -> Self {
-        self.values[1] = b;
+        self.record.values[1] = b;
         self
     }
 
     fn c(mut self, c: u32) -> Self {
-        self.values[2] = c;
+        self.record.values[2] = c;
         self
     }
 
     fn first(mut self, text: &'a str) -> Self {
-        self.texts[0] = Some(text);
+        self.record.texts[0] = Some(text);
         self
     }
 
     fn second(mut self, text: &'a str) -> Self {
-        self.texts[1] = Some(text);
+        self.record.texts[1] = Some(text);
         self
     }
 
@@ -57,16 +90,35 @@ impl<'a> Node<'a> {
         let (a, text) = match destination {
             Destination::Bare(text) => (0, text),
             Destination::Angle(text) => (1, text),
-            Destination::Omitted => (2, ""),
+            Destination::Omitted(text) => (2, text),
         };
         let mut node = self.a(a);
-        node.texts[index] = Some(text);
+        node.record.texts[index] = Some(text);
         node
     }
 
     fn under<T: Into<Self>>(mut self, children: impl IntoIterator<Item = T>) -> Self {
-        self.children.extend(children.into_iter().map(Into::into));
+        for child in children {
+            self.push(child.into());
+        }
+        self.record.under = self.under.len();
         self
+    }
+
+    /// Adds a last child. Of what stands under the two, the shorter is moved,
+    /// so that a record is seldom moved in a deep tree, however it is put
+    /// together.
+    fn push(&mut self, child: Self) {
+        if child.under.len() <= self.under.len() {
+            self.under.push_back(child.record);
+            self.under.extend(child.under);
+        } else {
+            let before = mem::replace(&mut self.under, child.under);
+            self.under.push_front(child.record);
+            for record in before.into_iter().rev() {
+                self.under.push_front(record);
+            }
+        }
     }
 }
 
@@ -75,6 +127,7 @@ macro_rules! nodes {
     ($($(#[$doc:meta])* $name:ident $($at:ident)?;)*) => {$(
         $(#[$doc])*
         #[derive(Clone, PartialEq, Eq, Debug)]
+        #[must_use]
         pub struct $name<'a>(pub(crate) Node<'a>);
 
         impl<'a> From<$name<'a>> for Node<'a> {
@@ -86,7 +139,7 @@ macro_rules! nodes {
         $(impl $name<'_> {
             /// The node with this span. Spans are copied, never judged.
             pub fn $at(mut self, start: u32, end: u32) -> Self {
-                self.0.span = Some((start, end));
+                self.0.record.span = Some((start, end));
                 self
             }
         })?
@@ -113,16 +166,21 @@ nodes! {
 /// Where a link, an image or a definition leads.
 #[derive(Clone, Copy, PartialEq, Eq, Debug)]
 pub enum Destination<'a> {
+    /// Without brackets.
     Bare(&'a str),
     /// In angle brackets.
     Angle(&'a str),
-    Omitted,
+    /// Not written. The record has a text all the same, most often an empty
+    /// one: the notes' own tree keeps a destination beside its kind.
+    Omitted(&'a str),
 }
 
 /// The sign of emphasis and strong.
 #[derive(Clone, Copy, PartialEq, Eq, Debug)]
 pub enum Delimiter {
+    /// `*`
     Asterisk,
+    /// `_`
     Underscore,
 }
 
@@ -139,15 +197,22 @@ impl From<Delimiter> for u32 {
 /// the constants are those that fit.
 #[derive(Clone, Copy, PartialEq, Eq, Debug)]
 pub struct Marker {
+    /// Whether the list is numbered.
     pub ordered: bool,
+    /// The sign of its items.
     pub delimiter: ListDelimiter,
 }
 
 impl Marker {
+    /// Bullets of `-`.
     pub const DASH: Self = Self::new(false, ListDelimiter::Dash);
+    /// Bullets of `*`.
     pub const ASTERISK: Self = Self::new(false, ListDelimiter::Asterisk);
+    /// Bullets of `+`.
     pub const PLUS: Self = Self::new(false, ListDelimiter::Plus);
+    /// Numbers with `.`.
     pub const PERIOD: Self = Self::new(true, ListDelimiter::Period);
+    /// Numbers with `)`.
     pub const PAREN: Self = Self::new(true, ListDelimiter::Paren);
 
     const fn new(ordered: bool, delimiter: ListDelimiter) -> Self {
@@ -158,10 +223,15 @@ impl Marker {
 /// The sign of a list's items.
 #[derive(Clone, Copy, PartialEq, Eq, Debug)]
 pub enum ListDelimiter {
+    /// `-`
     Dash,
+    /// `*`
     Asterisk,
+    /// `+`
     Plus,
+    /// `.`
     Period,
+    /// `)`
     Paren,
 }
 
@@ -180,28 +250,30 @@ impl From<ListDelimiter> for u32 {
 impl<'a> Block<'a> {
     /// Kind 1.
     pub fn paragraph(inlines: impl IntoIterator<Item = Inline<'a>>) -> Self {
-        Self(Node::new(1).under(inlines))
+        Self(Node::new(Kind::Paragraph).under(inlines))
     }
 
     /// Kind 2.
     pub fn heading(depth: u8, inlines: impl IntoIterator<Item = Inline<'a>>) -> Self {
-        Self(Node::new(2).a(depth.into()).under(inlines))
+        Self(Node::new(Kind::Heading).a(depth.into()).under(inlines))
     }
 
     /// Kind 3.
     pub fn thematic_break() -> Self {
-        Self(Node::new(3))
+        Self(Node::new(Kind::ThematicBreak))
     }
 
     /// Kind 4.
     pub fn block_quote(blocks: impl IntoIterator<Item = Block<'a>>) -> Self {
-        Self(Node::new(4).under(blocks))
+        Self(Node::new(Kind::BlockQuote).under(blocks))
     }
 
     /// Kind 5.
     pub fn alert(title: Option<&'a str>, blocks: impl IntoIterator<Item = Block<'a>>) -> Self {
-        let mut node = Node::new(5).a(title.is_some().into()).under(blocks);
-        node.texts[0] = title;
+        let mut node = Node::new(Kind::Alert)
+            .a(title.is_some().into())
+            .under(blocks);
+        node.record.texts[0] = title;
         Self(node)
     }
 
@@ -217,7 +289,7 @@ impl<'a> Block<'a> {
 
     /// Kind 6.
     pub fn list(marker: Marker, tight: bool, items: impl IntoIterator<Item = Item<'a>>) -> Self {
-        let node = Node::new(6).a(marker.ordered.into());
+        let node = Node::new(Kind::List).a(marker.ordered.into());
         let node = node.b(marker.delimiter.into()).c(tight.into());
         Self(node.under(items))
     }
@@ -233,14 +305,14 @@ impl<'a> Block<'a> {
     }
 
     fn code(form: u32, info: Option<&'a str>, value: &'a str) -> Self {
-        let mut node = Node::new(7).a(form).b(info.is_some().into());
-        node.texts = [Some(value), info];
+        let mut node = Node::new(Kind::CodeBlock).a(form).b(info.is_some().into());
+        node.record.texts = [Some(value), info];
         Self(node)
     }
 
     /// Kind 8.
     pub fn html_block() -> Self {
-        Self(Node::new(8))
+        Self(Node::new(Kind::HtmlBlock))
     }
 
     /// Kind 9, of blocks.
@@ -249,7 +321,11 @@ impl<'a> Block<'a> {
         closing: HtmlTag<'a>,
         blocks: impl IntoIterator<Item = Block<'a>>,
     ) -> Self {
-        Self(Node::new(9).under([opening, closing]).under(blocks))
+        Self(
+            Node::new(Kind::HtmlContainer)
+                .under([opening, closing])
+                .under(blocks),
+        )
     }
 
     /// Kind 9, of inlines.
@@ -258,12 +334,17 @@ impl<'a> Block<'a> {
         closing: HtmlTag<'a>,
         inlines: impl IntoIterator<Item = Inline<'a>>,
     ) -> Self {
-        Self(Node::new(9).a(1).under([opening, closing]).under(inlines))
+        Self(
+            Node::new(Kind::HtmlContainer)
+                .a(1)
+                .under([opening, closing])
+                .under(inlines),
+        )
     }
 
     /// Kind 10.
     pub fn definition(identifier: &'a str, destination: Destination<'a>) -> Self {
-        let node = Node::new(10).first(identifier);
+        let node = Node::new(Kind::Definition).first(identifier);
         Self(node.destination(1, destination))
     }
 
@@ -272,27 +353,31 @@ impl<'a> Block<'a> {
         identifier: &'a str,
         blocks: impl IntoIterator<Item = Block<'a>>,
     ) -> Self {
-        Self(Node::new(11).first(identifier).under(blocks))
+        Self(
+            Node::new(Kind::FootnoteDefinition)
+                .first(identifier)
+                .under(blocks),
+        )
     }
 
     /// Kind 12, with how many columns it aligns.
     pub fn table(alignments: u32, rows: impl IntoIterator<Item = Row<'a>>) -> Self {
-        Self(Node::new(12).a(alignments).under(rows))
+        Self(Node::new(Kind::Table).a(alignments).under(rows))
     }
 
     /// Kind 13.
     pub fn math_block() -> Self {
-        Self(Node::new(13))
+        Self(Node::new(Kind::MathBlock))
     }
 
     /// Kind 14, between `---`.
     pub fn yaml(value: &'a str) -> Self {
-        Self(Node::new(14).first(value))
+        Self(Node::new(Kind::Frontmatter).first(value))
     }
 
     /// Kind 14, between `+++`.
     pub fn toml(value: &'a str) -> Self {
-        Self(Node::new(14).a(1).first(value))
+        Self(Node::new(Kind::Frontmatter).a(1).first(value))
     }
 
     /// Kind 15.
@@ -301,7 +386,12 @@ impl<'a> Block<'a> {
         attributes: impl IntoIterator<Item = Attribute<'a>>,
         label: impl IntoIterator<Item = Inline<'a>>,
     ) -> Self {
-        Self(Node::new(15).first(name).under(attributes).under(label))
+        Self(
+            Node::new(Kind::LeafDirective)
+                .first(name)
+                .under(attributes)
+                .under(label),
+        )
     }
 
     /// Kind 16.
@@ -311,20 +401,22 @@ impl<'a> Block<'a> {
         label: impl IntoIterator<Item = Inline<'a>>,
         blocks: impl IntoIterator<Item = Block<'a>>,
     ) -> Self {
-        let node = Node::new(16).first(name).under(attributes);
+        let node = Node::new(Kind::ContainerDirective)
+            .first(name)
+            .under(attributes);
         Self(node.under(label).under(blocks))
     }
 
     /// Kind 17.
     pub fn blank_line() -> Self {
-        Self(Node::new(17))
+        Self(Node::new(Kind::BlankLine))
     }
 }
 
 impl<'a> Item<'a> {
     /// Kind 20, without a check box and without a number.
     pub fn new(blocks: impl IntoIterator<Item = Block<'a>>) -> Self {
-        Self(Node::new(20).under(blocks))
+        Self(Node::new(Kind::Item).under(blocks))
     }
 
     /// With a check box, checked or not.
@@ -341,14 +433,14 @@ impl<'a> Item<'a> {
 impl<'a> Row<'a> {
     /// Kind 21.
     pub fn new(cells: impl IntoIterator<Item = Cell<'a>>) -> Self {
-        Self(Node::new(21).under(cells))
+        Self(Node::new(Kind::Row).under(cells))
     }
 }
 
 impl<'a> Cell<'a> {
     /// Kind 22.
     pub fn new(inlines: impl IntoIterator<Item = Inline<'a>>) -> Self {
-        Self(Node::new(22).under(inlines))
+        Self(Node::new(Kind::Cell).under(inlines))
     }
 
     /// A cell of one text.
@@ -360,61 +452,61 @@ impl<'a> Cell<'a> {
 impl<'a> HtmlTag<'a> {
     /// Kind 23: its name, and how it is written.
     pub fn new(name: &'a str, raw: &'a str) -> Self {
-        Self(Node::new(23).first(name).second(raw))
+        Self(Node::new(Kind::HtmlTag).first(name).second(raw))
     }
 }
 
 impl<'a> Attribute<'a> {
     /// Kind 24.
     pub fn new(name: &'a str) -> Self {
-        Self(Node::new(24).first(name))
+        Self(Node::new(Kind::Attribute).first(name))
     }
 }
 
 impl<'a> Inline<'a> {
     /// Kind 31.
     pub fn text(value: &'a str) -> Self {
-        Self(Node::new(31).first(value))
+        Self(Node::new(Kind::Text).first(value))
     }
 
     /// Kind 32.
     pub fn escape(value: char) -> Self {
-        Self(Node::new(32).a(value.into()))
+        Self(Node::new(Kind::Escape).a(value.into()))
     }
 
     /// Kind 33.
     pub fn character_reference() -> Self {
-        Self(Node::new(33))
+        Self(Node::new(Kind::CharacterReference))
     }
 
     /// Kind 34.
     pub fn emphasis(delimiter: Delimiter, inlines: impl IntoIterator<Item = Inline<'a>>) -> Self {
-        Self(Node::new(34).a(delimiter.into()).under(inlines))
+        Self(Node::new(Kind::Emphasis).a(delimiter.into()).under(inlines))
     }
 
     /// Kind 35.
     pub fn strong(delimiter: Delimiter, inlines: impl IntoIterator<Item = Inline<'a>>) -> Self {
-        Self(Node::new(35).a(delimiter.into()).under(inlines))
+        Self(Node::new(Kind::Strong).a(delimiter.into()).under(inlines))
     }
 
     /// Kind 36: a strikethrough.
     pub fn delete(inlines: impl IntoIterator<Item = Inline<'a>>) -> Self {
-        Self(Node::new(36).under(inlines))
+        Self(Node::new(Kind::Delete).under(inlines))
     }
 
     /// Kind 37.
     pub fn mark(inlines: impl IntoIterator<Item = Inline<'a>>) -> Self {
-        Self(Node::new(37).under(inlines))
+        Self(Node::new(Kind::Mark).under(inlines))
     }
 
     /// Kind 38.
     pub fn shortcode() -> Self {
-        Self(Node::new(38))
+        Self(Node::new(Kind::Shortcode))
     }
 
     /// Kind 39.
     pub fn code(value: &'a str) -> Self {
-        Self(Node::new(39).first(value))
+        Self(Node::new(Kind::Code).first(value))
     }
 
     /// Kind 40.
@@ -422,17 +514,25 @@ impl<'a> Inline<'a> {
         destination: Destination<'a>,
         inlines: impl IntoIterator<Item = Inline<'a>>,
     ) -> Self {
-        Self(Node::new(40).destination(0, destination).under(inlines))
+        Self(
+            Node::new(Kind::Link)
+                .destination(0, destination)
+                .under(inlines),
+        )
     }
 
     /// Kind 41.
     pub fn autolink(text: &'a str) -> Self {
-        Self(Node::new(41).first(text))
+        Self(Node::new(Kind::Autolink).first(text))
     }
 
     /// Kind 42.
     pub fn image(destination: Destination<'a>, alt: impl IntoIterator<Item = Inline<'a>>) -> Self {
-        Self(Node::new(42).destination(0, destination).under(alt))
+        Self(
+            Node::new(Kind::Image)
+                .destination(0, destination)
+                .under(alt),
+        )
     }
 
     /// Kind 43.
@@ -441,7 +541,9 @@ impl<'a> Inline<'a> {
         label: &'a str,
         inlines: impl IntoIterator<Item = Inline<'a>>,
     ) -> Self {
-        let node = Node::new(43).first(identifier).second(label);
+        let node = Node::new(Kind::LinkReference)
+            .first(identifier)
+            .second(label);
         Self(node.under(inlines))
     }
 
@@ -451,53 +553,59 @@ impl<'a> Inline<'a> {
         label: &'a str,
         alt: impl IntoIterator<Item = Inline<'a>>,
     ) -> Self {
-        let node = Node::new(44).first(identifier).second(label);
+        let node = Node::new(Kind::ImageReference)
+            .first(identifier)
+            .second(label);
         Self(node.under(alt))
     }
 
     /// Kind 45.
     pub fn html(value: &'a str) -> Self {
-        Self(Node::new(45).first(value))
+        Self(Node::new(Kind::Html).first(value))
     }
 
     /// Kind 46.
     pub fn soft_break() -> Self {
-        Self(Node::new(46))
+        Self(Node::new(Kind::SoftBreak))
     }
 
     /// Kind 47: a hard break that is written as a backslash.
     pub fn backslash_break() -> Self {
-        Self(Node::new(47))
+        Self(Node::new(Kind::LineBreak))
     }
 
     /// Kind 47: a hard break that is written as spaces.
     pub fn spaces_break() -> Self {
-        Self(Node::new(47).a(1))
+        Self(Node::new(Kind::LineBreak).a(1))
     }
 
     /// Kind 48, in a fence of dollars.
     pub fn dollar_math(dollars: u8, value: &'a str) -> Self {
-        Self(Node::new(48).b(dollars.into()).first(value))
+        Self(Node::new(Kind::Math).b(dollars.into()).first(value))
     }
 
     /// Kind 48, in the code form.
     pub fn code_math(value: &'a str) -> Self {
-        Self(Node::new(48).a(1).first(value))
+        Self(Node::new(Kind::Math).a(1).first(value))
     }
 
     /// Kind 49.
     pub fn footnote_reference(identifier: &'a str, label: &'a str) -> Self {
-        Self(Node::new(49).first(identifier).second(label))
+        Self(
+            Node::new(Kind::FootnoteReference)
+                .first(identifier)
+                .second(label),
+        )
     }
 
     /// Kind 50.
     pub fn inline_footnote(inlines: impl IntoIterator<Item = Inline<'a>>) -> Self {
-        Self(Node::new(50).under(inlines))
+        Self(Node::new(Kind::InlineFootnote).under(inlines))
     }
 
     /// Kind 51.
     pub fn wikilink(target: &'a str, label: &'a str) -> Self {
-        Self(Node::new(51).first(target).second(label))
+        Self(Node::new(Kind::WikiLink).first(target).second(label))
     }
 
     /// Kind 52.
@@ -506,11 +614,16 @@ impl<'a> Inline<'a> {
         attributes: impl IntoIterator<Item = Attribute<'a>>,
         label: impl IntoIterator<Item = Inline<'a>>,
     ) -> Self {
-        Self(Node::new(52).first(name).under(attributes).under(label))
+        Self(
+            Node::new(Kind::TextDirective)
+                .first(name)
+                .under(attributes)
+                .under(label),
+        )
     }
 
     /// Kind 53.
     pub fn tag(name: &'a str) -> Self {
-        Self(Node::new(53).first(name))
+        Self(Node::new(Kind::Tag).first(name))
     }
 }

@@ -3,9 +3,9 @@
 mod records;
 
 use reedsander::{
-    check, check_raw, check_to_vec, listing,
+    check, check_raw, check_to_vec, film,
     tree::{Attribute, Block, Cell, HtmlTag, Inline, Item, Marker, Row},
-    Answer, Refusal, Sheet, RECORD_WORDS,
+    Answer, Kind, Refusal, Rule, Sheet, RECORD_WORDS,
 };
 
 use records::{plain, with, Record};
@@ -123,23 +123,20 @@ fn wrong_cell_count() {
     assert_eq!(
         found,
         [
-            (19, Some((7, 9)), vec![1, 0, 0, 1]),
-            (20, Some((1, 2)), vec![1, 0, 0, 2, 1]),
+            (Rule::ROW_WIDTH, Some((7, 9)), vec![1, 0, 0, 1]),
+            (Rule::BREAK_IN_CELL, Some((1, 2)), vec![1, 0, 0, 2, 1]),
         ]
     );
     assert_eq!(report.words().len(), 9 + 10);
     // The row and the cell that the paths lead to.
-    let kind = |path: &[u32]| {
-        let record = sheet.record_at(path)?;
-        Some(sheet.words()[record * RECORD_WORDS])
-    };
+    let kind = |path: &[u32]| sheet.view().kind(sheet.record_at(path)?);
     let paths: Vec<&[u32]> = report.entries().map(|entry| entry.path).collect();
     assert_eq!(sheet.record_at(paths[0]), Some(9));
-    assert_eq!(kind(paths[0]), Some(21));
-    assert_eq!(kind(paths[1]), Some(22));
-    assert_eq!(kind(&[0]), Some(3));
-    assert_eq!(kind(&[1]), Some(6));
-    assert_eq!(kind(&[1, 0]), Some(20));
+    assert_eq!(kind(paths[0]), Some(Kind::Row));
+    assert_eq!(kind(paths[1]), Some(Kind::Cell));
+    assert_eq!(kind(&[0]), Some(Kind::ThematicBreak));
+    assert_eq!(kind(&[1]), Some(Kind::List));
+    assert_eq!(kind(&[1, 0]), Some(Kind::Item));
     for nowhere in [&[][..], &[2], &[0, 0], &[1, 1], &[1, 0, 0, 3], &[u32::MAX]] {
         assert_eq!(sheet.record_at(nowhere), None);
     }
@@ -155,7 +152,10 @@ fn paths_past_what_is_not_counted() {
     let sheet = Sheet::new(&[Block::html_of_blocks(tag(), tag(), [directive])]);
     let report = sheet.check().unwrap();
     let entry = report.entries().next().unwrap();
-    assert_eq!((entry.rule, entry.path), (10, &[0, 0, 0][..]));
+    assert_eq!(
+        (entry.rule, entry.path),
+        (Rule::HEADING_DEPTH, &[0, 0, 0][..])
+    );
     assert_eq!(sheet.record_at(entry.path), Some(sheet.records() - 1));
 }
 
@@ -168,7 +168,10 @@ fn a_long_list() {
     let report = Sheet::new(&headings).check().unwrap();
     assert_eq!((report.len(), report.words().len()), (5000, 30_000));
     for (entry, at) in report.entries().zip(0..) {
-        assert_eq!((entry.rule, entry.span), (10, Some((at, at + 1))));
+        assert_eq!(
+            (entry.rule, entry.span),
+            (Rule::HEADING_DEPTH, Some((at, at + 1)))
+        );
         assert_eq!(entry.path, [at]);
     }
 }
@@ -185,13 +188,13 @@ fn too_deep() {
     assert_eq!(refusal, Err(Refusal::BadLevel { record: 64 }));
 }
 
-/// Document 01's listing of one heading of depth 0.
+/// Document 01's film of one heading of depth 0.
 #[test]
-fn listings() {
+fn films() {
     let sheet = Sheet::new(&[Block::heading(0, [])]);
     let mut expected = format!("{:>11}{:>11}\n{:>11}{:>11}", 1, 0, 2, 1);
     expected += &"          0".repeat(10);
     expected.push('\n');
-    assert_eq!(listing(sheet.words(), sheet.text()), expected.into_bytes());
-    assert_eq!(listing(&[], b"x\n"), b"          0          2\nx\n");
+    assert_eq!(film(sheet.words(), sheet.text()), expected.into_bytes());
+    assert_eq!(film(&[], b"x\n"), b"          0          2\nx\n");
 }

@@ -2,7 +2,7 @@
 
 use std::{collections::BTreeSet, fs, path::PathBuf};
 
-use reedsander::{listing, Setting, Stop};
+use reedsander::{film, Rule, Setting, Stop};
 
 #[path = "../examples/notes/mod.rs"]
 mod notes;
@@ -24,8 +24,8 @@ fn files() {
     let wanted: BTreeSet<String> = wanted.chain(["README.md".to_string()]).collect();
     assert_eq!(names, wanted);
     for (name, sheet) in &sheets {
-        let film = fs::read(folder().join(name)).unwrap();
-        assert_eq!(film, listing(sheet.words(), sheet.text()), "{name}");
+        let file = fs::read(folder().join(name)).unwrap();
+        assert_eq!(file, film(sheet.words(), sheet.text()), "{name}");
     }
 }
 
@@ -34,8 +34,8 @@ fn files() {
 fn findings() {
     let found = notes::all().map(|(name, sheet)| {
         let report = sheet.check().unwrap();
-        let rules: Vec<u32> = report.entries().map(|entry| entry.rule).collect();
-        (name, rules, sheet.set().0)
+        let rules: Vec<Rule> = report.iter().map(|entry| entry.rule).collect();
+        (name, rules, sheet.set().unwrap().0)
     });
     let [table, passes, faults] = found;
     assert_eq!(
@@ -47,14 +47,15 @@ fn findings() {
         stop: Stop::HeadingDepth,
         record: 2,
     };
-    assert_eq!(faults, ("faults", vec![10, 20, 19, 49, 42, 2], stopped));
+    let rules = [10, 20, 19, 49, 42, 2].map(|number| Rule::from_raw(number).unwrap());
+    assert_eq!(faults, ("faults", rules.to_vec(), stopped));
 }
 
 /// The passes are numbered on from the fourth.
 #[test]
 fn marks_of_the_passes() {
     let [_, (_, passes), _] = notes::all();
-    let marks = passes.set().1;
+    let marks = passes.set().unwrap().1;
     let marked: Vec<u32> = marks.into_iter().filter(|&mark| mark > 0).collect();
     assert_eq!(marked, [1, 2, 4, 5, 6]);
 }

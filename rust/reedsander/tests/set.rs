@@ -78,23 +78,21 @@ fn stopping() -> Vec<(Stop, u32, usize, Vec<Block<'static>>)> {
 #[test]
 fn each_stop() {
     let all = stopping();
-    assert!(all.iter().map(|stop| stop.0).eq(Stop::ALL));
+    assert!(all.iter().map(|stop| &stop.0).eq(Stop::ALL));
     for (stop, record, opened, blocks) in all {
         let sheet = Sheet::new(&blocks);
         let mut marks = vec![BEFORE; sheet.records() + 2];
         let setting = sheet.set_into(&mut marks);
-        assert_eq!(setting, Setting::Stopped { stop, record });
+        assert_eq!(setting, Ok(Setting::Stopped { stop, record }));
         let (written, rest) = marks.split_at(opened);
         assert!(written.iter().all(|&mark| mark != BEFORE), "{stop}");
         assert!(rest.iter().all(|&mark| mark == BEFORE), "{stop}");
         let path = sheet.block_path(record as usize).unwrap();
         let report = sheet.check().unwrap();
-        let mut entries = report.entries();
-        assert!(
-            entries
-                .any(|entry| stop.rules().contains(&entry.rule) && entry.path.starts_with(&path)),
-            "{stop}"
-        );
+        let mut beside = report
+            .iter()
+            .filter(|entry| stop.rules().contains(&entry.rule));
+        assert!(beside.any(|entry| entry.path.starts_with(&path)), "{stop}");
     }
 }
 
@@ -118,28 +116,14 @@ fn the_end() {
         Block::tight_list(list, items),
         bullets([Item::new([])]),
     ]);
-    let marks = [
-        6,
-        0,
-        0,
-        0,
-        1,
-        0,
-        1,
-        0,
-        0,
-        1,
-        2,
-        999_999_999,
-        1_000_000_000,
-        0,
-        0,
-    ];
-    let records = marks.len() as u32;
-    assert_eq!(sheet.set(), (Setting::Ended { records }, marks.to_vec()));
+    let heading = [6, 0, 0];
+    let items = [0, 1, 0, 1, 0, 0, 1, 2, 999_999_999, 1_000_000_000];
+    let marks = [&heading[..], &items, &[0, 0]].concat();
+    let ended = Setting::Ended { records: 15 };
+    assert_eq!(sheet.set(), Ok((ended, marks.clone())));
     // With more words than that, which stay.
     let mut long = [BEFORE; 18];
-    assert_eq!(sheet.set_into(&mut long), Setting::Ended { records });
+    assert_eq!(sheet.set_into(&mut long), Ok(ended));
     assert_eq!(long[..15], marks);
     assert_eq!(long[15..], [BEFORE; 3]);
 }
@@ -147,9 +131,7 @@ fn the_end() {
 /// The refusal, which leaves the marks as they were.
 fn refusal(sheet: &[u32], text: &[u8], marks: usize) -> Option<Refusal> {
     let mut marks = vec![BEFORE; marks];
-    let Setting::Refused(refusal) = set(sheet, text, &mut marks) else {
-        return None;
-    };
+    let refusal = set(sheet, text, &mut marks).err()?;
     assert!(marks.iter().all(|&mark| mark == BEFORE));
     Some(refusal)
 }
@@ -204,12 +186,10 @@ fn short_marks() {
 fn empty_slices() {
     assert_eq!(set_raw(&[], &[], &mut []), 0);
     assert_eq!(set_raw(&Vec::new(), &Vec::new(), &mut Vec::new()), 0);
-    assert_eq!(
-        Sheet::new(&[]).set(),
-        (Setting::Ended { records: 0 }, vec![])
-    );
-    let short = u64::from(Setting::Refused(Refusal::ShortMarks));
-    assert_eq!(set_raw(&plain(3, 1), &[], &mut []), short);
+    let ended = Setting::Ended { records: 0 };
+    assert_eq!(Sheet::new(&[]).set(), Ok((ended, vec![])));
+    assert_eq!(set_raw(&plain(3, 1), &[], &mut []), 268 << 32);
+    assert_eq!(set(&plain(3, 1), &[], &mut []), Err(Refusal::ShortMarks));
 }
 
 /// Tags, attributes, rows, cells and inlines have the path of their block.

@@ -51,57 +51,52 @@ fn x_at(level: u32) -> Record<'static> {
     (X.0, level, X.1, X.2)
 }
 
+/// A block that is one record of the kind, with these values and texts.
+fn alone(block: Block<'_>, kind: u32, values: [u32; 3], texts: [Option<&str>; 2]) {
+    of(block, |records| {
+        assert_eq!(records, [(kind, 1, values, texts)]);
+    });
+}
+
 #[test]
 fn blocks_without_children() {
-    for (block, kind, values, texts) in [
-        (Block::thematic_break(), 3, [0; 3], [None; 2]),
-        (Block::fenced_code(None, "v"), 7, [0; 3], [Some("v"), None]),
-        (
-            Block::fenced_code(Some("i"), "v"),
-            7,
-            [0, 1, 0],
-            [Some("v"), Some("i")],
-        ),
-        (Block::fenced_code(Some(""), ""), 7, [0, 1, 0], [None; 2]),
-        (
-            Block::indented_code(None, "v"),
-            7,
-            [1, 0, 0],
-            [Some("v"), None],
-        ),
-        (Block::html_block(), 8, [0; 3], [None; 2]),
-        (
-            Block::definition("i", Destination::Bare("d")),
-            10,
-            [0; 3],
-            [Some("i"), Some("d")],
-        ),
-        (
-            Block::definition("i", Destination::Angle("d")),
-            10,
-            [1, 0, 0],
-            [Some("i"), Some("d")],
-        ),
-        (
-            Block::definition("i", Destination::Omitted),
-            10,
-            [2, 0, 0],
-            [Some("i"), None],
-        ),
-        (Block::math_block(), 13, [0; 3], [None; 2]),
-        (Block::yaml("v"), 14, [0; 3], [Some("v"), None]),
-        (Block::toml("v"), 14, [1, 0, 0], [Some("v"), None]),
-        (Block::blank_line(), 17, [0; 3], [None; 2]),
-        (Block::heading(255, []), 2, [255, 0, 0], [None; 2]),
-        (Block::alert(None, []), 5, [0; 3], [None; 2]),
-        (Block::alert(Some(""), []), 5, [1, 0, 0], [None; 2]),
-        (Block::alert(Some("t"), []), 5, [1, 0, 0], [Some("t"), None]),
-        (Block::table(9, []), 12, [9, 0, 0], [None; 2]),
-    ] {
-        of(block, |records| {
-            assert_eq!(records, [(kind, 1, values, texts)]);
-        });
-    }
+    alone(Block::thematic_break(), 3, [0; 3], [None; 2]);
+    alone(Block::html_block(), 8, [0; 3], [None; 2]);
+    alone(Block::math_block(), 13, [0; 3], [None; 2]);
+    alone(Block::yaml("v"), 14, [0; 3], [Some("v"), None]);
+    alone(Block::toml("v"), 14, [1, 0, 0], [Some("v"), None]);
+    alone(Block::blank_line(), 17, [0; 3], [None; 2]);
+    alone(Block::heading(255, []), 2, [255, 0, 0], [None; 2]);
+    alone(Block::alert(None, []), 5, [0; 3], [None; 2]);
+    alone(Block::alert(Some(""), []), 5, [1, 0, 0], [None; 2]);
+    alone(Block::alert(Some("t"), []), 5, [1, 0, 0], [Some("t"), None]);
+    alone(Block::table(9, []), 12, [9, 0, 0], [None; 2]);
+}
+
+#[test]
+fn code_blocks() {
+    let (fenced, indented) = (Block::fenced_code, Block::indented_code);
+    let both = [Some("v"), Some("i")];
+    alone(fenced(None, "v"), 7, [0; 3], [Some("v"), None]);
+    alone(fenced(Some("i"), "v"), 7, [0, 1, 0], both);
+    alone(fenced(Some(""), ""), 7, [0, 1, 0], [None; 2]);
+    alone(indented(None, "v"), 7, [1, 0, 0], [Some("v"), None]);
+    alone(indented(Some("i"), "v"), 7, [1, 1, 0], both);
+}
+
+#[test]
+fn definitions() {
+    let both = [Some("i"), Some("d")];
+    let of = |destination| Block::definition("i", destination);
+    alone(of(Destination::Bare("d")), 10, [0; 3], both);
+    alone(of(Destination::Angle("d")), 10, [1, 0, 0], both);
+    alone(
+        of(Destination::Omitted("")),
+        10,
+        [2, 0, 0],
+        [Some("i"), None],
+    );
+    alone(of(Destination::Omitted("d")), 10, [2, 0, 0], both);
 }
 
 #[test]
@@ -275,51 +270,39 @@ fn inlines_without_children() {
     }
 }
 
+/// An inline of the kind, with this A and these texts, around the text `x`.
+fn around_x(inline: Inline<'_>, kind: u32, a: u32, texts: [Option<&str>; 2]) {
+    of_inline(inline, &[(kind, 2, [a, 0, 0], texts), x_at(3)]);
+}
+
 #[test]
 fn inlines_with_children() {
     use Delimiter::{Asterisk, Underscore};
-    for (inline, kind, a, texts) in [
-        (Inline::emphasis(Asterisk, [x()]), 34, 0, [None; 2]),
-        (Inline::emphasis(Underscore, [x()]), 34, 1, [None; 2]),
-        (Inline::strong(Asterisk, [x()]), 35, 0, [None; 2]),
-        (Inline::strong(Underscore, [x()]), 35, 1, [None; 2]),
-        (Inline::delete([x()]), 36, 0, [None; 2]),
-        (Inline::mark([x()]), 37, 0, [None; 2]),
-        (
-            Inline::link(Destination::Bare("d"), [x()]),
-            40,
-            0,
-            [Some("d"), None],
-        ),
-        (
-            Inline::link(Destination::Angle("d"), [x()]),
-            40,
-            1,
-            [Some("d"), None],
-        ),
-        (Inline::link(Destination::Omitted, [x()]), 40, 2, [None; 2]),
-        (
-            Inline::image(Destination::Bare("d"), [x()]),
-            42,
-            0,
-            [Some("d"), None],
-        ),
-        (
-            Inline::link_reference("i", "l", [x()]),
-            43,
-            0,
-            [Some("i"), Some("l")],
-        ),
-        (
-            Inline::image_reference("i", "l", [x()]),
-            44,
-            0,
-            [Some("i"), Some("l")],
-        ),
-        (Inline::inline_footnote([x()]), 50, 0, [None; 2]),
-    ] {
-        of_inline(inline, &[(kind, 2, [a, 0, 0], texts), x_at(3)]);
-    }
+    around_x(Inline::emphasis(Asterisk, [x()]), 34, 0, [None; 2]);
+    around_x(Inline::emphasis(Underscore, [x()]), 34, 1, [None; 2]);
+    around_x(Inline::strong(Asterisk, [x()]), 35, 0, [None; 2]);
+    around_x(Inline::strong(Underscore, [x()]), 35, 1, [None; 2]);
+    around_x(Inline::delete([x()]), 36, 0, [None; 2]);
+    around_x(Inline::mark([x()]), 37, 0, [None; 2]);
+    around_x(Inline::inline_footnote([x()]), 50, 0, [None; 2]);
+}
+
+#[test]
+fn links_and_images() {
+    let link = |destination| Inline::link(destination, [x()]);
+    let image = |destination| Inline::image(destination, [x()]);
+    let to = [Some("d"), None];
+    around_x(link(Destination::Bare("d")), 40, 0, to);
+    around_x(link(Destination::Angle("d")), 40, 1, to);
+    around_x(link(Destination::Omitted("")), 40, 2, [None; 2]);
+    around_x(link(Destination::Omitted("d")), 40, 2, to);
+    around_x(image(Destination::Bare("d")), 42, 0, to);
+    around_x(image(Destination::Angle("d")), 42, 1, to);
+    around_x(image(Destination::Omitted("")), 42, 2, [None; 2]);
+    around_x(image(Destination::Omitted("d")), 42, 2, to);
+    let by = [Some("i"), Some("l")];
+    around_x(Inline::link_reference("i", "l", [x()]), 43, 0, by);
+    around_x(Inline::image_reference("i", "l", [x()]), 44, 0, by);
 }
 
 /// Every node but an attribute has the span that it is given.

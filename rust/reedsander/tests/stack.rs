@@ -20,7 +20,8 @@ fn both(sheet: &[u32]) -> (Vec<u32>, Setting) {
     let mut report = vec![0; 600_000];
     let mut marks = vec![0; sheet.len() / RECORD_WORDS];
     let entries = check(sheet, b"", &mut report).unwrap();
-    (entries.words().to_vec(), set(sheet, b"", &mut marks))
+    let list = entries.words().to_vec();
+    (list, set(sheet, b"", &mut marks).unwrap())
 }
 
 /// The same on a small stack, and that it is the same.

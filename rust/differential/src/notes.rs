@@ -1,0 +1,3 @@
+//! The adapter of the reference's tree of notes.
+
+reedsander::adapt!(oracle::ast);
