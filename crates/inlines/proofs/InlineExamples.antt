@@ -69,9 +69,9 @@ unfolding listed bytes validate_inlines validate_identifier validate_text final_
 lasts = (refl, refl, refl, refl, refl, refl, refl, refl, refl)
 
 -- ---- 37 after each kind of break, and not for a backslash break; an empty text between is not passed over. 38
-breaks : (listed (leaf soft_break (leaf soft_break (says 0 1 no_tree))) ≡ 37 ∷ []) × (listed (leaf line_break (leaf soft_break (says 0 1 no_tree))) ≡ 37 ∷ []) × (listed (leaf soft_break (leaf line_break (says 0 1 no_tree))) ≡ []) × (listed (leaf soft_break (tree (rec line_break 1 0 (part 0 0) (part 0 0)) no_tree (says 0 1 no_tree))) ≡ 37 ∷ []) × (listed (leaf soft_break (says 0 0 (leaf soft_break no_tree))) ≡ []) × (listed (tree (rec delete 0 0 (part 0 0) (part 0 0)) (says 0 1 no_tree) (holds delete 0 (says 0 1 no_tree))) ≡ 38 ∷ []) × (listed (tree (rec mark 0 0 (part 0 0) (part 0 0)) (says 0 1 no_tree) (holds mark 0 (says 0 1 no_tree))) ≡ []) × (listed (tree (rec line_break 1 0 (part 0 0) (part 0 0)) no_tree (leaf soft_break (says 0 1 no_tree))) ≡ 37 ∷ []) × (listed (tree (rec line_break 1 0 (part 0 0) (part 0 0)) no_tree (leaf line_break (says 0 1 no_tree))) ≡ []) × (listed (holds link 0 (leaf soft_break (leaf soft_break no_tree))) ≡ 37 ∷ [])
+rules-of-breaks : (listed (leaf soft_break (leaf soft_break (says 0 1 no_tree))) ≡ 37 ∷ []) × (listed (leaf line_break (leaf soft_break (says 0 1 no_tree))) ≡ 37 ∷ []) × (listed (leaf soft_break (leaf line_break (says 0 1 no_tree))) ≡ []) × (listed (leaf soft_break (tree (rec line_break 1 0 (part 0 0) (part 0 0)) no_tree (says 0 1 no_tree))) ≡ 37 ∷ []) × (listed (leaf soft_break (says 0 0 (leaf soft_break no_tree))) ≡ []) × (listed (tree (rec delete 0 0 (part 0 0) (part 0 0)) (says 0 1 no_tree) (holds delete 0 (says 0 1 no_tree))) ≡ 38 ∷ []) × (listed (tree (rec mark 0 0 (part 0 0) (part 0 0)) (says 0 1 no_tree) (holds mark 0 (says 0 1 no_tree))) ≡ []) × (listed (tree (rec line_break 1 0 (part 0 0) (part 0 0)) no_tree (leaf soft_break (says 0 1 no_tree))) ≡ 37 ∷ []) × (listed (tree (rec line_break 1 0 (part 0 0) (part 0 0)) no_tree (leaf line_break (says 0 1 no_tree))) ≡ []) × (listed (holds link 0 (leaf soft_break (leaf soft_break no_tree))) ≡ 37 ∷ [])
 unfolding listed bytes validate_destination validate_link_text validate_inlines validate_identifier validate_text final_break break_entries inlines_of get_last_d validate_inline_nodes validate_node validate_inline_nodes_after validate_siblings validate_inline validate_inline_values validate_emphasis_container all_empty starts_with_whitespace ends_with_whitespace without_empty_texts starts_white ends_white holds_joined is_one_joined no_inline is_empty_list starts_with_white ends_with_white is_white head_d scalars decode emit lead_bits trail_bits follow table_3_7 holds_line_ending text_of part_of list_if ◌⊕◌
-breaks = (refl, refl, refl, refl, refl, refl, refl, refl, refl, refl)
+rules-of-breaks = (refl, refl, refl, refl, refl, refl, refl, refl, refl, refl)
 
 -- ---- 39 before 40, and never both; 41 beside them. Empty texts are passed over by 39 and 40, and not by 41
 emphases : (listed (holds emphasis 0 (says 0 0 no_tree)) ≡ 39 ∷ []) × (listed (holds strong 0 no_tree) ≡ 39 ∷ []) × (listed (holds emphasis 0 (says 0 1 no_tree)) ≡ []) × (listed (holds emphasis 0 (says 0 0 (says 4 1 (says 0 1 no_tree)))) ≡ 40 ∷ []) × (listed (holds emphasis 0 (says 0 1 (leaf soft_break (says 0 0 no_tree)))) ≡ 40 ∷ []) × (listed (holds mark 0 (leaf line_break (says 0 1 no_tree))) ≡ []) × (listed (holds mark 0 (says 0 1 (leaf line_break no_tree))) ≡ 40 ∷ 30 ∷ []) × (listed (holds emphasis 1 (holds emphasis 1 (says 0 1 no_tree))) ≡ 41 ∷ []) × (listed (holds emphasis 1 (holds emphasis 0 (says 0 1 no_tree))) ≡ []) × (listed (holds strong 0 (holds emphasis 0 (says 0 1 no_tree))) ≡ 41 ∷ []) × (listed (holds strong 0 (holds strong 0 (says 0 1 no_tree))) ≡ []) × (listed (holds delete 0 (holds delete 0 (says 0 1 no_tree))) ≡ 41 ∷ []) × (listed (holds emphasis 0 (says 0 0 (holds emphasis 0 (says 0 1 no_tree)))) ≡ []) × (listed (holds emphasis 0 (holds emphasis 0 no_tree)) ≡ 41 ∷ 39 ∷ []) × (listed (holds emphasis 0 (holds emphasis 0 (says 4 1 no_tree))) ≡ 41 ∷ 40 ∷ []) × (listed (holds mark 0 (holds mark 0 (says 0 1 no_tree))) ≡ 41 ∷ []) × (listed (holds mark 0 (holds delete 0 (says 0 1 no_tree))) ≡ [])

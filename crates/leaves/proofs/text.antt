@@ -21,7 +21,10 @@ pub mod PartExamples
 pub mod PipeExamples
 pub mod PipeLaws
 pub mod PunctuationExamples
+pub mod RangeLaws
+pub mod ScalarLaws
 pub mod ScanLaws
+pub mod TagLaws
 pub mod TestLaws
 pub mod TitleExamples
 pub mod TitleLaws

@@ -15,11 +15,13 @@ pub mod Part
 pub mod Pipe
 pub mod Punctuation
 pub mod Same
+pub mod ScalarScans
 pub mod Scalars
+pub mod TagScans
 pub mod Title
 pub mod Trim
+pub mod UnicodeLetters
 pub mod Utf8
 pub mod Utf8Expected
 pub mod Utf8Scans
 pub mod White
-pub mod WhiteScans

@@ -13,6 +13,8 @@ pub mod part;
 pub mod pipe;
 pub mod punctuation;
 pub mod same;
+mod scalars;
 pub mod title;
+pub mod unicode_letters;
 pub mod utf8;
 pub mod white;

@@ -1,4 +1,4 @@
--- Stored texts, each with the thirteen answers of the functions that take a text.
+-- Stored texts, each with the fourteen answers of the functions that take a text.
 use Rattle.std.specs.Prelude.{ℕ, suc, ◌/◌, ◌%◌, ◌^◌, Bool, List, [], ◌∷◌, eqb, if◌then◌else◌}
 use Rattle.std.specs.Bool.{beq}
 use Rattle.leaves.specs.Text.Fence.{holds_fence_line}
@@ -9,6 +9,7 @@ use Rattle.leaves.specs.Text.Name.{is_directive_name, is_attribute_name, is_blan
 use Rattle.leaves.specs.Text.Part.{part_of}
 use Rattle.leaves.specs.Text.Pipe.{has_odd_escaped_pipe}
 use Rattle.leaves.specs.Text.Title.{is_alert_title}
+use Rattle.leaves.specs.Text.UnicodeLetters.{is_tag_name}
 use Rattle.leaves.specs.Text.Utf8.{is_utf8}
 use Rattle.leaves.specs.Text.White.{starts_with_white, ends_with_white}
 use Rattle.leaves.specs.declared.text.fence.FrontmatterKind.TheVariants.{Yaml, Toml}
@@ -46,6 +47,7 @@ answers_for s =
     ∷ is_attribute_name s
     ∷ is_blank_identifier s
     ∷ holds_backtick_dollar s
+    ∷ is_tag_name s
     ∷ []
 
 -- the text of a record, whose length is its first byte

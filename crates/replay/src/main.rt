@@ -82,7 +82,7 @@ fn replay_long<R: Files + Print + Eprint + AllocGlobal>(
 // its place `replay_calls` was not proved.
 fn replay_short_files<R: Files + Print + Eprint>(rt: &R) -> Tally {
     let mut total = Tally::empty();
-    for name in ["utf8", "white", "lines", "names", "pipes"] {
+    for name in ["utf8", "white", "lines", "names", "tags", "pipes"] {
         total = replay(rt, name, &Texts, total);
     }
     total = replay(rt, "pairs", &Pairs, total);

@@ -1,4 +1,4 @@
-// Stored texts, each with the thirteen answers of the functions that take a text.
+// Stored texts, each with the fourteen answers of the functions that take a text.
 ghost use Rattle.std.specs.Prelude.{◌≡◌, ◌<◌};
 ghost use Rattle.replay.specs.Bytes.{byte_at};
 ghost use Rattle.replay.specs.Texts.{is_bit_set, compared_with_bit, answers_for, compared_bits, text_replayed};
@@ -14,11 +14,12 @@ use leaves::text::name::{is_attribute_name, is_blank_identifier, is_directive_na
 use leaves::text::part::part;
 use leaves::text::pipe::has_odd_escaped_pipe;
 use leaves::text::title::is_alert_title;
+use leaves::text::unicode_letters::is_tag_name;
 use leaves::text::utf8::is_utf8;
 use leaves::text::white::{ends_with_white, starts_with_white};
 
 // How many answers there are.
-const ANSWERS: usize = 13;
+const ANSWERS: usize = 14;
 
 // Whether bit k is set.
 #[tactic(auto, unfolding(crate::specs::Texts::is_bit_set))]
@@ -48,6 +49,7 @@ fn answers(s: &[u8]) -> [bool; ANSWERS]
         is_attribute_name(s),
         is_blank_identifier(s),
         holds_backtick_dollar(s),
+        is_tag_name(s),
     ]
 }
 

@@ -56,9 +56,9 @@ unfolding bytes told marked closings remain steps_from steps_of columns nearest 
 tables = (refl, refl, refl, refl, refl, refl)
 
 -- ---- 4 and 11; a paragraph in a container directive is not its label
-breaks : (told (bare table 1 1 0 0 ++ bare row 2 0 0 0 ++ bare cell 3 0 0 0 ++ bare emphasis 4 0 0 0 ++ bare soft_break 5 0 0 0) ≡ stops 4 4 (0 ∷ [])) × (told (bare leaf_directive 1 0 0 0 ++ bare line_break 2 0 0 0) ≡ stops 4 1 (0 ∷ [])) × (told (bare container_directive 1 0 0 0 ++ bare line_break 2 0 0 0) ≡ stops 4 1 (0 ∷ [])) × (told (bare container_directive 1 0 0 0 ++ bare paragraph 2 0 0 0 ++ bare soft_break 3 0 0 0) ≡ ended) × (told (bare paragraph 1 0 0 0 ++ bare line_break 2 0 0 0 ++ bare soft_break 2 0 0 0) ≡ stops 11 2 (0 ∷ [])) × (told (bare paragraph 1 0 0 0 ++ bare soft_break 2 0 0 0 ++ bare line_break 2 1 0 0) ≡ stops 11 2 (0 ∷ [])) × (told (bare paragraph 1 0 0 0 ++ bare soft_break 2 0 0 0 ++ bare line_break 2 0 0 0) ≡ ended) × (told (bare paragraph 1 0 0 0 ++ bare soft_break 2 0 0 0 ++ word 2 ++ bare soft_break 2 0 0 0) ≡ ended)
+stops-at-breaks : (told (bare table 1 1 0 0 ++ bare row 2 0 0 0 ++ bare cell 3 0 0 0 ++ bare emphasis 4 0 0 0 ++ bare soft_break 5 0 0 0) ≡ stops 4 4 (0 ∷ [])) × (told (bare leaf_directive 1 0 0 0 ++ bare line_break 2 0 0 0) ≡ stops 4 1 (0 ∷ [])) × (told (bare container_directive 1 0 0 0 ++ bare line_break 2 0 0 0) ≡ stops 4 1 (0 ∷ [])) × (told (bare container_directive 1 0 0 0 ++ bare paragraph 2 0 0 0 ++ bare soft_break 3 0 0 0) ≡ ended) × (told (bare paragraph 1 0 0 0 ++ bare line_break 2 0 0 0 ++ bare soft_break 2 0 0 0) ≡ stops 11 2 (0 ∷ [])) × (told (bare paragraph 1 0 0 0 ++ bare soft_break 2 0 0 0 ++ bare line_break 2 1 0 0) ≡ stops 11 2 (0 ∷ [])) × (told (bare paragraph 1 0 0 0 ++ bare soft_break 2 0 0 0 ++ bare line_break 2 0 0 0) ≡ ended) × (told (bare paragraph 1 0 0 0 ++ bare soft_break 2 0 0 0 ++ word 2 ++ bare soft_break 2 0 0 0) ≡ ended)
 unfolding bytes told marked closings remain steps_from steps_of columns nearest in_link behind_list only_empty stop_at stop_of position frame_path block_path run_of run last_mark mark_of marks_of records_from record_at text_of part_of holds_line_ending written_marker
-breaks = (refl, refl, refl, refl, refl, refl, refl, refl)
+stops-at-breaks = (refl, refl, refl, refl, refl, refl, refl, refl)
 
 -- ---- 5, at any depth; an image is no link
 links : (told (bare paragraph 1 0 0 0 ++ bare link 2 0 0 0 ++ bare emphasis 3 0 0 0 ++ bare autolink 4 0 0 0) ≡ stops 5 3 (0 ∷ [])) × (told (bare paragraph 1 0 0 0 ++ bare link 2 0 0 0 ++ bare image 3 0 0 0) ≡ ended) × (told (bare paragraph 1 0 0 0 ++ bare image 2 0 0 0 ++ bare link 3 0 0 0) ≡ ended) × (told (bare paragraph 1 0 0 0 ++ bare link 2 0 0 0 ++ bare link 2 0 0 0) ≡ ended)

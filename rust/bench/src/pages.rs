@@ -43,6 +43,8 @@ pub fn others() -> Vec<Page> {
         deep_headings(),
         long_texts("8 texts of 1 MiB, ASCII", "printer lights 26 25 29 "),
         long_texts("8 texts of 1 MiB, not ASCII", "Lichtbestimmung für 3½ €"),
+        tags("20000 tags, ASCII", "reel/shot-"),
+        tags("20000 tags, Greek", "μπομπίνα/λήψη-"),
     ];
     all.extend(long_values());
     all
@@ -158,6 +160,16 @@ fn long_texts(name: &str, unit: &str) -> Page {
     let blocks: Vec<Block<'_>> = values
         .iter()
         .map(|value| Block::paragraph([Inline::text(value)]))
+        .collect();
+    page(name, &blocks)
+}
+
+/// Tags, a hundred a paragraph, no two of one name.
+fn tags(name: &str, front: &str) -> Page {
+    let names: Vec<String> = (0..20_000).map(|at| format!("{front}{at}")).collect();
+    let blocks: Vec<Block<'_>> = names
+        .chunks(100)
+        .map(|names| Block::paragraph(names.iter().map(|name| Inline::tag(name))))
         .collect();
     page(name, &blocks)
 }

@@ -74,12 +74,13 @@ pub fn all() -> Vec<File> {
 }
 
 /// The files of texts.
-fn text_files() -> [File; 5] {
+fn text_files() -> [File; 6] {
     [
         of_texts("utf8", texts::utf8()),
         of_texts("white", texts::white()),
         of_texts("lines", texts::lines()),
         of_texts("names", texts::names()),
+        of_texts("tags", texts::tags()),
         of_texts("pipes", texts::pipes()),
     ]
 }

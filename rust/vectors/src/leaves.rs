@@ -9,12 +9,12 @@ use oracle::ast::{
 };
 
 /// How many functions a record of a text file answers for.
-pub const FUNCTIONS: usize = 13;
+pub const FUNCTIONS: usize = 14;
 
 /// The one function that takes bytes that are not UTF-8.
 const IS_UTF8: u16 = 1;
 
-/// The others take well-formed text, and stand at bits 1 to 12.
+/// The others take well-formed text, and stand at bits 1 to 13.
 const OF_TEXT: [fn(&str) -> bool; FUNCTIONS - 1] = [
     starts_with_white,
     ends_with_white,
@@ -28,6 +28,7 @@ const OF_TEXT: [fn(&str) -> bool; FUNCTIONS - 1] = [
     is_attribute_name,
     is_blank_identifier,
     holds_backtick_dollar,
+    oracle::is_tag_name,
 ];
 
 /// Which functions are compared for `bytes`, and their answers: bit k of both
@@ -274,7 +275,8 @@ mod tests {
     fn masks() {
         assert_eq!(answers(b"\xC0\x80"), (1, 0));
         // Blank, and so an edge line and an identifier, and no title or name.
-        assert_eq!(answers(b""), (0x1FFF, 1 | 1 << 4 | 1 << 11));
+        assert_eq!(answers(b""), (0x3FFF, 1 | 1 << 4 | 1 << 11));
         assert_eq!(answers(b"`$").1 >> 12, 1);
+        assert_eq!(answers("\u{142}".as_bytes()).1 >> 13, 1);
     }
 }

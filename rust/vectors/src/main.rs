@@ -4,7 +4,7 @@
 //! `vectors CRATES`. The files go to the data of the program in that folder
 //! that replays them.
 //!
-//! The text files `utf8`, `white`, `lines`, `names` and `pipes` hold records
+//! The text files `utf8`, `white`, `lines`, `names`, `tags` and `pipes` hold records
 //! of a length n (1 byte), a mask (2 bytes), answers (2 bytes) and n bytes of
 //! text. Bit k of the mask says that function k is to be compared, and bit k
 //! of the answers is what it answers; see `leaves` for the functions. The

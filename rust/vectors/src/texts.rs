@@ -202,6 +202,52 @@ pub fn names() -> Vec<Vec<u8>> {
 }
 
 /// Values of cells and of math, and identifiers of definitions.
+/// Tag names and what is none: each code point where the letters or the
+/// numbers of the Rust begin or end, and its neighbour, alone and behind `a`;
+/// and strings over the signs that a tag may have, digits and letters.
+pub fn tags() -> Vec<Vec<u8>> {
+    let mut texts = Texts::default();
+    for edge in edges() {
+        texts.add(edge.to_string().into_bytes());
+        texts.add(format!("a{edge}").into_bytes());
+    }
+    texts.add_all(strings(b"aZ9/_-", 4));
+    texts.add_all(strings(b"@[`{.:0#", 2));
+    for name in [
+        "ko\u{144}cowy",
+        "\u{3c3}\u{3ba}\u{3b7}\u{3bd}\u{3ae}/2",
+        "\u{2160}a",
+    ] {
+        texts.add(name.as_bytes().to_vec());
+        texts.add(format!("{name} ").into_bytes());
+        texts.add([name.as_bytes(), b"\xC3"].concat());
+    }
+    texts.list
+}
+
+/// The characters that differ from the one before or the one behind in
+/// whether they are a tag, or can continue one.
+fn edges() -> Vec<char> {
+    let kind = |value: char| {
+        let continued = format!("a{value}");
+        let alone = oracle::is_tag_name(&value.to_string());
+        (alone, oracle::is_tag_name(&continued))
+    };
+    let all: Vec<_> = ('\0'..=char::MAX)
+        .map(|value| (value, kind(value)))
+        .collect();
+    let mut list = Vec::new();
+    for pair in all.windows(2) {
+        let [(before, one), (value, other)] = pair else {
+            unreachable!("windows of two");
+        };
+        if one != other {
+            list.extend([*before, *value]);
+        }
+    }
+    list
+}
+
 pub fn pipes() -> Vec<Vec<u8>> {
     let mut texts = Texts::default();
     texts.add_all(strings(b"\\|a", 6));
@@ -223,7 +269,7 @@ mod tests {
 
     #[test]
     fn no_text_twice() {
-        for texts in [utf8(), white(), lines(), names(), pipes()] {
+        for texts in [utf8(), white(), lines(), names(), tags(), pipes()] {
             let held: HashSet<&Vec<u8>> = texts.iter().collect();
             assert_eq!(held.len(), texts.len());
         }

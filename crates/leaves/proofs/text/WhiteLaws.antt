@@ -1,75 +1,26 @@
 -- The scalar values of a text, a byte at a time; and the last of them from where the last character begins.
 use mathlib.Core.Path.{◌≡◌, refl, sym, ap, ◌∙◌}
-use mathlib.Core.Bool.{Bool, true, false, not, ◌&&◌, ◌||◌, true≢false}
+use mathlib.Core.Bool.{Bool, true, false, ◌&&◌, true≢false}
 use mathlib.Core.List.{List, [], ◌∷◌, ◌++◌, get_last_d, head_d}
-use Prim.Native.Nat.{ℕ, zero, suc, ◌+◌, ◌-◌, ◌*◌, ◌%◌, ◌<◌, ◌≤◌}
+use Prim.Native.Nat.{ℕ, zero, suc, ◌+◌, ◌-◌, ◌≤◌}
 use native.Mathlib.Omega.{arith}
-use lib.Dec.{eqb, leb, ltb, eqb-suc-zero}
+use lib.Dec.{eqb, leb, eqb-suc-zero}
 use lib.ListN.{length, take, drop, get_or, take-append-drop, length-drop}
 use lib.Seq.{take_all}
-use borrow.Author.Tests.{ltb-true, leb-true}
+use borrow.Author.Tests.{leb-true}
 use Rattle.std.specs.Prelude.{if◌then◌else◌}
 use Rattle.leaves.specs.Text.Over.{is_empty_list}
-use Rattle.leaves.specs.Text.Utf8.{Range, ◌to◌, within, trail, table_3_7, follow}
+use Rattle.leaves.specs.Text.Utf8.{Range, within, trail, table_3_7, follow}
 use Rattle.leaves.specs.Text.Scalars.{replacement, lead_bits, trail_bits, emit, decode, scalars}
 use Rattle.leaves.specs.Text.Utf8Scans.{breaks_character, expected_after}
-use Rattle.leaves.specs.Text.WhiteScans.{value_after, room, BeginsScalar}
+use Rattle.leaves.specs.Text.ScalarScans.{value_after, BeginsScalar}
 use Rattle.leaves.specs.Text.Utf8Expected.{trail_columns}
 use Rattle.leaves.specs.Text.White.{is_white, starts_with_white, ends_with_white}
 use Rattle.leaves.proofs.text.ScanLaws.{ScanAt, next}
-use Rattle.leaves.proofs.text.TestLaws.{all_below, each, and_left, and_right}
+use Rattle.leaves.proofs.text.TestLaws.{and_left, and_right}
 use Rattle.leaves.proofs.text.Utf8Laws.{whole, from-to}
 use Rattle.leaves.proofs.text.ScanLaws.{scan}
 use Rattle.leaves.proofs.text.LastLaws.{last-cons}
-
--- ---- the value of the bits
-
--- a value stays within its room
-room_falls : (m value b : ℕ) → value < room (suc m) → trail_bits value b < room m
-unfolding trail_bits
-room_falls zero value b h = omega arith
-room_falls (suc zero) value b h = omega arith
-room_falls (suc (suc zero)) value b h = omega arith
-room_falls (suc (suc (suc m))) value b h = absurd (omega arith)
-
-lead-test : ℕ → Bool
-lead-test b = ltb (lead_bits b) (room (length (follow table_3_7 b)))
-
-lead-fits : (b : ℕ) → b < 256 → lead_bits b < room (length (follow table_3_7 b))
-unfolding all_below lead-test lead_bits follow table_3_7
-lead-fits b h = ltb-true _ _ (each lead-test 256 refl b h)
-
-fits_after : (o : List Range) (value b : ℕ) → b < 256 → value < room (length o) → value_after o value b < room (length (expected_after o b))
-unfolding value_after expected_after
-fits_after [] value b h k = lead-fits b h
-fits_after (r ∷ o) value b h k = go (within r b) refl
-  where
-    go : (t : Bool) → within r b ≡ t → value_after (r ∷ o) value b < room (length (expected_after (r ∷ o) b))
-    go true e = rw e (room_falls (length o) value b k)
-    go false e = rw e (lead-fits b h)
-
-long : (more low high : ℕ) → length (trail_columns more low high) ≡ more
-long zero low high = refl
-long (suc n) low high = ap suc (length-trails n)
-  where
-    length-trails : (n : ℕ) → length (lib.ListN.replicate n trail) ≡ n
-    length-trails n = lib.ListN.length-replicate n trail
-
-pub value_is : (more low high value b : ℕ) → value_after (trail_columns more low high) value b ≡ (if eqb more 0 || breaks_character (trail_columns more low high) b then lead_bits b else value * 0x40 + b % 0x40)
-unfolding value_after breaks_character trail_bits
-value_is zero low high value b = refl
-value_is (suc m) low high value b = rw (eqb-suc-zero m) (go (within (low to high) b))
-  where
-    go : (t : Bool) → (if t then trail_bits value b else lead_bits b) ≡ (if not t then lead_bits b else value * 0x40 + b % 0x40)
-    go true = refl
-    go false = refl
-
--- a value has room for the bits that are expected after b
-pub room_kept : (more low high : ℕ) (before : ℕ) (l h : ℕ) (value b : ℕ) → b < 256 → value < room before → trail_columns more low high ≡ expected_after (trail_columns before l h) b → value_after (trail_columns before l h) value b < room more
-room_kept more low high before l h value b k f e =
-    let g : value < room (length (trail_columns before l h)) = rw (long before l h) f in
-    let r : value_after (trail_columns before l h) value b < room (length (trail_columns more low high)) = rw e (fits_after (trail_columns before l h) value b k g) in
-    rw (long more low high) at r
 
 -- ---- one byte more
 last-emit : (o : List Range) (v d : ℕ) (s : List ℕ) → get_last_d (emit o v s) d ≡ get_last_d s (if is_empty_list o then v else d)
@@ -267,6 +218,6 @@ unfolding end_from decode get_last_d
 end-open d zero low high v z e = absurd (true≢false z)
 end-open d (suc n) low high v z e = e ∙ sym no-white
 
-pub ruleset white-laws = (room_kept, start-broken, start_none, scan)
+pub ruleset white-laws = (start-broken, start_none, scan)
 
 pub ruleset white_ends = (ends-part)

@@ -50,9 +50,9 @@ unfolding printed
 heading = refl
 
 -- a heading of depth 1 has no diagnostics, and the machine ends after one record; no records have none
-ends : (listing (line (1 ∷ 0 ∷ []) ++ rec 2 1 1) ≡ line (0 ∷ 0 ∷ 1 ∷ [])) × (listing (line (0 ∷ 0 ∷ [])) ≡ line (0 ∷ 0 ∷ 0 ∷ []))
+comes-to-the-end : (listing (line (1 ∷ 0 ∷ []) ++ rec 2 1 1) ≡ line (0 ∷ 0 ∷ 1 ∷ [])) × (listing (line (0 ∷ 0 ∷ [])) ≡ line (0 ∷ 0 ∷ 0 ∷ []))
 unfolding printed
-ends = (refl, refl)
+comes-to-the-end = (refl, refl)
 
 -- refusals: a second record of no kind (4, of record 1); nothing at all (13); 513 records (14)
 refusals : (listing (line (2 ∷ 0 ∷ []) ++ rec 2 1 1 ++ rec 18 1 0) ≡ line (4 ∷ 1 ∷ [])) × (listing [] ≡ line (13 ∷ 0 ∷ [])) × (listing (line (513 ∷ 0 ∷ [])) ≡ line (14 ∷ 0 ∷ []))

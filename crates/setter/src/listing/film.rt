@@ -20,7 +20,7 @@ const MOST_FILM_BYTES: usize = 16384;
 pub(crate) const SHEET_WORDS: usize = MOST_FILM_RECORDS * RECORD_WORDS;
 
 // How many bytes the largest film has.
-pub(crate) const MOST_BYTES: usize = COUNT_BYTES
+pub(crate) const MOST_INPUT: usize = COUNT_BYTES
     + MOST_FILM_RECORDS * RECORD_BYTES
     + MOST_FILM_BYTES;
 

@@ -2,13 +2,13 @@
 ghost use Rattle.std.specs.Prelude.{◌<◌, ◌≤◌, length, take, IfOk};
 ghost use Rattle.std.specs.Io.KnownBytes.{Consumes, IsAtEnd};
 
-use crate::listing::film::MOST_BYTES;
+use crate::listing::film::MOST_INPUT;
 use std::io;
 use std::io::{ErrorKind, Read};
 
 // One byte more than the largest film has. Of a longer film no more need be read: what is printed for these bytes is
 // what would be printed for all of it, as `listing-cut` proves.
-pub const INPUT_BYTES: usize = MOST_BYTES + 1;
+pub const INPUT_BYTES: usize = MOST_INPUT + 1;
 
 // Reads until the buffer is full or the input's end is reached, and answers how many bytes were read: they stand at the
 // buffer's front.

@@ -1,7 +1,7 @@
--- `leaves::text::white::Character::after` meets its contract.
+-- `leaves::text::scalars::Character::after` meets its contract.
 use native.Mathlib.Omega.{arith}
-use Rattle.leaves.proofs.text.WhiteLaws.{room_kept}
-use Rattle.leaves.proofs.text.white.Character.after.Goals as goal
+use Rattle.leaves.proofs.text.ScalarLaws.{room_kept}
+use Rattle.leaves.proofs.text.scalars.Character.after.Goals as goal
 
 pub invariant_of-result : goal.invariant_of-result
 invariant_of-result c =
