@@ -50,7 +50,7 @@ enum {
     REEDSANDER_KIND_LEAF_DIRECTIVE = 15,
     REEDSANDER_KIND_CONTAINER_DIRECTIVE = 16,
     REEDSANDER_KIND_BLANK_LINE = 17,
-    /* what stands under some blocks alone */
+    /* parts of blocks and inlines */
     REEDSANDER_KIND_ITEM = 20,
     REEDSANDER_KIND_ROW = 21,
     REEDSANDER_KIND_CELL = 22,

@@ -12,7 +12,7 @@
 //! the sheet that is known to be accepted (`machine`), and the refusals in
 //! Rust and then that machine (`accept`), which is what `reedsander_set` does.
 //!
-//! At last the records of many entries are looked up by their paths, with an
+//! Last, the records of many entries are looked up by their paths, with an
 //! index that is made once.
 //!
 //! The medians of all rounds are compared.

@@ -7,8 +7,8 @@
 //! Markdown files, folders of them, and published suites in JSON with
 //! cmark-gfm, and compares the sheets of their documents.
 //!
-//! It exits with 1 where a call or a film differs, or where a rule, a stop or a
-//! refusal was never seen.
+//! It exits with 1 where a call or a film differs, and, but for `--published`,
+//! where a rule, a stop or a refusal was never seen.
 
 #![forbid(unsafe_code)]
 

@@ -71,10 +71,14 @@ impl Published {
     ///
     /// # Errors
     ///
-    /// Where a file cannot be read, or the parser is not there.
+    /// Where a file cannot be read or has no document, a folder has no file,
+    /// or the parser is not there.
     pub fn all(&mut self, paths: &[PathBuf]) -> Result<(), String> {
         for path in paths {
             let files = files(path).map_err(|error| format!("{}: {error}", path.display()))?;
+            if files.is_empty() {
+                return Err(format!("{}: no Markdown file is in it", path.display()));
+            }
             for file in files {
                 self.file(&file)
                     .map_err(|error| format!("{}: {error}", file.display()))?;
@@ -85,7 +89,11 @@ impl Published {
 
     fn file(&mut self, file: &Path) -> Result<(), String> {
         self.files += 1;
-        for (markdown, number) in read(file)?.iter().zip(1..) {
+        let documents = read(file)?;
+        if documents.is_empty() {
+            return Err("it has no object with a `markdown` field".into());
+        }
+        for (markdown, number) in documents.iter().zip(1..) {
             let markdown = plain(markdown);
             let document = document(&parsed(PARSER, &markdown)?, &markdown)?;
             self.document(&format!("{}, document {number}", file.display()), &document);
@@ -342,6 +350,25 @@ sheets with one record taken out, copied or moved: ";
         assert_eq!(files(&one).unwrap(), [one]);
         assert_eq!(read(&folder.join("c.md")), Ok(vec!["x".into()]));
         assert!(read(&folder.join("f.json")).is_err() && read(&folder.join("g.md")).is_err());
+        fs::remove_dir_all(folder).unwrap();
+    }
+
+    /// A folder without Markdown and a suite without a document are said, so
+    /// that nothing is taken for compared that was not.
+    #[test]
+    fn nothing_to_compare() {
+        let folder = std::env::temp_dir().join(format!("published-none-{}", std::process::id()));
+        fs::create_dir_all(&folder).unwrap();
+        let suite = folder.join("suite.json");
+        fs::write(&suite, r#"[{"html": "x"}]"#).unwrap();
+        for (path, wanted) in [
+            (&folder, "no Markdown file is in it"),
+            (&suite, "no object with a `markdown` field"),
+        ] {
+            let (mut published, _) = run();
+            let said = published.all(std::slice::from_ref(path)).unwrap_err();
+            assert!(said.ends_with(wanted), "{said}");
+        }
         fs::remove_dir_all(folder).unwrap();
     }
 }

@@ -334,10 +334,14 @@ fn node_of_a_stop() {
     let headings = [1, 2, 7].map(|depth| Heading::new(depth, [Text::new("x")]).into());
     let document = Document::new(headings.into());
     let notes = Notes::of(&document);
-    let Ok((Setting::Stopped { record, .. }, _)) = notes.sheet().set() else {
+    let (setting, _) = notes.sheet().set().unwrap();
+    let Setting::Stopped { record, .. } = setting else {
         panic!("a heading of depth 7");
     };
     assert_eq!(notes.node(record), notes.at(&[2]));
+    let (_, same) = setting.stop().unwrap();
+    assert_eq!(notes.node(same), notes.node(record));
+    assert_eq!(notes.node(-1), None);
     assert!(
         matches!(notes.node(record), Some(Node::Block(Block::Heading(heading))) if heading.depth == 7)
     );

@@ -186,10 +186,11 @@ impl<'a, N: Node<'a>> Notes<'a, N> {
     }
 
     /// The node of a record: where the setting machine stops, or what a
-    /// refusal is about. None where the sheet has no such record.
+    /// refusal is about, as a number of any type. None where the sheet has no
+    /// such record.
     #[must_use]
-    pub fn node(&self, record: u32) -> Option<N> {
-        self.nodes.get(usize::try_from(record).ok()?).copied()
+    pub fn node(&self, record: impl TryInto<usize>) -> Option<N> {
+        self.nodes.get(record.try_into().ok()?).copied()
     }
 
     /// The block, item, row or cell that an entry's path leads to. None where

@@ -143,7 +143,7 @@ impl Refusal {
         Self::Unknown { number, record }
     }
 
-    /// Its number, 1 to 12.
+    /// Its number: 1 to 12, or of an answer that is not known the upper half.
     #[must_use]
     pub const fn number(self) -> u32 {
         match self {

@@ -5,8 +5,9 @@ use std::fmt;
 /// The enum, and what is known of each kind.
 macro_rules! kinds {
     ($($(#[$doc:meta])* $kind:ident = $number:literal, $name:literal;)*) => {
-        /// What a record is: its first word. Blocks are 1 to 17, what stands
-        /// under blocks alone is 20 to 24, inlines are 31 to 53.
+        /// What a record is: its first word. Blocks are 1 to 17, inlines 31 to
+        /// 53; 20 to 24 are parts of blocks and inlines: items, rows, cells,
+        /// HTML tags and attributes.
         #[derive(Clone, Copy, PartialEq, Eq, PartialOrd, Ord, Hash, Debug)]
         #[non_exhaustive]
         #[repr(u32)]

@@ -68,8 +68,8 @@ impl<'a> SheetRef<'a> {
     /// not listed.
     #[must_use]
     pub fn kind(self, record: usize) -> Option<Kind> {
-        let records = self.words.chunks_exact(RECORD_WORDS);
-        Kind::from_raw(*records.into_iter().nth(record)?.first()?)
+        let mut records = self.words.chunks_exact(RECORD_WORDS);
+        Kind::from_raw(records.nth(record)?[0])
     }
 
     /// Checks it; see [`check_to_vec`].

@@ -1,19 +1,17 @@
-//! The worked sheet of docs/SHEET.md: its report, its marks and the answers
-//! are what the page says.
+//! docs/SHEET.md: the numbers and names of its tables are this crate's, and
+//! the report, the marks and the answers of its worked sheet are as it says.
 
-use std::{fs, path::PathBuf};
+mod page;
 
-use reedsander::{check_raw, set_raw, RECORD_WORDS};
+use reedsander::{check_raw, set_raw, Kind, Refusal, Rule, Stop, RECORD_WORDS};
+
+fn sheet_page() -> String {
+    page::read("docs/SHEET.md")
+}
 
 /// The lines that stand in the page's one fence of this name.
 fn fenced(name: &str) -> String {
-    let file = PathBuf::from(env!("CARGO_MANIFEST_DIR")).join("../../docs/SHEET.md");
-    let page = fs::read_to_string(file).unwrap();
-    let opening = format!("\n```{name}\n");
-    let (_, behind) = page.split_once(&opening).expect("the fence");
-    assert!(!behind.contains(&opening), "one fence of the name {name}");
-    let (inside, _) = behind.split_once("\n```\n").expect("the fence's end");
-    inside.to_string()
+    page::fenced(&sheet_page(), name).0.to_string()
 }
 
 fn numbers(line: &str) -> Vec<u32> {
@@ -73,4 +71,73 @@ fn a_second_cell() {
     assert_eq!(report[..7], [40, 1, 60, 67, 1, 3, 9]);
     let mut marks = [99; 22];
     assert_eq!(set_raw(&sheet, &text, &mut marks), answer(0, 22));
+}
+
+/// The cells of each row that begins with a number, in the section of this
+/// heading.
+fn rows(heading: &str) -> Vec<(u32, Vec<String>)> {
+    let page = sheet_page();
+    let (_, behind) = page.split_once(&format!("\n## {heading}\n")).unwrap();
+    let section = behind.split("\n## ").next().unwrap();
+    let rows = section.lines().filter_map(|line| {
+        let mut cells = line.strip_prefix("| ")?.split(" | ");
+        let number = cells.next()?.parse().ok()?;
+        let others = cells.map(|cell| cell.trim_end_matches(" |").to_string());
+        Some((number, others.collect()))
+    });
+    rows.collect()
+}
+
+/// Number and name of each row; what stands in brackets behind a name is left
+/// out.
+fn names(heading: &str) -> Vec<(u32, String)> {
+    let name = |cells: Vec<String>| cells[0].split(" (").next().unwrap().to_string();
+    let rows = rows(heading).into_iter();
+    rows.map(|(number, cells)| (number, name(cells))).collect()
+}
+
+#[test]
+fn numbers_and_names() {
+    let kinds = Kind::ALL
+        .iter()
+        .map(|kind| (kind.number(), kind.name().to_string()));
+    assert_eq!(names("Kinds"), kinds.collect::<Vec<_>>());
+    let rules = Rule::ALL
+        .iter()
+        .map(|rule| (rule.number(), rule.name().to_string()));
+    assert_eq!(names("The rules"), rules.collect::<Vec<_>>());
+    let stops = Stop::ALL
+        .iter()
+        .map(|stop| (stop.number(), stop.name().to_string()));
+    assert_eq!(names("The setting machine"), stops.collect::<Vec<_>>());
+    let refusals = (1..)
+        .map_while(|number| Refusal::from_raw(number, 0))
+        .map(|refusal| (refusal.number(), refusal.name().to_string()));
+    assert_eq!(names("Refusals"), refusals.collect::<Vec<_>>());
+}
+
+/// `16 to 19` and `20, 22, 23` as numbers.
+fn listed(cell: &str) -> Vec<u32> {
+    let parts = cell.split(", ").flat_map(|part| {
+        let (first, last) = part.split_once(" to ").unwrap_or((part, part));
+        first.parse().unwrap()..=last.parse().unwrap()
+    });
+    parts.collect()
+}
+
+/// The rules beside each stop, and those that stand beside none.
+#[test]
+fn rules_of_stops() {
+    let mut beside = Vec::new();
+    for ((_, cells), stop) in rows("The setting machine").iter().zip(Stop::ALL) {
+        let rules: Vec<u32> = stop.rules().iter().map(|rule| rule.number()).collect();
+        assert_eq!(listed(cells.last().unwrap()), rules, "{stop}");
+        beside.extend(rules);
+    }
+    let page = sheet_page();
+    let (_, none) = page.split_once("36 rules stand beside none: ").unwrap();
+    let none = none.split(". ").next().unwrap().replace(" and ", ", ");
+    let others = Rule::ALL.iter().map(|rule| rule.number());
+    let others: Vec<u32> = others.filter(|rule| !beside.contains(rule)).collect();
+    assert_eq!((listed(&none), others.len()), (others, 36));
 }

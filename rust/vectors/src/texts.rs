@@ -201,7 +201,6 @@ pub fn names() -> Vec<Vec<u8>> {
     texts.list
 }
 
-/// Values of cells and of math, and identifiers of definitions.
 /// Tag names and what is none: each code point where the letters or the
 /// numbers of the Rust begin or end, and its neighbour, alone and behind `a`;
 /// and strings over the signs that a tag may have, digits and letters.
@@ -248,6 +247,7 @@ fn edges() -> Vec<char> {
     list
 }
 
+/// Values of cells and of math, and identifiers of definitions.
 pub fn pipes() -> Vec<Vec<u8>> {
     let mut texts = Texts::default();
     texts.add_all(strings(b"\\|a", 6));

@@ -2,8 +2,9 @@
 
 use cases::{Numbers, RECORD_WORDS};
 
-/// How many records there are at most in all sheets that are made of one, in
-/// about; a small sheet has each of its records edited.
+/// So many records of a sheet are edited that, for one edit of each, all the
+/// edited sheets together have about this number of records: so a large sheet
+/// has few of its records edited, and a small one all.
 const MOST_RECORDS: usize = 20_000;
 
 /// How many records of a sheet are edited at most.
