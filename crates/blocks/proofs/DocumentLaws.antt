@@ -5,7 +5,6 @@ use Prim.Native.Nat.{ℕ, ◌<◌}
 use native.Mathlib.Nat.{sub-zero}
 use native.Mathlib.Omega.{arith}
 use borrow.Author.Tests.{lt-ltb}
-use lib.ListN.{length}
 use Rattle.leaves.specs.Sheet.Records.{records_of}
 use Rattle.leaves.specs.Sheet.Forest.{Forest, no_tree, tree, deeper, forest_of, under}
 use Rattle.leaves.specs.Refusal.Places.{after_child}
@@ -17,10 +16,7 @@ use Rattle.leaves.specs.declared.report.entries.Tally.{Tally}
 use Rattle.leaves.specs.Report.Listed.{path_of}
 use Rattle.leaves.specs.declared.sheet.trees.Records.{Records}
 use Rattle.leaves.specs.declared.report.entries.Report.{Report}
-use lib.ListN.{length, take}
-use Rattle.leaves.specs.Refusal.Limits.{most_level}
 use Rattle.inlines.specs.Walk.{Walked}
-use Rattle.inlines.proofs.WalkLaws.{WalkStart, start_of}
 use Rattle.blocks.specs.Before.{no_block}
 use Rattle.blocks.specs.Walk.{validate_blocks, validate_document}
 
@@ -49,8 +45,3 @@ lists-as s x y e l = rw (y, ← e, ← s, ← x) l
 pub document-done : (w : List ℕ) {bytes : List ℕ} → Sound w bytes → {k j : Records} {x y : Report} → OfSheet w bytes k → {before after : List ℕ} → x.words.now ≡ before → x.tally ≡ empty_tally → (x.depth ≡ 0) × (x.level ≡ 0) → Walked k j x.level x y (validate_blocks k.bytes.now (path_of x) 0 no_block (trees k x.level)) → after ≡ y.words.now → WritesEntries empty_tally y.tally before after (validate_document w bytes)
 document-done w s {k} a v t top d f =
     lists-as t v f (document-is w a.bytes (rw top.0) (ap (trees k) top.1 ∙ document-trees s a)) d.adds.lists
-
--- what acceptance gives the walk of the whole sheet, which begins at record 0 with a path of no words in an array of
--- `most_level` words
-pub document-begin : (p : List ℕ) {w bytes : List ℕ} {n : ℕ} → Sound w bytes → n ≡ records_of w → length p ≡ most_level → record { start : WalkStart w (take 0 p) n 0; words : length p ≡ most_level }
-document-begin p s e l = record { start = start_of s e (omega arith) (omega arith); words = l }

@@ -13,7 +13,7 @@ use Rattle.leaves.specs.declared.sheet.records.Rec.{Rec}
 use Rattle.leaves.specs.Refusal.Groups.{parent_of_blocks, parent_of_items, parent_group}
 use Rattle.leaves.specs.Refusal.Places.{before_children, after_child, misplaced}
 use Rattle.leaves.specs.declared.refusal.places.Open.{Open}
-use Rattle.leaves.proofs.refusal.PlacedLaws.{items-only, joined-group, opened-group}
+use Rattle.leaves.proofs.refusal.PlacedLaws.{items-only, child-keeps-group, first-has-group}
 use Rattle.leaves.specs.Refusal.Formed.{Formed, Sound}
 use Rattle.blocks.specs.WalkDepth.{depth_under, Counted}
 
@@ -48,8 +48,8 @@ counted : (bytes : List ℕ) (l depth : ℕ) (o : Open) (ts : Forest) → Formed
 unfolding Formed Counted
 counted bytes l depth o no_tree f a = tt
 counted bytes l depth o (tree r kids rest) f a =
-    let below : Agree (before_children (parent_group r.kind r.a)).group (l + 1) (depth_under depth r) = rw (opened-group (parent_group r.kind r.a)) (agree-under r l depth) in
-    let beside : Agree (after_child o r.kind).group l depth = rw (joined-group o r.kind) a in (
+    let below : Agree (before_children (parent_group r.kind r.a)).group (l + 1) (depth_under depth r) = rw (first-has-group (parent_group r.kind r.a)) (agree-under r l depth) in
+    let beside : Agree (after_child o r.kind).group l depth = rw (child-keeps-group o r.kind) a in (
       λ b. rw f.0.level (shift l ∙ a o r.kind refl f.0.kind b f.0.place),
       counted bytes (l + 1) (depth_under depth r) (before_children (parent_group r.kind r.a)) kids f.1 below,
       counted bytes l depth (after_child o r.kind) rest f.2 beside,

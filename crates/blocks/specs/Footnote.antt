@@ -1,7 +1,8 @@
 -- A footnote definition, up to the walk of its blocks. `path` is its own.
 -- All that stands under it is a block. Document 01: "blocks under the sheet, quote, alert, item and footnote
 -- definition".
-use Rattle.std.specs.Prelude.{ℕ, suc, true, ◌&&◌, ◌||◌, List, [], ◌∷◌, ◌++◌, eqb, if◌then◌else◌}
+use Rattle.std.specs.Prelude.{ℕ, suc, true, ◌&&◌, ◌||◌, List, [], ◌∷◌, ◌++◌, eqb}
+use Rattle.std.specs.Prelude.{if◌then◌else◌}
 use Rattle.leaves.specs.Sheet.Kinds.{blank_line}
 use Rattle.leaves.specs.Sheet.Forest.{Forest, no_tree, tree, count_trees}
 use Rattle.leaves.specs.Report.Entries.{Entry, list_if, ◌⊕◌}

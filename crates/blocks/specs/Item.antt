@@ -2,7 +2,8 @@
 -- function in validate.rs. `path` is the item's own.
 -- All that stands under an item is a block. Document 01: "blocks under the sheet, quote, alert, item and footnote
 -- definition".
-use Rattle.std.specs.Prelude.{ℕ, suc, Bool, false, not, ◌&&◌, List, [], ◌∷◌, ◌++◌, eqb, if◌then◌else◌}
+use Rattle.std.specs.Prelude.{ℕ, suc, Bool, false, not, ◌&&◌, List, [], ◌∷◌, ◌++◌, eqb}
+use Rattle.std.specs.Prelude.{if◌then◌else◌}
 use Rattle.leaves.specs.Sheet.Kinds.{paragraph, definition, blank_line}
 use Rattle.leaves.specs.Sheet.Forest.{Forest, no_tree, tree, count_trees}
 use Rattle.leaves.specs.Report.Entries.{Entry, list_if, ◌⊕◌}

@@ -1,10 +1,10 @@
 -- Loops over every record of the trees deeper than a level.
 use mathlib.Core.Path.{◌≡◌, refl, sym, ap, ◌∙◌}
 use mathlib.Core.Bool.{Bool}
-use mathlib.Core.List.{List, [], ◌∷◌, ◌++◌, append_assoc}
+use mathlib.Core.List.{List, [], ◌++◌}
 use Prim.Native.Nat.{ℕ, ◌+◌, ◌<◌}
 use Rattle.leaves.specs.Sheet.Records.{record_at}
-use Rattle.std.specs.List.{flat_map}
+use Rattle.std.proofs.lemmas.Grind.{flat_map-append}
 use Rattle.leaves.specs.Sheet.Forest.{Forest, no_tree, tree, under, records_in}
 use Rattle.leaves.specs.Sheet.Trees.{trees, ReadsNext}
 use Rattle.leaves.specs.Report.Entries.{Entry, list_if, ◌⊕◌}
@@ -21,13 +21,9 @@ pub each_none : (entries : Rec → List Entry) → each_record entries no_tree �
 unfolding each_record records_in
 each_none entries = refl
 
-flat-append : (entries : Rec → List Entry) (rs qs : List Rec) → flat_map entries (rs ++ qs) ≡ flat_map entries rs ++ flat_map entries qs
-flat-append entries [] qs = refl
-flat-append entries (r ∷ rs) qs = ap (λ es. entries r ++ es) (flat-append entries rs qs) ∙ sym (append_assoc (entries r) (flat_map entries rs) (flat_map entries qs))
-
 pub each-tree : (entries : Rec → List Entry) (r : Rec) (kids rest : Forest) → each_record entries (tree r kids rest) ≡ (entries r ⊕ (each_record entries kids ⊕ each_record entries rest))
 unfolding each_record records_in ◌⊕◌
-each-tree entries r kids rest = ap (λ es. entries r ++ es) (flat-append entries (records_in kids) (records_in rest))
+each-tree entries r kids rest = ap (λ es. entries r ++ es) (flat_map-append entries (records_in kids) (records_in rest))
 
 of-tree : (entries : Rec → List Entry) (r : Rec) (kids rest : Forest) → each_record entries (tree r kids rest) ≡ (entries r ⊕ each_record entries kids) ⊕ each_record entries rest
 of-tree entries r kids rest = each-tree entries r kids rest ∙ sym (join-assoc (entries r) (each_record entries kids) (each_record entries rest))

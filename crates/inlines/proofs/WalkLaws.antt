@@ -2,15 +2,12 @@
 use mathlib.Core.Path.{◌≡◌, refl, sym, ap, ◌∙◌}
 use mathlib.Core.Bool.{Bool, true, false}
 use mathlib.Core.List.{List, []}
-use Prim.Native.Nat.{ℕ, ◌+◌, ◌-◌, ◌*◌, ◌<◌, ◌≤◌}
+use Prim.Native.Nat.{ℕ, ◌+◌, ◌-◌, ◌<◌, ◌≤◌}
 use native.Mathlib.Nat.{sub-add-eq}
 use native.Mathlib.Omega.{arith}
 use borrow.Author.Tests.{ltb-true, ltb-false}
 use lib.Dec.{ltb}
-use lib.ListN.{length}
-use Rattle.leaves.specs.Refusal.Limits.{most_records, most_level}
-use Rattle.leaves.specs.Refusal.Formed.{Sound}
-use Rattle.leaves.specs.Sheet.Records.{record_at, records_of, record_words}
+use Rattle.leaves.specs.Sheet.Records.{record_at}
 use Rattle.leaves.specs.Sheet.Forest.{Forest, no_tree, tree, deeper, after_deeper, forest_at, under, size}
 use Rattle.leaves.specs.Sheet.Trees.{trees, ReadsNext, Ends}
 use Rattle.leaves.specs.Report.Entries.{Entry, ◌⊕◌}
@@ -18,7 +15,7 @@ use Rattle.leaves.specs.Report.Listed.{path_of, Adds}
 use Rattle.leaves.specs.declared.sheet.records.Rec.{Rec}
 use Rattle.leaves.specs.declared.sheet.trees.Records.{Records}
 use Rattle.leaves.specs.declared.report.entries.Report.{Report}
-use Rattle.leaves.proofs.sheet.ForestLaws.{past-in, past-out, deeper-in, deeper-out, past-at, under-in}
+use Rattle.leaves.proofs.sheet.ForestLaws.{after-in, after-out, deeper-in, deeper-out, after-at, under-in}
 use Rattle.leaves.proofs.sheet.TreesLaws.{Passing, passing-start, passing-end, reads-deep, reads-kids, trees-moved}
 use Rattle.leaves.proofs.report.EntryLaws.{join-assoc, join-none, none-join}
 use Rattle.leaves.proofs.report.ListedLaws.{adds-none, adds-then}
@@ -35,8 +32,8 @@ module _ (h : Forest → List Entry) (g : Rec → Forest → List Entry) (at_non
       go : (t : Bool) → ltb m r.level ≡ t → h (deeper l rest) ≡ h (deeper m rest) ⊕ h (deeper l (after_deeper m rest)) → h (deeper l (tree r kids rest)) ≡ h (deeper m (tree r kids rest)) ⊕ h (deeper l (after_deeper m (tree r kids rest)))
       go true e ih =
           let d : m < r.level = ltb-true _ _ e in
-          rw (past-in m r kids rest d, deeper-in l r kids rest (omega arith), deeper-in m r kids rest d, at-tree r kids (deeper l rest), at-tree r kids (deeper m rest), ih) (sym (join-assoc (g r kids) (h (deeper m rest)) (h (deeper l (after_deeper m rest)))))
-      go false e ih = rw (past-out m r kids rest (ltb-false _ _ e), deeper-out m r kids rest (ltb-false _ _ e), at_none) (sym (none-join (h (deeper l (tree r kids rest)))))
+          rw (after-in m r kids rest d, deeper-in l r kids rest (omega arith), deeper-in m r kids rest d, at-tree r kids (deeper l rest), at-tree r kids (deeper m rest), ih) (sym (join-assoc (g r kids) (h (deeper m rest)) (h (deeper l (after_deeper m rest)))))
+      go false e ih = rw (after-out m r kids rest (ltb-false _ _ e), deeper-out m r kids rest (ltb-false _ _ e), at_none) (sym (none-join (h (deeper l (tree r kids rest)))))
 
   module _ (w : List ℕ) (n i l : ℕ) (b : i < n) (d : l < (record_at w i).level) where
     -- record i with its kids, and then what comes after them
@@ -45,7 +42,7 @@ module _ (h : Forest → List Entry) (g : Rec → Forest → List Entry) (at_non
 
     -- its kids, and then what comes after them, are the records after it
     pub spine-kids : h (under w n (i + 1) l) ≡ h (under w n (i + 1) (record_at w i).level) ⊕ h (under w n (i + 1 + size (under w n (i + 1) (record_at w i).level)) l)
-    spine-kids = rw (past-at, ← sub-add-eq n (i + 1)) at (spine-split l (record_at w i).level (omega arith) (forest_at w (n - (i + 1)) (i + 1)))
+    spine-kids = rw (after-at, ← sub-add-eq n (i + 1)) at (spine-split l (record_at w i).level (omega arith) (forest_at w (n - (i + 1)) (i + 1)))
 
     -- where a record lists what its kids list as trees, the records after it list the whole
     spine-on : g (record_at w i) (under w n (i + 1) (record_at w i).level) ≡ h (under w n (i + 1) (record_at w i).level) → h (under w n i l) ≡ h (under w n (i + 1) l)
@@ -92,26 +89,3 @@ module _ {level : ℕ} {x : Records} {p : Report} where
     loop-end e k =
         let r : v.before ≡ es = sym (join-none v.before) ∙ rw (k.empty, e) at v.rest in
         record { moved = passing-end v.passing k; adds = rw r at v.adds }
-
--- ---- the levels left. `left` levels are enough below `level`; then one less is enough below a deeper record, of the level
--- m, and the number of a cycle of calls falls: twice the levels left for a loop, and one more for a record. The walks
--- take 64 less the level for `left`.
-pub record Falls (left m : ℕ) : Type 0 where
-  pub some : 1 ≤ left
-  pub rest : most_level ≤ left - 1 + m
-  pub less : 2 * (left - 1) + 1 < 2 * left
-
-pub levels-fall : {left level m : ℕ} → most_level ≤ left + level → m ≤ most_level → level < m → Falls left m
-levels-fall enough most d = record { some = omega arith; rest = omega arith; less = omega arith }
-
--- ---- what acceptance gives a walk of the first n records of a sheet from record `from` on, with a path of at most 64
--- words: what `Records` and `Report` keep of them
-pub record WalkStart (w path : List ℕ) (n from : ℕ) : Type 0 where
-  pub whole : n * record_words ≤ length w
-  pub few : n ≤ most_records
-  pub shallow : (i : ℕ) → i < n → (record_at w i).level ≤ most_level
-  pub inside : from ≤ n
-  pub short : length path ≤ most_level
-
-pub start_of : {w bytes path : List ℕ} {n from : ℕ} → Sound w bytes → n ≡ records_of w → from ≤ n → length path ≤ 64 → WalkStart w path n from
-start_of sound e b s = rw e (record { whole = omega (arith, sound.whole); few = sound.few; shallow = sound.shallow; inside = rw e at b; short = s })

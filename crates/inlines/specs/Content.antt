@@ -2,7 +2,8 @@
 -- validate.rs is given the list of the inlines: here it is `inlines_of` a forest, and all others look at that list.
 -- `path` is the path of the enclosing block or cell.
 use mathlib.Core.List.{get_last_d, head_d}
-use Rattle.std.specs.Prelude.{ℕ, Bool, false, not, ◌&&◌, List, [], ◌∷◌, map, filter, eqb, if◌then◌else◌}
+use Rattle.std.specs.Prelude.{ℕ, Bool, false, not, ◌&&◌, List, [], ◌∷◌, map, filter, eqb}
+use Rattle.std.specs.Prelude.{if◌then◌else◌}
 use Rattle.std.specs.List.{list_all}
 use Rattle.leaves.specs.Text.Over.{is_empty_list}
 use Rattle.leaves.specs.Sheet.Kinds.{is_inline, line_break}

@@ -1,6 +1,7 @@
 -- What the code gathers in one pass over inlines side by side. No contract of a public function cites these
 -- definitions: `ContentLaws` proves that they agree with those of `Content`.
-use Rattle.std.specs.Prelude.{Option, Some, None, ℕ, true, false, not, ◌&&◌, ◌||◌, List, [], eqb, if◌then◌else◌}
+use Rattle.std.specs.Prelude.{Option, Some, None, ℕ, true, false, not, ◌&&◌, ◌||◌, List, [], eqb}
+use Rattle.std.specs.Prelude.{if◌then◌else◌}
 use Rattle.leaves.specs.Sheet.Kinds.{is_inline, line_break}
 use Rattle.leaves.specs.Sheet.Forest.{Forest, no_tree, tree}
 use Rattle.leaves.specs.Report.Entries.{Entry, list_if}

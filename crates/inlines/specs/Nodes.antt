@@ -14,20 +14,20 @@ unfoldable pub use Rattle.inlines.specs.Content.{is_one_joined, holds_joined, br
 unfoldable pub use Rattle.inlines.specs.Own.{validate_inline_values}
 unfoldable pub use Rattle.inlines.specs.Node.{validate_text_directive, validate_emphasis_container, validate_inline}
 
--- One inline: the entries of it and the inline before it, whose kind is `before`; then its own; then `under`, those
+-- One inline: the entries of it and the inline before it, whose kind is `before`; then its own; then `below`, those
 -- of its children. Every kind that has children walks them last.
 unfoldable pub validate_node : List ℕ → List ℕ → ℕ → Rec → Forest → List Entry → List Entry
-validate_node bytes path before r kids under =
+validate_node bytes path before r kids below =
     if is_inline r.kind
-    then validate_siblings path r.span before r.kind r.a ⊕ validate_inline bytes path r kids ⊕ under
+    then validate_siblings path r.span before r.kind r.a ⊕ validate_inline bytes path r kids ⊕ below
     else []
 
 -- `validate_inline_nodes`. `before` is the kind of the inline before these trees, `no_kind` where there is none.
 unfoldable pub validate_inline_nodes_after : List ℕ → List ℕ → ℕ → Forest → List Entry
 validate_inline_nodes_after bytes path before no_tree = []
 validate_inline_nodes_after bytes path before (tree r kids rest) =
-    let under = validate_inline_nodes_after bytes path no_kind kids in
-    validate_node bytes path before r kids under
+    let below = validate_inline_nodes_after bytes path no_kind kids in
+    validate_node bytes path before r kids below
     ⊕ validate_inline_nodes_after bytes path (if is_inline r.kind then r.kind else before) rest
 
 unfoldable pub validate_inline_nodes : List ℕ → List ℕ → Forest → List Entry

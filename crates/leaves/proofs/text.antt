@@ -8,6 +8,7 @@ pub mod FenceLaws
 pub mod FieldLaws
 pub mod FieldReadLaws
 pub mod LastLaws
+pub mod LetterRangeLaws
 pub mod LineExamples
 pub mod LineLaws
 pub mod LineTestLaws
@@ -21,10 +22,10 @@ pub mod PartExamples
 pub mod PipeExamples
 pub mod PipeLaws
 pub mod PunctuationExamples
-pub mod RangeLaws
 pub mod ScalarLaws
 pub mod ScanLaws
-pub mod TagLaws
+pub mod TagNameExamples
+pub mod TagNameLaws
 pub mod TestLaws
 pub mod TitleExamples
 pub mod TitleLaws

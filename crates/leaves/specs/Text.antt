@@ -17,7 +17,7 @@ pub mod Punctuation
 pub mod Same
 pub mod ScalarScans
 pub mod Scalars
-pub mod TagScans
+pub mod TagNameScans
 pub mod Title
 pub mod Trim
 pub mod UnicodeLetters

@@ -48,7 +48,8 @@ answered_of (Some function) w bytes lent m =
     else ((called_of function w bytes (take m lent)).0, (called_of function w bytes (take m lent)).1 ++ drop m lent)
 
 -- the answer is compared, where the call fits, and every word: it is the stored one, and as before behind those
-unfoldable pub call_compared : Option Function → List ℕ → List ℕ → ℕ → List ℕ → Bool → ℕ → List ℕ → Tally → Tally
+unfoldable pub call_compared : Option Function → List ℕ → List ℕ → ℕ → List ℕ
+    → Bool → ℕ → List ℕ → Tally → Tally
 call_compared function w bytes m lent fits answer stored t =
     comparing (same_words (answered_of function w bytes lent m).1 stored before_word)
     (comparing (fits && eqb (answered_of function w bytes lent m).0 answer) t)

@@ -33,9 +33,9 @@ zeros = replicate 16777217 0
 unfoldable pub untouched_words : List ℕ
 untouched_words = replicate 65544 before_word
 
--- The answer is compared, and every lent word: at the front as many bytes as the record says are zeros (taken from the
--- text), and every word behind them is as before. The sheet and the text are the fronts of the long ones; the record
--- has their lengths.
+-- The answer is compared, and every lent word: zero bytes at the front, as many as the record says, and behind them
+-- words that are as before. (The zeros are taken from the text.) The sheet and the text are the fronts of the long
+-- ones; the record has their lengths.
 unfoldable pub call_replayed : List ℕ → List ℕ → List ℕ → Tally → Tally
 call_replayed r sheet text t =
     call_compared (function_of (number_at r 0))

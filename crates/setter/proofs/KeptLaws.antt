@@ -51,9 +51,9 @@ pub opened-kept : (i : ℕ) (r : Rec) (f : Frame) (st : List Frame) → opened_i
 unfolding kept_of opened_in columns nearest in_link only_empty last_mark marker_behind
 opened-kept i r f st = refl
 
-pub joined-kept : (r : Rec) (f : Frame) (st : List Frame) → after_kid (kept_of f st) r ≡ kept_of (with_kid r f) st
+pub kid-kept : (r : Rec) (f : Frame) (st : List Frame) → after_kid (kept_of f st) r ≡ kept_of (with_kid r f) st
 unfolding kept_of after_kid columns nearest in_link only_empty last_mark marker_behind
-joined-kept r f st = rw (add-one (length f.kids))
+kid-kept r f st = rw (add-one (length f.kids))
 
 -- ---- an item that opens has a small number, or none
 -- where the lowest of the stops is none, no row of that moment holds

@@ -28,7 +28,7 @@ use Rattle.setter.proofs.StepLaws.{Low, open-one, close-one, goes_on, stops-here
 use Rattle.setter.specs.Kept.{most_kids, most_item_mark, kept_of, seen_by, opened_in, after_kid}
 use Rattle.setter.specs.declared.kept.Kept.{Kept}
 use Rattle.setter.proofs.SetLaws.{stop-numbered}
-use Rattle.setter.proofs.KeptLaws.{seen-kept, opened-kept, joined-kept, small-number}
+use Rattle.setter.proofs.KeptLaws.{seen-kept, opened-kept, kid-kept, small-number}
 use Rattle.setter.specs.Answer.{stop_number, Answers}
 use Rattle.setter.specs.SetOutcome.{after_run}
 use Rattle.setter.specs.MachineRunning.{next_level}
@@ -261,7 +261,7 @@ module _ {w bytes old : List ℕ} {n : ℕ} {new : List ℕ} {os : List Kept} {d
     close-turn {q} h eq =
         let on = goes_on bytes (closes z.top (z.under ∷ z.around)) after-close (sym closes-stop ∙ h) in
         let d : length z.around ≡ depth - 1 = omega (arith, z.deep) in
-        let e : q ≡ kept_of (with_kid z.top.of z.under) z.around = eq ∙ rw (under-kept, closes-of) (joined-kept z.top.of z.under z.around) in
+        let e : q ≡ kept_of (with_kid z.top.of z.under) z.around = eq ∙ rw (under-kept, closes-of) (kid-kept z.top.of z.under z.around) in
         let o = z.held.1.0 in
         record {
           ok = z.running.ok;

@@ -1,7 +1,8 @@
 -- Demand 3: the machine's stops and the check's list agree. Document 01: "Demand 3 is one statement over all sheets and
 -- texts that both accept, with the whole table of stops in it, and not a statement for each stop or rule. Its list is
 -- the entries the check wrote; its run and stop are the machine's on the same sheet and text." The table is `stops`.
-use Rattle.std.specs.Prelude.{ℕ, ◌+◌, ◌<◌, ◌≤◌, ◌≡◌, ◌⊎◌, ◌↔◌, true, List, [], ◌∷◌, ◌++◌, eqb, if◌then◌else◌}
+use Rattle.std.specs.Prelude.{ℕ, ◌+◌, ◌<◌, ◌≤◌, ◌≡◌, ◌⊎◌, ◌↔◌, true, List, []}
+use Rattle.std.specs.Prelude.{◌∷◌, ◌++◌, eqb, if◌then◌else◌}
 use Rattle.leaves.specs.Sheet.Records.{records_of}
 use Rattle.leaves.specs.Report.Entries.{Entry}
 use Rattle.blocks.specs.Walk.{validate_document}
@@ -21,12 +22,12 @@ SomeEntry P [] = ⊥
 SomeEntry P (e ∷ es) = P e ⊎ SomeEntry P es
 
 -- it is of a rule named beside any of the stops
-abbrev pub BesideAStop : Entry → Type 0
-BesideAStop e = named e.rule ≡ true
+abbrev pub OfSomeStop : Entry → Type 0
+OfSomeStop e = named e.rule ≡ true
 
 -- it is of a rule named beside that very stop, and its path begins with that of the block
-abbrev pub BesideStop : ℕ → List ℕ → Entry → Type 0
-BesideStop s p e = (beside s e.rule ≡ true) × Begins p e.path
+abbrev pub OfStop : ℕ → List ℕ → Entry → Type 0
+OfStop s p e = (beside s e.rule ≡ true) × Begins p e.path
 
 -- ---- how often record i is opened, and closed
 unfoldable pub times_opened : ℕ → List Step → ℕ
@@ -53,9 +54,10 @@ pub record Whole (w : List ℕ) (r : Run) : Type 0 where
 -- ---- the three sentences, of a sheet, its text, and a list of entries
 pub record Agrees (w bytes : List ℕ) (es : List Entry) : Type 0 where
   -- the machine stops exactly when the list holds a diagnostic of a rule named beside any of the stops
-  pub exactly : StopsSomewhere (run w bytes) ↔ SomeEntry BesideAStop es
+  pub exactly : StopsSomewhere (run w bytes) ↔ SomeEntry OfSomeStop es
   -- when it stops, the list holds a diagnostic of a rule named beside that very stop whose path begins with the block's
-  pub there : (stop i : ℕ) (path : List ℕ) → StopsAt (run w bytes) stop i path → SomeEntry (BesideStop stop path) es
+  pub there : (stop i : ℕ) (path : List ℕ)
+      → StopsAt (run w bytes) stop i path → SomeEntry (OfStop stop path) es
   -- when it doesn't stop, it opens and closes every record exactly once and reaches the end
   pub whole : (StopsSomewhere (run w bytes) → ⊥) → Whole w (run w bytes)
   -- and so it does whenever the list is empty

@@ -21,4 +21,5 @@ pub record ChecksAndSets
   pub machine : Answers (set_outcome w bytes marks) set marked
   -- Demand 3, where the check accepts: "Its list is the entries the check wrote; its run and stop are the machine's on
   -- the same sheet and text." The entries are read back from the report's words.
-  pub demand : (checked_answer checked).number ≡ 0 → Agrees w bytes (entries_in (checked_answer checked).value written)
+  pub demand : (checked_answer checked).number ≡ 0
+      → Agrees w bytes (entries_in (checked_answer checked).value written)

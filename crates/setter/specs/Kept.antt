@@ -1,6 +1,7 @@
 -- What the machine's code keeps of an open record, in place of the records themselves. A reader need not believe these:
 -- the machine's promise does not cite them.
-use Rattle.std.specs.Prelude.{ℕ, ◌+◌, Bool, true, false, ◌&&◌, ◌||◌, List, [], ◌∷◌, eqb, length, if◌then◌else◌}
+use Rattle.std.specs.Prelude.{ℕ, ◌+◌, Bool, true, false, ◌&&◌, ◌||◌, List, [], ◌∷◌, eqb, length}
+use Rattle.std.specs.Prelude.{if◌then◌else◌}
 use Rattle.leaves.specs.Sheet.Kinds.{among, is_inline, list, table, blank_line, link, link_reference}
 use Rattle.leaves.specs.declared.sheet.records.Rec.{Rec}
 use Rattle.leaves.specs.Sheet.Classes.{is_break}
@@ -59,7 +60,7 @@ seen_by r k kids empty =
       nearest = k.nearest;
       linked = k.linked;
       ordered = k.ordered;
-      before = k.kids;
+      siblings_before = k.kids;
       broke = k.broke;
       joins = eqb k.marker (written_marker r.a r.b);
       number = k.number;

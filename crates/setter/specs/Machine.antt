@@ -1,7 +1,8 @@
 -- The run of the setting machine of document 01, and the block that it stops in. Its openings and closings are in
 -- `Steps`, its stops in `Stops`, its marks in `Marks`.
 -- "It works from the sheet and its text alone, without the checker or its list."
-use Rattle.std.specs.Prelude.{ℕ, suc, ◌≡◌, Bool, ◌||◌, List, [], ◌∷◌, ◌++◌, eqb, if◌then◌else◌}
+use Rattle.std.specs.Prelude.{ℕ, suc, ◌≡◌, Bool, ◌||◌, List, [], ◌∷◌, ◌++◌, eqb}
+use Rattle.std.specs.Prelude.{if◌then◌else◌}
 use Rattle.leaves.specs.Sheet.Kinds.{is_block, item}
 use Rattle.leaves.specs.Sheet.Records.{records_of}
 use Rattle.leaves.specs.declared.sheet.records.Rec.{Rec}

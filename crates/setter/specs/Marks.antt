@@ -11,7 +11,7 @@ mark_of r s =
     if eqb r.kind heading
     then r.a
     else if eqb r.kind cell
-    then s.before + 1
+    then s.siblings_before + 1
     else if eqb r.kind item && s.ordered
     then item_mark r s.number
     else 0

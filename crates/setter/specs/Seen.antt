@@ -1,6 +1,7 @@
 -- What the stops and the marks of the setting machine go by: what is open around a record, its siblings before it, and
 -- its own children that have closed.
-use Rattle.std.specs.Prelude.{ℕ, ◌+◌, Bool, true, false, ◌&&◌, ◌||◌, List, [], ◌∷◌, eqb, length, if◌then◌else◌}
+use Rattle.std.specs.Prelude.{ℕ, ◌+◌, Bool, true, false, ◌&&◌, ◌||◌, List, [], ◌∷◌, eqb, length}
+use Rattle.std.specs.Prelude.{if◌then◌else◌}
 use Rattle.leaves.specs.Sheet.Kinds.{among, no_kind, is_inline, list, table, blank_line}
 use Rattle.leaves.specs.Sheet.Kinds.{text, link, link_reference, soft_break, line_break}
 use Rattle.leaves.specs.declared.sheet.records.Rec.{Rec}
@@ -12,7 +13,7 @@ abbrev pub siblings : List Frame → List Rec
 siblings [] = []
 siblings (f ∷ around) = f.kids
 
--- A of the nearest open table: "table's A" of the stops 1 and 2; 0 where there is none
+-- A of the nearest open table, by which stops 1 and 2 go; 0 where there is none
 unfoldable pub columns : List Frame → ℕ
 columns [] = 0
 columns (f ∷ around) = let outer = columns around in if eqb f.of.kind table then f.of.a else outer
@@ -52,10 +53,10 @@ unfoldable pub only_empty : List Rec → Bool
 only_empty [] = true
 only_empty (s ∷ ss) = (eqb s.kind text && eqb s.first.len 0) && only_empty ss
 
--- the number of an ordered item: its "own number, else the item before plus 1, else 1", where `before` is that of the
+-- the number of an ordered item: its "own number, else the item before plus 1, else 1", where `last` is that of the
 -- item before, and 0 where there is none
 abbrev pub item_mark : Rec → ℕ → ℕ
-item_mark r before = if eqb r.b 1 then r.c else before + 1
+item_mark r last = if eqb r.b 1 then r.c else last + 1
 
 -- the number of the newest of those items; 0 where there is none
 unfoldable pub last_mark : List Rec → ℕ
@@ -73,7 +74,7 @@ pub record Seen : Type 0 where
   -- the record that holds it has an A of 1: for an item, its list is ordered
   pub ordered : Bool
   -- how many siblings stand before it
-  pub before : ℕ
+  pub siblings_before : ℕ
   -- the sibling straight before it is an inline break
   pub broke : Bool
   -- the sibling before it, only blank lines skipped, is a list of its written marker (asked only where it is a list)
@@ -93,7 +94,7 @@ seen f around =
       nearest = nearest around;
       linked = in_link around;
       ordered = ordered around;
-      before = length (siblings around);
+      siblings_before = length (siblings around);
       broke = behind_break (siblings around);
       joins = behind_list (siblings around) f.of;
       number = last_mark (siblings around);

@@ -1,6 +1,7 @@
 -- The stops of the setting machine: document 01's table, a row for each stop. The machine's definition and demand 3
 -- both read it. The conditions name kinds as the paper does, and not by the classes that the check's rules go by.
-use Rattle.std.specs.Prelude.{ℕ, Bool, true, false, not, ◌&&◌, ◌||◌, List, [], ◌∷◌, eqb, ltb, leb, if◌then◌else◌}
+use Rattle.std.specs.Prelude.{ℕ, Bool, true, false, not, ◌&&◌, ◌||◌, List, [], ◌∷◌, eqb, ltb, leb}
+use Rattle.std.specs.Prelude.{if◌then◌else◌}
 use Rattle.leaves.specs.Text.Bytes.{between}
 use Rattle.leaves.specs.Text.Lines.{holds_line_ending}
 use Rattle.leaves.specs.Sheet.Kinds
@@ -40,7 +41,7 @@ abbrev pub stops : List Row
 stops =
     -- "cell position (from 0) not below table's A"
     stop_row 1 opening (16 ∷ 17 ∷ 18 ∷ 19 ∷ [])
-    (λ bytes r s. eqb r.kind Kinds.cell && leb s.columns s.before)
+    (λ bytes r s. eqb r.kind Kinds.cell && leb s.columns s.siblings_before)
     -- "row closed with under A cells"
     ∷ stop_row 2 closing (16 ∷ 17 ∷ 18 ∷ 19 ∷ [])
     (λ bytes r s. eqb r.kind Kinds.row && ltb s.kids s.columns)

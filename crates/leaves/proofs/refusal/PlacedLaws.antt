@@ -24,13 +24,13 @@ module _ (o : Open) (k : ℕ) (h : misplaced o k ≡ false) where
   in_order = ltb-false _ _ (or_right (eqb (place_of o.group k) 0) _ firsts)
 
 -- the states under one parent have one group
-pub joined-group : (o : Open) (k : ℕ) → (after_child o k).group ≡ o.group
+pub child-keeps-group : (o : Open) (k : ℕ) → (after_child o k).group ≡ o.group
 unfolding after_child
-joined-group o k = refl
+child-keeps-group o k = refl
 
-pub opened-group : (g : ℕ) → (before_children g).group ≡ g
+pub first-has-group : (g : ℕ) → (before_children g).group ≡ g
 unfolding before_children
-opened-group g = refl
+first-has-group g = refl
 
 -- ---- a rule of all kinds under a group, by one computed test
 under-test : ℕ → (ℕ → Bool) → ℕ → Bool

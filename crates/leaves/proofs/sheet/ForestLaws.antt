@@ -13,13 +13,13 @@ use Rattle.leaves.specs.Sheet.Forest.{Forest, no_tree, tree, deeper, after_deepe
 use Rattle.leaves.specs.declared.sheet.records.Rec.{Rec}
 
 module _ (l : ℕ) (r : Rec) (kids rest : Forest) where
-  pub past-in : l < r.level → after_deeper l (tree r kids rest) ≡ after_deeper l rest
+  pub after-in : l < r.level → after_deeper l (tree r kids rest) ≡ after_deeper l rest
   unfolding after_deeper
-  past-in h = rw (lt-ltb l r.level h)
+  after-in h = rw (lt-ltb l r.level h)
 
-  pub past-out : r.level ≤ l → after_deeper l (tree r kids rest) ≡ tree r kids rest
+  pub after-out : r.level ≤ l → after_deeper l (tree r kids rest) ≡ tree r kids rest
   unfolding after_deeper
-  past-out h = rw (le-ltb l r.level h)
+  after-out h = rw (le-ltb l r.level h)
 
   pub deeper-in : l < r.level → deeper l (tree r kids rest) ≡ tree r kids (deeper l rest)
   unfolding deeper
@@ -29,15 +29,15 @@ module _ (l : ℕ) (r : Rec) (kids rest : Forest) where
   unfolding deeper
   deeper-out h = rw (le-ltb l r.level h)
 
-pub past-past : (l m : ℕ) → l ≤ m → (f : Forest) → after_deeper l (after_deeper m f) ≡ after_deeper l f
+pub after-after : (l m : ℕ) → l ≤ m → (f : Forest) → after_deeper l (after_deeper m f) ≡ after_deeper l f
 unfolding after_deeper
-past-past l m h no_tree = refl
-past-past l m h (tree r kids rest) = go (ltb m r.level) refl (past-past l m h rest)
+after-after l m h no_tree = refl
+after-after l m h (tree r kids rest) = go (ltb m r.level) refl (after-after l m h rest)
   where
     go : (b : Bool) → ltb m r.level ≡ b → after_deeper l (after_deeper m rest) ≡ after_deeper l rest → after_deeper l (after_deeper m (tree r kids rest)) ≡ after_deeper l (tree r kids rest)
     go true e ih =
-        rw (past-in m r kids rest (ltb-true _ _ e), past-in l r kids rest (let h2 : m < r.level = ltb-true _ _ e in omega arith)) ih
-    go false e ih = rw (past-out m r kids rest (ltb-false _ _ e)) refl
+        rw (after-in m r kids rest (ltb-true _ _ e), after-in l r kids rest (let h2 : m < r.level = ltb-true _ _ e in omega arith)) ih
+    go false e ih = rw (after-out m r kids rest (ltb-false _ _ e)) refl
 
 pub size-deeper : (l m : ℕ) → l ≤ m → (f : Forest) → size (deeper l f) ≡ size (deeper m f) + size (deeper l (after_deeper m f))
 unfolding after_deeper deeper size
@@ -46,9 +46,9 @@ size-deeper l m h (tree r kids rest) = go (ltb m r.level) refl (size-deeper l m 
   where
     go : (b : Bool) → ltb m r.level ≡ b → size (deeper l rest) ≡ size (deeper m rest) + size (deeper l (after_deeper m rest)) → size (deeper l (tree r kids rest)) ≡ size (deeper m (tree r kids rest)) + size (deeper l (after_deeper m (tree r kids rest)))
     go true e ih =
-        rw (past-in m r kids rest (ltb-true _ _ e), deeper-in l r kids rest (let h2 : m < r.level = ltb-true _ _ e in omega arith), deeper-in m r kids rest (ltb-true _ _ e)) (omega (arith, ih))
+        rw (after-in m r kids rest (ltb-true _ _ e), deeper-in l r kids rest (let h2 : m < r.level = ltb-true _ _ e in omega arith), deeper-in m r kids rest (ltb-true _ _ e)) (omega (arith, ih))
     go false e ih =
-        rw (past-out m r kids rest (ltb-false _ _ e), deeper-out m r kids rest (ltb-false _ _ e)) (omega arith)
+        rw (after-out m r kids rest (ltb-false _ _ e), deeper-out m r kids rest (ltb-false _ _ e)) (omega arith)
 
 pub size-split : (l : ℕ) (f : Forest) → size f ≡ size (deeper l f) + size (after_deeper l f)
 unfolding after_deeper deeper size
@@ -59,7 +59,7 @@ size-split l (tree r kids rest) = go (ltb l r.level) refl (size-split l rest)
     go true e ih = rw e (omega (arith, ih))
     go false e ih = rw e (omega arith)
 
--- one step of `past-at`, at a record r in front of a forest f
+-- one step of `after-at`, at a record r in front of a forest f
 module _ (w : List ℕ) (k i l : ℕ) (r : Rec) (f : Forest) (ih : after_deeper l f ≡ forest_at w (k - size (deeper l f)) (suc i + size (deeper l f))) where
   step_in : l < r.level → after_deeper l (grow r f) ≡ forest_at w (suc k - size (deeper l (grow r f))) (i + size (deeper l (grow r f)))
   unfolding grow size
@@ -67,19 +67,19 @@ module _ (w : List ℕ) (k i l : ℕ) (r : Rec) (f : Forest) (ih : after_deeper 
       let n : size (deeper l f) ≡ size (deeper r.level f) + size (deeper l (after_deeper r.level f)) = size-deeper l r.level (omega arith) f in
       let p : suc k - suc (size (deeper r.level f) + size (deeper l (after_deeper r.level f))) ≡ k - size (deeper l f) = omega arith in
       let q : i + suc (size (deeper r.level f) + size (deeper l (after_deeper r.level f))) ≡ suc i + size (deeper l f) = omega arith in
-      rw (past-in l r (deeper r.level f) (after_deeper r.level f) h, deeper-in l r (deeper r.level f) (after_deeper r.level f) h, past-past l r.level (omega arith) f)
+      rw (after-in l r (deeper r.level f) (after_deeper r.level f) h, deeper-in l r (deeper r.level f) (after_deeper r.level f) h, after-after l r.level (omega arith) f)
       (rw (p, q) ih)
 
   step-out : r.level ≤ l → grow r f ≡ forest_at w (suc k) i → after_deeper l (grow r f) ≡ forest_at w (suc k - size (deeper l (grow r f))) (i + size (deeper l (grow r f)))
   unfolding grow size
   step-out h e =
-      rw (deeper-out l r (deeper r.level f) (after_deeper r.level f) h, add-zero, sub-zero) (past-out l r (deeper r.level f) (after_deeper r.level f) h ∙ e)
+      rw (deeper-out l r (deeper r.level f) (after_deeper r.level f) h, add-zero, sub-zero) (after-out l r (deeper r.level f) (after_deeper r.level f) h ∙ e)
 
 -- moving past the trees deeper than l is moving on by as many records as they hold
-pub past-at : (w : List ℕ) (k i l : ℕ) → after_deeper l (forest_at w k i) ≡ forest_at w (k - size (deeper l (forest_at w k i))) (i + size (deeper l (forest_at w k i)))
+pub after-at : (w : List ℕ) (k i l : ℕ) → after_deeper l (forest_at w k i) ≡ forest_at w (k - size (deeper l (forest_at w k i))) (i + size (deeper l (forest_at w k i)))
 unfolding forest_at after_deeper deeper size
-past-at w zero i l = refl
-past-at w (suc k) i l = go (ltb l (record_at w i).level) refl (past-at w k (suc i) l)
+after-at w zero i l = refl
+after-at w (suc k) i l = go (ltb l (record_at w i).level) refl (after-at w k (suc i) l)
   where
     go : (b : Bool) → ltb l (record_at w i).level ≡ b → after_deeper l (forest_at w k (suc i)) ≡ forest_at w (k - size (deeper l (forest_at w k (suc i)))) (suc i + size (deeper l (forest_at w k (suc i)))) → after_deeper l (forest_at w (suc k) i) ≡ forest_at w (suc k - size (deeper l (forest_at w (suc k) i))) (i + size (deeper l (forest_at w (suc k) i)))
     go true e ih = step_in w k i l (record_at w i) (forest_at w k (suc i)) ih (ltb-true _ _ e)
@@ -147,7 +147,7 @@ module _ (w : List ℕ) (n i : ℕ) where
 
     pub under-in : l < (record_at w i).level → under w n i l ≡ tree (record_at w i) (under w n (i + 1) (record_at w i).level) (under w n (i + 1 + size (under w n (i + 1) (record_at w i).level)) l)
     unfolding grow
-    under-in d = rw (forest_step, deeper-in l (record_at w i) _ _ d, past-at, sub-add-eq n (i + 1))
+    under-in d = rw (forest_step, deeper-in l (record_at w i) _ _ d, after-at, sub-add-eq n (i + 1))
 
     pub size_step : l < (record_at w i).level → size (under w n i l) ≡ suc (size (under w n (i + 1) l))
     unfolding grow size

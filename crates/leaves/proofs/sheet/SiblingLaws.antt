@@ -45,24 +45,24 @@ module _ {A : Type 0} (sheet : A) (first : Rec → A) (next : A → Rec → A) (
   at l i = fold_siblings sheet first next w l i
 
   -- under record i nothing stands before its first child
-  pub gather-kid : (i l : ℕ) → (record_at w i).level ≡ l → at (l + 1) (i + 1) ≡ first (record_at w i)
+  pub siblings-kid : (i l : ℕ) → (record_at w i).level ≡ l → at (l + 1) (i + 1) ≡ first (record_at w i)
   unfolding fold_siblings
-  gather-kid i l e = rw (add-one i, eq-eqb ((record_at w i).level + 1) (l + 1) (ap (λ n. n + 1) e))
+  siblings-kid i l e = rw (add-one i, eq-eqb ((record_at w i).level + 1) (l + 1) (ap (λ n. n + 1) e))
 
   -- record i is one child more
-  pub gather-next : (i l : ℕ) → (record_at w i).level ≡ l → at l (i + 1) ≡ next (at l i) (record_at w i)
+  pub siblings-next : (i l : ℕ) → (record_at w i).level ≡ l → at l (i + 1) ≡ next (at l i) (record_at w i)
   unfolding fold_siblings
-  gather-next i l e = rw (add-one i, ne_eqb ((record_at w i).level + 1) l (λ f. absurd (omega arith)), eq-eqb (record_at w i).level l e)
+  siblings-next i l e = rw (add-one i, ne_eqb ((record_at w i).level + 1) l (λ f. absurd (omega arith)), eq-eqb (record_at w i).level l e)
 
   -- a record that is deeper changes nothing
-  pub gather-deeper : (i l : ℕ) → l < (record_at w i).level → at l (i + 1) ≡ at l i
+  pub siblings-deeper : (i l : ℕ) → l < (record_at w i).level → at l (i + 1) ≡ at l i
   unfolding fold_siblings
-  gather-deeper i l h = rw (add-one i, ne_eqb ((record_at w i).level + 1) l (λ f. absurd (omega arith)), ne_eqb (record_at w i).level l (λ f. absurd (omega arith)))
+  siblings-deeper i l h = rw (add-one i, ne_eqb ((record_at w i).level + 1) l (λ f. absurd (omega arith)), ne_eqb (record_at w i).level l (λ f. absurd (omega arith)))
 
   -- and neither do all the records of the trees deeper than it
-  pub gather-past : (n m s j : ℕ) → size (under w n j m) ≡ s → at m (j + s) ≡ at m j
-  gather-past n m zero j e = rw add-zero
-  gather-past n m (suc s) j e =
+  pub siblings-past : (n m s j : ℕ) → size (under w n j m) ≡ s → at m (j + s) ≡ at m j
+  siblings-past n m zero j e = rw add-zero
+  siblings-past n m (suc s) j e =
       let (h, d) = begins w n m j s e in
       let p : j + suc s ≡ j + 1 + s = omega arith in
-      rw p (gather-past n m s (j + 1) (size_less w n m j s e) ∙ gather-deeper j m d)
+      rw p (siblings-past n m s (j + 1) (size_less w n m j s e) ∙ siblings-deeper j m d)

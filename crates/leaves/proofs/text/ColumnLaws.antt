@@ -137,7 +137,7 @@ module _ {old ns out : List ℕ} {at end i : ℕ} (w : Writing old ns out at end
         let z : end ≡ at + length (fields ns) = omega (arith, w.place, all-written) in
         let is : out ≡ over old at (fields ns) = rw (all-written, take-length) at w.is in
         let one : set out end lf ≡ over out end (lf ∷ []) = set_split out end lf write-last ∙ sym (over-fits out end (lf ∷ []) (omega (arith, write-last)) ∙ rw add-one (append_snoc (take end out) lf (drop (suc end) out))) in
-        record { written = one ∙ rw (z, is) (over-two old (fields ns) (lf ∷ []) at (omega arith)); ends = omega (arith, line-long ns) }
+        record { written = one ∙ rw (z, is) (over-two old (fields ns) (lf ∷ []) at (omega arith)); next_is = omega (arith, line-long ns) }
 
 pub ruleset inking = (write-start, write-room, write-next, write-last, write-end, rules)
 

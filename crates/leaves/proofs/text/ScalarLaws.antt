@@ -5,11 +5,11 @@ use mathlib.Core.List.{List, [], ◌∷◌}
 use Prim.Native.Nat.{ℕ, zero, suc, ◌+◌, ◌*◌, ◌%◌, ◌<◌}
 use native.Mathlib.Omega.{arith}
 use lib.Dec.{eqb, ltb, eqb-suc-zero}
-use lib.ListN.{length, take, drop, get_or, take-append-drop, length-drop}
+use lib.ListN.{length}
 use borrow.Author.Tests.{ltb-true}
 use Rattle.std.specs.Prelude.{if◌then◌else◌}
 use Rattle.leaves.specs.Text.Utf8.{Range, ◌to◌, within, trail, table_3_7, follow}
-use Rattle.leaves.specs.Text.Scalars.{lead_bits, trail_bits}
+use Rattle.leaves.specs.Text.Scalars.{replacement, lead_bits, trail_bits, emit, decode}
 use Rattle.leaves.specs.Text.Utf8Scans.{breaks_character, expected_after}
 use Rattle.leaves.specs.Text.ScalarScans.{value_after, room}
 use Rattle.leaves.specs.Text.Utf8Expected.{trail_columns}
@@ -43,10 +43,7 @@ fits_after (r ∷ o) value b h k = go (within r b) refl
 
 long : (more low high : ℕ) → length (trail_columns more low high) ≡ more
 long zero low high = refl
-long (suc n) low high = ap suc (length-trails n)
-  where
-    length-trails : (n : ℕ) → length (lib.ListN.replicate n trail) ≡ n
-    length-trails n = lib.ListN.length-replicate n trail
+long (suc n) low high = ap suc (lib.ListN.length-replicate n trail)
 
 pub value_is : (more low high value b : ℕ) → value_after (trail_columns more low high) value b ≡ (if eqb more 0 || breaks_character (trail_columns more low high) b then lead_bits b else value * 0x40 + b % 0x40)
 unfolding value_after breaks_character trail_bits
@@ -63,3 +60,18 @@ room_kept more low high before l h value b k f e =
     let g : value < room (length (trail_columns before l h)) = rw (long before l h) f in
     let r : value_after (trail_columns before l h) value b < room (length (trail_columns more low high)) = rw e (fits_after (trail_columns before l h) value b k g) in
     rw (long more low high) at r
+
+-- ---- one byte more
+
+-- one byte more: U+FFFD where it breaks what is expected, and then what it begins or goes on with
+abbrev pub step_next : List Range → ℕ → ℕ → List ℕ → List ℕ
+step_next o v b s = emit (expected_after o b) (value_after o v b) (decode (expected_after o b) (value_after o v b) s)
+
+pub decode-step : (o : List Range) (v b : ℕ) (s : List ℕ) → decode o v (b ∷ s) ≡ (if breaks_character o b then replacement ∷ step_next o v b s else step_next o v b s)
+unfolding decode expected_after value_after breaks_character
+decode-step [] v b s = refl
+decode-step (r ∷ o) v b s = go (within r b) refl
+  where
+    go : (t : Bool) → within r b ≡ t → decode (r ∷ o) v (b ∷ s) ≡ (if breaks_character (r ∷ o) b then replacement ∷ step_next (r ∷ o) v b s else step_next (r ∷ o) v b s)
+    go true e = rw e refl
+    go false e = rw e refl

@@ -1,4 +1,4 @@
--- The scalar values of a text, a byte at a time; and the last of them from where the last character begins.
+-- White space at the ends of a text: the loops, and the last character from where it begins.
 use mathlib.Core.Path.{◌≡◌, refl, sym, ap, ◌∙◌}
 use mathlib.Core.Bool.{Bool, true, false, ◌&&◌, true≢false}
 use mathlib.Core.List.{List, [], ◌∷◌, ◌++◌, get_last_d, head_d}
@@ -11,7 +11,7 @@ use borrow.Author.Tests.{leb-true}
 use Rattle.std.specs.Prelude.{if◌then◌else◌}
 use Rattle.leaves.specs.Text.Over.{is_empty_list}
 use Rattle.leaves.specs.Text.Utf8.{Range, within, trail, table_3_7, follow}
-use Rattle.leaves.specs.Text.Scalars.{replacement, lead_bits, trail_bits, emit, decode, scalars}
+use Rattle.leaves.specs.Text.Scalars.{replacement, lead_bits, emit, decode, scalars}
 use Rattle.leaves.specs.Text.Utf8Scans.{breaks_character, expected_after}
 use Rattle.leaves.specs.Text.ScalarScans.{value_after, BeginsScalar}
 use Rattle.leaves.specs.Text.Utf8Expected.{trail_columns}
@@ -21,24 +21,23 @@ use Rattle.leaves.proofs.text.TestLaws.{and_left, and_right}
 use Rattle.leaves.proofs.text.Utf8Laws.{whole, from-to}
 use Rattle.leaves.proofs.text.ScanLaws.{scan}
 use Rattle.leaves.proofs.text.LastLaws.{last-cons}
+use Rattle.leaves.proofs.text.ScalarLaws.{step_next, decode-step}
 
 -- ---- one byte more
 last-emit : (o : List Range) (v d : ℕ) (s : List ℕ) → get_last_d (emit o v s) d ≡ get_last_d s (if is_empty_list o then v else d)
-unfolding emit get_last_d is_empty_list
+unfolding emit is_empty_list
 last-emit [] v d s = last-cons v d s
 last-emit (r ∷ o) v d s = refl
 
 last_step : (o : List Range) (v d b : ℕ) (s : List ℕ) → get_last_d (decode o v (b ∷ s)) d ≡ get_last_d (decode (expected_after o b) (value_after o v b) s) (if is_empty_list (expected_after o b) then value_after o v b else if breaks_character o b then replacement else d)
-unfolding decode expected_after value_after breaks_character get_last_d
-last_step [] v d b s = last-emit (follow table_3_7 b) (lead_bits b) d (decode (follow table_3_7 b) (lead_bits b) s)
-last_step (r ∷ o) v d b s = go (within r b) refl
+last_step o v d b s = ap (λ xs. get_last_d xs d) (decode-step o v b s) ∙ go (breaks_character o b)
   where
-    go : (t : Bool) → within r b ≡ t → get_last_d (decode (r ∷ o) v (b ∷ s)) d ≡ get_last_d (decode (expected_after (r ∷ o) b) (value_after (r ∷ o) v b) s) (if is_empty_list (expected_after (r ∷ o) b) then value_after (r ∷ o) v b else if breaks_character (r ∷ o) b then replacement else d)
-    go true e = rw e (last-emit o (trail_bits v b) d (decode o (trail_bits v b) s))
-    go false e = rw e (last-cons replacement d (emit (follow table_3_7 b) (lead_bits b) (decode (follow table_3_7 b) (lead_bits b) s)) ∙ last-emit (follow table_3_7 b) (lead_bits b) replacement (decode (follow table_3_7 b) (lead_bits b) s))
+    go : (t : Bool) → get_last_d (if t then replacement ∷ step_next o v b s else step_next o v b s) d ≡ get_last_d (decode (expected_after o b) (value_after o v b) s) (if is_empty_list (expected_after o b) then value_after o v b else if t then replacement else d)
+    go true = last-cons replacement d (step_next o v b s) ∙ last-emit (expected_after o b) (value_after o v b) replacement (decode (expected_after o b) (value_after o v b) s)
+    go false = last-emit (expected_after o b) (value_after o v b) d (decode (expected_after o b) (value_after o v b) s)
 
 last-broken : (r : Range) (o : List Range) (v d b : ℕ) (s : List ℕ) → within r b ≡ false → get_last_d (decode (r ∷ o) v (b ∷ s)) d ≡ get_last_d (decode [] 0 (b ∷ s)) replacement
-unfolding decode get_last_d
+unfolding decode
 last-broken r o v d b s e = rw e (last-cons replacement d (emit (follow table_3_7 b) (lead_bits b) (decode (follow table_3_7 b) (lead_bits b) s)))
 
 first-emit : (o : List Range) (v d : ℕ) (s : List ℕ) → head_d (emit o v s) d ≡ (if is_empty_list o then v else head_d s d)
@@ -47,13 +46,12 @@ first-emit [] v d s = refl
 first-emit (r ∷ o) v d s = refl
 
 first_step : (o : List Range) (v b : ℕ) (s : List ℕ) → head_d (decode o v (b ∷ s)) replacement ≡ (if breaks_character o b then replacement else if is_empty_list (expected_after o b) then value_after o v b else head_d (decode (expected_after o b) (value_after o v b) s) replacement)
-unfolding decode expected_after value_after breaks_character head_d
-first_step [] v b s = first-emit (follow table_3_7 b) (lead_bits b) replacement (decode (follow table_3_7 b) (lead_bits b) s)
-first_step (r ∷ o) v b s = go (within r b) refl
+unfolding head_d
+first_step o v b s = ap (λ xs. head_d xs replacement) (decode-step o v b s) ∙ go (breaks_character o b)
   where
-    go : (t : Bool) → within r b ≡ t → head_d (decode (r ∷ o) v (b ∷ s)) replacement ≡ (if breaks_character (r ∷ o) b then replacement else if is_empty_list (expected_after (r ∷ o) b) then value_after (r ∷ o) v b else head_d (decode (expected_after (r ∷ o) b) (value_after (r ∷ o) v b) s) replacement)
-    go true e = rw e (first-emit o (trail_bits v b) replacement (decode o (trail_bits v b) s))
-    go false e = rw e
+    go : (t : Bool) → head_d (if t then replacement ∷ step_next o v b s else step_next o v b s) replacement ≡ (if t then replacement else if is_empty_list (expected_after o b) then value_after o v b else head_d (decode (expected_after o b) (value_after o v b) s) replacement)
+    go true = refl
+    go false = first-emit (expected_after o b) (value_after o v b) replacement (decode (expected_after o b) (value_after o v b) s)
 
 -- ---- the last character, from where it begins
 pick : (p : List Range) (w c d : ℕ) (s : List ℕ) → ((x y : ℕ) → is_empty_list p ≡ false → get_last_d (decode p w s) x ≡ get_last_d (decode p w s) y) → get_last_d (decode p w s) (if is_empty_list p then w else c) ≡ get_last_d (decode p w s) (if is_empty_list p then w else d)

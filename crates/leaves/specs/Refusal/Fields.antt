@@ -59,7 +59,8 @@ unfoldable pub has_first : ℕ → ℕ → Bool
 has_first kind a =
     eqb kind alert && eqb a 1
     || among kind (code_block ∷ frontmatter ∷ text ∷ code ∷ html ∷ math ∷ [])
-    || among kind (definition ∷ footnote_definition ∷ link_reference ∷ image_reference ∷ footnote_reference ∷ [])
+    || among kind
+    (definition ∷ footnote_definition ∷ link_reference ∷ image_reference ∷ footnote_reference ∷ [])
     || among kind (leaf_directive ∷ container_directive ∷ text_directive ∷ html_tag ∷ attribute ∷ tag ∷ [])
     || among kind (link ∷ image ∷ autolink ∷ wiki_link ∷ [])
 

@@ -1,6 +1,7 @@
 -- What acceptance says of the tree that a sheet holds. A reader need not believe these: they follow from `judge_sheet`,
 -- and the walks and the machine cite them.
-use Rattle.std.specs.Prelude.{◌≡◌, true, false, ◌&&◌, List, ℕ, ◌+◌, ◌*◌, ◌<◌, ◌≤◌, eqb, ltb, length}
+use Rattle.std.specs.Prelude.{◌≡◌, true, false, ◌&&◌, List, ℕ, ◌+◌, ◌*◌, ◌<◌, ◌≤◌, eqb}
+use Rattle.std.specs.Prelude.{ltb, length}
 use Rattle.leaves.specs.Text.Utf8.{is_utf8}
 use Rattle.leaves.specs.Sheet.Kinds.{is_kind, html_container, html_tag}
 use Rattle.leaves.specs.Sheet.Records.{record_at, records_of, record_words}

@@ -1,6 +1,7 @@
 -- Which sheets are refused, with which number and record. Document 01, 'The call': "Order: 1, 2, 3; then 4 to 9 record
 -- by record; then 10 over all records, giving the first such container".
-use Rattle.std.specs.Prelude.{ℕ, zero, suc, ◌%◌, ◌≡◌, not, List, eqb, ltb, length, Err, Ok, if◌then◌else◌}
+use Rattle.std.specs.Prelude.{ℕ, zero, suc, ◌%◌, ◌≡◌, not, List, eqb, ltb, length, Err, Ok}
+use Rattle.std.specs.Prelude.{if◌then◌else◌}
 use Rattle.leaves.specs.Sheet.Records.{record_words, records_of, record_at}
 use Rattle.leaves.specs.Refusal.Places.{open_at}
 use Rattle.leaves.specs.Refusal.Verdict.{Answer, Judged, judged_answer, or_else}

@@ -2,7 +2,8 @@
 -- Document 01: "Children: blocks under the sheet, quote, alert, item and footnote definition; items under list; rows,
 -- then cells; inlines under paragraph, heading, cell and what `Inline::children` lists. Directives: attributes, then
 -- inlines, then (container only) blocks. HTML container: opening tag, closing tag, content of its sort."
-use Rattle.std.specs.Prelude.{ℕ, suc, ◌+◌, Bool, not, ◌&&◌, ◌||◌, List, [], ◌∷◌, eqb, ltb, leb, if◌then◌else◌}
+use Rattle.std.specs.Prelude.{ℕ, suc, ◌+◌, Bool, not, ◌&&◌, ◌||◌, List, [], ◌∷◌, eqb, ltb, leb}
+use Rattle.std.specs.Prelude.{if◌then◌else◌}
 use Rattle.leaves.specs.Sheet.Kinds.{html_tag}
 use Rattle.leaves.specs.Sheet.Siblings.{fold_siblings}
 use Rattle.leaves.specs.Refusal.Groups.{parent_of_blocks, parent_of_items, parent_of_rows, parent_of_cells}

@@ -1,5 +1,6 @@
 -- The tests of one record. Document 01, 'The call': "then 4 to 9 record by record".
-use Rattle.std.specs.Prelude.{ℕ, zero, suc, ◌+◌, Bool, not, ◌||◌, List, eqb, ltb, Err, Ok, if◌then◌else◌}
+use Rattle.std.specs.Prelude.{ℕ, zero, suc, ◌+◌, Bool, not, ◌||◌, List, eqb, ltb, Err, Ok}
+use Rattle.std.specs.Prelude.{if◌then◌else◌}
 use Rattle.leaves.specs.Sheet.Kinds.{is_kind}
 use Rattle.leaves.specs.Sheet.Records.{record_at}
 use Rattle.leaves.specs.Refusal.Places.{misplaced}

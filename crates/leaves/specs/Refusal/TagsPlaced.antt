@@ -1,6 +1,7 @@
 -- What the code knows when it looks for tags. A reader need not believe these: `judge_tags` asks for them, `accept`
 -- gives them, and the promise of `accept` does not cite them.
-use Rattle.std.specs.Prelude.{◌≡◌, ℕ, ◌*◌, ◌<◌, ◌≤◌, Bool, false, ◌&&◌, List, eqb, ltb, length}
+use Rattle.std.specs.Prelude.{◌≡◌, ℕ, ◌*◌, ◌<◌, ◌≤◌, Bool, false, ◌&&◌, List, eqb, ltb}
+use Rattle.std.specs.Prelude.{length}
 use Rattle.leaves.specs.Sheet.Kinds.{html_tag}
 use Rattle.leaves.specs.Sheet.Records.{record_words, record_at}
 use Rattle.leaves.specs.Refusal.Places.{misplaced, open_at}

@@ -7,7 +7,8 @@ use Rattle.leaves.specs.declared.sheet.records.Rec.{Rec}
 -- nearest earlier record one level up"); the records of `level` after it are the earlier children.
 -- `fold_siblings` goes through them from left to right. It begins with `sheet`, takes `first` at a parent, and takes
 -- `next` at each child.
-unfoldable pub fold_siblings : {A : Type 0} → A → (Rec → A) → (A → Rec → A) → List ℕ → ℕ → ℕ → A
+unfoldable pub fold_siblings : {A : Type 0} → A → (Rec → A) → (A → Rec → A)
+    → List ℕ → ℕ → ℕ → A
 fold_siblings sheet first next w level zero = sheet
 fold_siblings sheet first next w level (suc i) =
     let before = fold_siblings sheet first next w level i in

@@ -1,6 +1,7 @@
 -- Bytes that a loop passes over sixteen at a time. A reader need not believe these: the proofs of the loops equate what
 -- they say with the definitions of other files, and no promise to a caller of the library cites them.
-use Rattle.std.specs.Prelude.{◌≡◌, ℕ, zero, suc, Bool, true, false, not, ◌&&◌, List, [], ◌∷◌, eqb, ltb, drop}
+use Rattle.std.specs.Prelude.{◌≡◌, ℕ, zero, suc, Bool, true, false, not, ◌&&◌, List, [], ◌∷◌, eqb}
+use Rattle.std.specs.Prelude.{ltb, drop}
 
 abbrev pub chunk : ℕ
 chunk = 16

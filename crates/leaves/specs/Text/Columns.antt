@@ -19,7 +19,7 @@ line ns = fields ns ++ lf ∷ []
 -- the bytes are written into the output from place `at` on, and end before place `next`
 pub record Writes (old : List ℕ) (at : ℕ) (bytes new : List ℕ) (next : ℕ) : Type 0 where
   pub written : new ≡ over old at bytes
-  pub ends : next ≡ at + length bytes
+  pub next_is : next ≡ at + length bytes
 
 -- ---- a line as it is read, from the front of s
 

@@ -1,7 +1,8 @@
 -- How the code reads a text, a byte at a time. The proofs equate each of these with a definition of another file, and
 -- no promise to a caller cites them.
 use mathlib.Core.List.{get_last_d, head_d}
-use Rattle.std.specs.Prelude.{◌≡◌, ℕ, ◌<◌, ◌≤◌, Bool, true, false, ◌&&◌, ◌||◌, List, [], ◌∷◌, length}
+use Rattle.std.specs.Prelude.{◌≡◌, ℕ, ◌<◌, ◌≤◌, Bool, true, false, ◌&&◌, ◌||◌, List, []}
+use Rattle.std.specs.Prelude.{◌∷◌, length}
 use Rattle.std.specs.Prelude.{get_or, drop, if◌then◌else◌}
 use Rattle.leaves.specs.Text.Bytes.{is_blank_byte, is_line_ending_byte}
 use Rattle.leaves.specs.Text.Lines.{is_cr_of_crlf, lines, is_blank}
@@ -28,4 +29,5 @@ pub record Led (s : List ℕ) (at : ℕ) : Type 0 where
 -- `at` is the start, or the byte at it is neither blank nor a line ending
 pub record Solid (s : List ℕ) (at : ℕ) : Type 0 where
   pub inside : at ≤ length s
-  pub firm : 0 < at → (at < length s) × ((is_blank_byte (get_or s at 0) || is_line_ending_byte (get_or s at 0)) ≡ false)
+  pub firm : 0 < at
+      → (at < length s) × ((is_blank_byte (get_or s at 0) || is_line_ending_byte (get_or s at 0)) ≡ false)

@@ -1,6 +1,7 @@
 -- How the code reads a text, a byte at a time. The proofs equate each of these with a definition of another file, and
 -- no promise to a caller cites them.
-use Rattle.std.specs.Prelude.{ℕ, ◌-◌, Bool, ◌||◌, Option, Some, None, List, [], ◌∷◌, eqb, if◌then◌else◌}
+use Rattle.std.specs.Prelude.{ℕ, ◌-◌, Bool, ◌||◌, Option, Some, None, List, [], ◌∷◌, eqb}
+use Rattle.std.specs.Prelude.{if◌then◌else◌}
 use Rattle.std.specs.Option.{option_eq}
 use Rattle.leaves.specs.Text.Bytes.{is_blank_byte, is_line_ending_byte}
 use Rattle.leaves.specs.Text.Lines.{is_cr_of_crlf}

@@ -3,7 +3,8 @@
 -- Writing and reading agree (proofs/text/FieldReadLaws.antt): a written number is read back (`written_read`), bytes
 -- that are read as a number are that number written (`read-written`), and no number is written as malformed bytes
 -- (`malformed-unwritten`).
-use Rattle.std.specs.Prelude.{ℕ, zero, suc, ◌+◌, ◌-◌, ◌*◌, ◌/◌, ◌%◌, ◌&&◌, ◌||◌, List, if◌then◌else◌}
+use Rattle.std.specs.Prelude.{ℕ, zero, suc, ◌+◌, ◌-◌, ◌*◌, ◌/◌, ◌%◌, ◌&&◌, ◌||◌, List}
+use Rattle.std.specs.Prelude.{if◌then◌else◌}
 use Rattle.std.specs.Prelude.{[], ◌∷◌, ◌++◌, eqb, ltb, leb, length, get_or, Option, Some, None}
 use Rattle.leaves.specs.Text.Bytes.{space, is_digit}
 

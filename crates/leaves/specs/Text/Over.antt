@@ -1,5 +1,6 @@
 -- A list written over a part of another, and whether a list is empty.
-use Rattle.std.specs.Prelude.{Bool, true, false, if◌then◌else◌, List, [], ◌∷◌, ◌++◌, ℕ, ◌+◌, leb, length, take, drop}
+use Rattle.std.specs.Prelude.{Bool, true, false, if◌then◌else◌, List, [], ◌∷◌, ◌++◌, ℕ, ◌+◌}
+use Rattle.std.specs.Prelude.{leb, length, take, drop}
 
 -- the list is empty
 unfoldable pub is_empty_list : {A : Type 0} → List A → Bool

@@ -1,6 +1,7 @@
 -- How the code reads the values of a text's characters, a byte at a time. The proofs equate each of these with a
 -- definition of another file, and no promise to a caller cites them.
-use Rattle.std.specs.Prelude.{◌≡◌, ℕ, zero, suc, ◌<◌, ◌≤◌, false, List, [], ◌∷◌, length, get_or, if◌then◌else◌}
+use Rattle.std.specs.Prelude.{◌≡◌, ℕ, zero, suc, ◌<◌, ◌≤◌, false, List, [], ◌∷◌, length}
+use Rattle.std.specs.Prelude.{get_or, if◌then◌else◌}
 use Rattle.leaves.specs.Text.Utf8.{Range, within, trail}
 use Rattle.leaves.specs.Text.Scalars.{lead_bits, trail_bits}
 

@@ -1,4 +1,4 @@
--- The letters and the numbers of the Unicode Character Database 15.1.0, as src/unicode_letters.rs has them: the code
+-- The letters and the numbers of the Unicode Character Database 15.1.0, as unicode_letters.rs has them: the code
 -- points of the general categories `L*` and `N*`, in inclusive ranges. The entries are those of the Rust file, in its
 -- order; NOTICE has its source.
 use Rattle.std.specs.Prelude.{ℕ, Bool, true, false, ◌&&◌, ◌||◌, List, [], ◌∷◌, eqb, leb, ltb}
@@ -813,7 +813,7 @@ number_ranges =
     ∷ (0x1FBF0, 0x1FBF9)
     ∷ []
 
--- each range is above the one before it, `before` the end of that, and does not end before it starts
+-- the ranges ascend and do not overlap, and none ends before it starts; `before` is the end of the range before them
 unfoldable pub are_above : ℕ → List (ℕ × ℕ) → Bool
 are_above before [] = true
 are_above before (r ∷ ranges) = ltb before r.0 && leb r.0 r.1 && are_above r.1 ranges
@@ -840,7 +840,8 @@ unfoldable pub is_tag_name_of : List ℕ → Bool
 is_tag_name_of [] = false
 is_tag_name_of (c ∷ cs) = is_unicode_letter c && list_all is_tag_name_char cs
 
--- `is_tag_name`: "Whether `name` is a tag name: a Unicode letter followed by chars that `is_tag_name_char` accepts."
--- Document 02: "An empty name fails."
+-- `is_tag_name`: "Whether `name` is a tag name: a Unicode letter followed by chars that [`is_tag_name_char`] accepts."
+-- An empty name is none. An ill-formed sequence of bytes is U+FFFD, which is no letter and no number, so a name that
+-- has one is none.
 unfoldable pub is_tag_name : List ℕ → Bool
 is_tag_name s = is_tag_name_of (scalars s)

@@ -16,6 +16,8 @@ pub(crate) const PLUS: u8 = b'+';
 
 pub(crate) const HYPHEN: u8 = b'-';
 
+pub(crate) const SLASH: u8 = b'/';
+
 pub(crate) const COLON: u8 = b':';
 
 pub(crate) const BACKSLASH: u8 = b'\\';

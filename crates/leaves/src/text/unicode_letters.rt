@@ -1,10 +1,11 @@
-// The letters and the numbers of Unicode, and tag names: src/unicode_letters.rs.
+// The letters and the numbers of Unicode, and tag names: unicode_letters.rs of the Rust.
 ghost use Rattle.std.specs.Prelude.{◌≡◌, true};
 ghost use Rattle.leaves.specs.Text.UnicodeLetters.{letter_ranges, number_ranges, are_ranges, in_ranges};
 ghost use Rattle.leaves.specs.Text.UnicodeLetters.{is_unicode_letter, is_tag_name_char, is_tag_name};
-ghost use Rattle.leaves.specs.Text.TagScans.{continues_tag_name};
+ghost use Rattle.leaves.specs.Text.TagNameScans.{is_ascii_tag_name_char, fits_tag_name};
 
 use crate::text::bytes;
+use crate::text::bytes::{HYPHEN, SLASH, UNDERSCORE};
 use crate::text::scalars::Character;
 use std::cmp::Ordering;
 
@@ -833,42 +834,52 @@ fn in_ranges(ranges: &[(u32, u32)], c: u32) -> bool
 
 // The two tables. A static is not copied where it is mentioned, as a constant would be.
 #[tactic(auto, unfolding(crate::specs::Text::UnicodeLetters::letter_ranges))]
-fn letters() -> &'static [(u32, u32)]
+fn letter_ranges() -> &'static [(u32, u32)]
     ensures { result.now ≡ letter_ranges }
 {
     &LETTER_RANGES
 }
 
 #[tactic(auto, unfolding(crate::specs::Text::UnicodeLetters::number_ranges))]
-fn numbers() -> &'static [(u32, u32)]
+fn number_ranges() -> &'static [(u32, u32)]
     ensures { result.now ≡ number_ranges }
 {
     &NUMBER_RANGES
 }
 
 // Whether `c` is a Unicode letter. Those of ASCII are not searched for.
-#[tactic(auto, using(crate::proofs::text::RangeLaws::letters))]
+#[tactic(auto, using(crate::proofs::text::LetterRangeLaws::letter_laws))]
 fn is_unicode_letter(c: u32) -> bool
     ensures { result ≡ is_unicode_letter c }
 {
     if c < 0x80 {
         return bytes::is_letter(c as u8);
     }
-    in_ranges(letters(), c)
+    in_ranges(letter_ranges(), c)
 }
 
-// Whether `c` can continue a tag name: a letter or a number, `/`, `_` or `-`.
-#[tactic(auto, using(crate::proofs::text::RangeLaws::numbers), unfolding(crate::specs::Text::UnicodeLetters::is_tag_name_char))]
+// Whether an ASCII character can continue a tag name.
+fn is_ascii_tag_name_char(b: u8) -> bool
+    ensures { result ≡ is_ascii_tag_name_char b }
+{
+    bytes::is_letter(b) || bytes::is_digit(b) || matches!(b, SLASH | UNDERSCORE | HYPHEN)
+}
+
+// Whether `c` can continue a tag name: a letter or a number, `/`, `_` or `-`. Those of ASCII are not searched for.
+#[tactic(auto, using(crate::proofs::text::LetterRangeLaws::number_laws))]
 fn is_tag_name_char(c: u32) -> bool
     ensures { result ≡ is_tag_name_char c }
 {
-    is_unicode_letter(c) || matches!(c, 0x2F | 0x5F | 0x2D) || in_ranges(numbers(), c)
+    if c < 0x80 {
+        return is_ascii_tag_name_char(c as u8);
+    }
+    in_ranges(letter_ranges(), c) || in_ranges(number_ranges(), c)
 }
 
 // Whether `c` can stand in a tag name: at its front (`first`), or behind other characters.
-#[tactic(auto, unfolding(crate::specs::Text::TagScans::continues_tag_name))]
-fn continues_tag_name(first: bool, c: u32) -> bool
-    ensures { result ≡ continues_tag_name first c }
+#[tactic(auto, unfolding(crate::specs::Text::TagNameScans::fits_tag_name))]
+fn fits_tag_name(first: bool, c: u32) -> bool
+    ensures { result ≡ fits_tag_name first c }
 {
     if first {
         is_unicode_letter(c)
@@ -877,7 +888,8 @@ fn continues_tag_name(first: bool, c: u32) -> bool
     }
 }
 
-// Rule 56: whether the name is a letter, and then letters, numbers, `/`, `_` and `-`.
+// Whether the name is a letter, and then letters, numbers, `/`, `_` and `-`. An ill-formed sequence of bytes is U+FFFD,
+// which is no letter and no number, so such a name is none.
 pub fn is_tag_name(s: &[u8]) -> bool
     ensures { result ≡ is_tag_name s.now }
 {
@@ -889,7 +901,7 @@ pub fn is_tag_name(s: &[u8]) -> bool
         }
         character = character.after(b);
         if character.is_whole() {
-            if !continues_tag_name(first, character.value) {
+            if !fits_tag_name(first, character.value) {
                 return false;
             }
             first = false;

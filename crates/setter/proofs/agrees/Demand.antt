@@ -20,7 +20,7 @@ use Rattle.setter.specs.Steps.{the_sheet, Step, steps_of}
 use Rattle.setter.specs.Stops.{stop_of}
 use Rattle.setter.specs.Machine.{opened_at, record_at_step, frame_path, block_path, reached, stopped, run_of, run, StopsAt, StopsSomewhere}
 use Rattle.setter.specs.Seen.{in_link}
-use Rattle.setter.specs.Agrees.{SomeEntry, BesideAStop, BesideStop, Whole, Agrees, Demand}
+use Rattle.setter.specs.Agrees.{SomeEntry, OfSomeStop, OfStop, Whole, Agrees, Demand}
 use Rattle.setter.specs.Stops.{Row, stops, beside_in, named_in, beside, named}
 use Rattle.setter.proofs.agrees.Flat.{walk_of, once-of, never-of}
 use Rattle.setter.proofs.agrees.Fits.{sub-all, Unnamed, Clean, Heard, Quiet, Fits, fits-map}
@@ -37,29 +37,29 @@ beside-named s n (t ∷ ts) h = go (eqb s t.stop) refl (among n t.rules) refl (b
     go true u false v ih = rw v (ih (rw (u, v) at h))
     go false u false v ih = rw v (ih (rw u at h))
 
-some-named : (s : ℕ) (p : List ℕ) (es : List Entry) → SomeEntry (BesideStop s p) es → SomeEntry BesideAStop es
+some-named : (s : ℕ) (p : List ℕ) (es : List Entry) → SomeEntry (OfStop s p) es → SomeEntry OfSomeStop es
 unfolding SomeEntry named beside
 some-named s p [] h = h
 some-named s p (e ∷ es) (inl h) = inl (beside-named s e.rule stops h.0)
 some-named s p (e ∷ es) (inr h) = inr (some-named s p es h)
 
-none_named : SomeEntry BesideAStop [] → ⊥
+none_named : SomeEntry OfSomeStop [] → ⊥
 unfolding SomeEntry
 none_named h = h
 
-unnamed-none : (es : List Entry) → Unnamed es → SomeEntry BesideAStop es → ⊥
+unnamed-none : (es : List Entry) → Unnamed es → SomeEntry OfSomeStop es → ⊥
 unfolding SomeEntry Unnamed
 unnamed-none [] u h = h
 unnamed-none (e ∷ es) u (inl h) = true≢false (sym h ∙ u.0)
 unnamed-none (e ∷ es) u (inr h) = unnamed-none es u.1 h
 
 -- the run of steps whose stops are all told of
-run-told : (bytes : List ℕ) (es : List Entry) (ss : List Step) → Heard bytes es ss → (s i : ℕ) (p : List ℕ) → StopsAt (run_of bytes ss) s i p → SomeEntry (BesideStop s p) es
+run-told : (bytes : List ℕ) (es : List Entry) (ss : List Step) → Heard bytes es ss → (s i : ℕ) (p : List ℕ) → StopsAt (run_of bytes ss) s i p → SomeEntry (OfStop s p) es
 unfolding run_of Heard
 run-told bytes es [] h s i p e = absurd (let g : reached ≡ stopped s e.step = e.end in let z : ◌≡◌ {A = ℕ} 0 1 = cc in omega arith)
 run-told bytes es (t ∷ ts) h s i p e = go (eqb (stop_of bytes t) 0) refl (run-told bytes es ts h.1 s i p)
   where
-    go : (b : Bool) → eqb (stop_of bytes t) 0 ≡ b → (StopsAt (run_of bytes ts) s i p → SomeEntry (BesideStop s p) es) → SomeEntry (BesideStop s p) es
+    go : (b : Bool) → eqb (stop_of bytes t) 0 ≡ b → (StopsAt (run_of bytes ts) s i p → SomeEntry (OfStop s p) es) → SomeEntry (OfStop s p) es
     go true u ih = ih (record { step = e.step; end = rw u at e.end; at = e.at; block = e.block })
     go false u ih =
         let g : stopped (stop_of bytes t) t ≡ stopped s e.step = rw u at e.end in
@@ -109,10 +109,10 @@ module _ (w bytes : List ℕ) (a : Sound w bytes) where
         empty = λ e. go-whole (run_ends bytes (steps_of w)) (λ h. none_named (rw e at (some-named h.stop h.path (validate_document w bytes) (told h.stop h.at h.path h.is))));
       }
     where
-      told : (s i : ℕ) (p : List ℕ) → StopsAt (run_of bytes (steps_of w)) s i p → SomeEntry (BesideStop s p) (validate_document w bytes)
+      told : (s i : ℕ) (p : List ℕ) → StopsAt (run_of bytes (steps_of w)) s i p → SomeEntry (OfStop s p) (validate_document w bytes)
       told = run-told bytes (validate_document w bytes) (steps_of w) fits_all.heard
 
-      go : Ends bytes (steps_of w) → SomeEntry BesideAStop (validate_document w bytes) → StopsSomewhere (run_of bytes (steps_of w))
+      go : Ends bytes (steps_of w) → SomeEntry OfSomeStop (validate_document w bytes) → StopsSomewhere (run_of bytes (steps_of w))
       go (at-stop s) h = s
       go (at-end q e) h = absurd (unnamed-none (validate_document w bytes) (fits_all.quiet q).is h)
 

@@ -13,13 +13,13 @@ use Rattle.leaves.specs.Report.Entries.{Entry, list_if, ◌⊕◌}
 use Rattle.setter.specs.Steps.{Frame, fresh, with_kid, Step, opens, closes}
 use Rattle.setter.specs.Machine.{opened_at, block_path}
 use Rattle.setter.specs.Stops.{stop_of}
-use Rattle.setter.specs.Agrees.{SomeEntry, BesideStop, Begins}
+use Rattle.setter.specs.Agrees.{SomeEntry, OfStop, Begins}
 use Rattle.setter.specs.Stops.{beside, named}
 use Rattle.setter.proofs.agrees.Flat.{walk, filled, pile}
 
 -- an entry of a rule beside stop_of bytes s, at a path that begins with p
 pub record Found (es : List Entry) (s : ℕ) (p : List ℕ) : Type 0 where
-  pub is : SomeEntry (BesideStop s p) es
+  pub is : SomeEntry (OfStop s p) es
 
 some_left : (P : Entry → Type 0) (a b : List Entry) → SomeEntry P a → SomeEntry P (a ++ b)
 unfolding SomeEntry
@@ -42,11 +42,11 @@ sub-all es = record { tell = λ s p h. h }
 module _ {a es : List Entry} (b : List Entry) where
   pub sub-left : Sub (a ⊕ b) es → Sub a es
   unfolding ◌⊕◌
-  sub-left h = record { tell = λ s p g. h.tell s p (record { is = some_left (BesideStop s p) a b g.is }) }
+  sub-left h = record { tell = λ s p g. h.tell s p (record { is = some_left (OfStop s p) a b g.is }) }
 
   pub sub-right : Sub (b ⊕ a) es → Sub a es
   unfolding ◌⊕◌
-  sub-right h = record { tell = λ s p g. h.tell s p (record { is = some_right (BesideStop s p) b a g.is }) }
+  sub-right h = record { tell = λ s p g. h.tell s p (record { is = some_right (OfStop s p) b a g.is }) }
 
 pub sub-if : {b : Bool} {s : ℕ} {q : List ℕ} {es : List Entry} (n : ℕ) (sp : Span) (p : List ℕ) → Sub (list_if b n sp p) es → b ≡ true → beside s n ≡ true → Begins q p → Found es s q
 unfolding list_if SomeEntry

@@ -18,7 +18,7 @@ use Rattle.leaves.specs.declared.sheet.records.Rec.{Rec}
 use Rattle.leaves.specs.Refusal.Groups.{parent_of_blocks, parent_of_items, parent_of_rows, parent_of_cells, parent_of_inlines, parent_of_label, parent_of_label_and_blocks, parent_of_tags_and_blocks, parent_of_tags_and_inlines, parent_of_nothing, other_group, parent_group, child_group}
 use Rattle.leaves.specs.Refusal.Places.{holds, place_in, place_of, before_children, after_child, misplaced}
 use Rattle.leaves.specs.declared.refusal.places.Open.{Open}
-use Rattle.leaves.proofs.refusal.PlacedLaws.{has-place, in_order, joined-group, opened-group, blocks-only, items-only, rows-only, cells-only, inlines-only, label-only, label-and-blocks-only, tags-and-blocks-only, tags-and-inlines-only, nothing-there}
+use Rattle.leaves.proofs.refusal.PlacedLaws.{has-place, in_order, child-keeps-group, first-has-group, blocks-only, items-only, rows-only, cells-only, inlines-only, label-only, label-and-blocks-only, tags-and-blocks-only, tags-and-inlines-only, nothing-there}
 use Rattle.setter.specs.Steps.{the_sheet}
 use Rattle.leaves.specs.Refusal.Formed.{Formed}
 use Rattle.setter.proofs.agrees.Flat.{Deep}
@@ -132,8 +132,8 @@ placed-from bytes l o p (tree r kids rest) h e =
     let q = rank-place (group_of p) (group-below p) r.kind c (rw e at (has-place o r.kind h.0.place)) in
     let s : o.stage ≤ place_of (group_of p) r.kind = rw e at (in_order o r.kind h.0.place) in
     let up : rank_at (group_of p) o.stage ≤ rank_at (group_of p) (place_of (group_of p) r.kind) = rank_rises (group_of p) (group-below p) _ _ s q.0 in
-    let k = placed-from bytes (l + 1) (before_children (parent_group r.kind r.a)) r kids h.1 (opened-group _ ∙ group-of r c) in
-    let t = placed-from bytes l (after_child o r.kind) p rest h.2 (joined-group o r.kind ∙ e) in
+    let k = placed-from bytes (l + 1) (before_children (parent_group r.kind r.a)) r kids h.1 (first-has-group _ ∙ group-of r c) in
+    let t = placed-from bytes l (after_child o r.kind) p rest h.2 (child-keeps-group o r.kind ∙ e) in
     (record { state = o; group = e; kind = c; place = h.0.place }, omega (arith, q.1), rw (rank-zero (group_of r) (group-below r)) at k, rw (e, q.1) at t)
 
 -- the trees of the sheet

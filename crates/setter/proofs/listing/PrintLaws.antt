@@ -73,8 +73,8 @@ module _ {old w out rest : List ℕ} {n end i own : ℕ} (p : Printing old w n o
       record {
         inside = omega arith;
         long = rw f.written (length_over out end l ∙ p.long);
-        is = p.is ∙ rw (two, f.written, f.ends) (sym (over-two out l after end (omega (arith, p.long, p.ends, lines-most n w))));
-        ends = omega (arith, p.ends, f.ends);
+        is = p.is ∙ rw (two, f.written, f.next_is) (sym (over-two out l after end (omega (arith, p.long, p.ends, lines-most n w))));
+        ends = omega (arith, p.ends, f.next_is);
       }
 
 pub print-end : {old w out rest : List ℕ} {n end i : ℕ} → Printing old w n out end rest i → n ≤ i → length w * places + n ≤ length old → Writes old 0 (lines_in n w) out end
@@ -82,7 +82,7 @@ unfolding lines_in
 print-end {old} {w} {out} {rest} {n} {end} {i} p h room =
     let none : n - i ≡ 0 = omega arith in
     let e : length (lines_in n w) ≡ end = rw none at p.ends ∙ omega arith in
-    record { written = sym (p.is ∙ rw none (over-nil out end)); ends = omega arith }
+    record { written = sym (p.is ∙ rw none (over-nil out end)); next_is = omega arith }
 
 pub ruleset printing = (print-start, print-room, print-next, print-end, rules)
 
@@ -90,7 +90,7 @@ pub ruleset printing = (print-start, print-room, print-next, print-end, rules)
 
 prints-of : {old bytes new : List ℕ} {r : ℕ} → Writes old 0 bytes new r → length bytes ≤ length old → Prints old bytes new r
 prints-of {old} {bytes} f h =
-    record { count = f.ends ∙ zero-add (length bytes); printed = f.written ∙ over-fits old 0 bytes (omega arith) ∙ rw (zero-add (length bytes)) }
+    record { count = f.next_is ∙ zero-add (length bytes); printed = f.written ∙ over-fits old 0 bytes (omega arith) ∙ rw (zero-add (length bytes)) }
 
 -- a refusal's line
 pub prints-refusal : {old new : List ℕ} {r : ℕ} (number at : ℕ) → Writes old 0 (line (number ∷ at ∷ [])) new r → length old ≡ output_bytes → Prints old (refusal_line number at) new r
@@ -103,13 +103,13 @@ prints-list {old} {mid} {new} {end} {r} w n stop at f g few long room =
     let a = lines_in n w in
     let b = line (n ∷ stop ∷ at ∷ []) in
     let k : length a + length b ≤ length old = omega (arith, lines-most n w, line-long (n ∷ stop ∷ at ∷ [])) in
-    let z : end ≡ 0 + length a = f.ends in
-    let two : Writes old 0 (a ++ b) new r = record { written = g.written ∙ rw (z, f.written) (over-two old a b 0 (omega arith)); ends = g.ends ∙ rw (length-append a b) (omega (arith, f.ends)) } in
+    let z : end ≡ 0 + length a = f.next_is in
+    let two : Writes old 0 (a ++ b) new r = record { written = g.written ∙ rw (z, f.written) (over-two old a b 0 (omega arith)); next_is = g.next_is ∙ rw (length-append a b) (omega (arith, f.next_is)) } in
     prints-of two (rw (length-append a b) k)
 
 -- the room for the last line behind them
 pub last-room : {old mid : List ℕ} {end : ℕ} (w : List ℕ) (n : ℕ) → Writes old 0 (lines_in n w) mid end → n ≤ report_words → length w ≡ report_words → length old ≡ output_bytes → length mid ≡ length old → end + line_bytes 3 ≤ length mid
-last-room w n f few long room same = omega (arith, f.ends, lines-most n w)
+last-room w n f few long room same = omega (arith, f.next_is, lines-most n w)
 
 -- ---- the lines of a report that holds a list
 entry-front : (e : Entry) (rest : List ℕ) → entry_words (words e ++ rest) ≡ length (words e)

@@ -1,7 +1,8 @@
 -- A film: what the program reads, a sheet and its text.
 -- Document 01: "The program reads a sheet on standard input: counts of records and text bytes; a line a record; the
 -- text."
-use Rattle.std.specs.Prelude.{ℕ, ◌+◌, ◌*◌, ◌≡◌, Bool, true, false, not, ◌&&◌, ◌||◌, if◌then◌else◌}
+use Rattle.std.specs.Prelude.{ℕ, ◌+◌, ◌*◌, ◌≡◌, Bool, true, false, not, ◌&&◌, ◌||◌}
+use Rattle.std.specs.Prelude.{if◌then◌else◌}
 use Rattle.std.specs.Prelude.{List, ◌++◌, eqb, ltb, length, get_or, drop, Result, Ok, Err}
 use Rattle.leaves.specs.Sheet.Records.{record_words}
 use Rattle.leaves.specs.Text.Columns.{line_bytes, is_line, numbers}

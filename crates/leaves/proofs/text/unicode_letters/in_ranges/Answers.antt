@@ -3,7 +3,7 @@ use mathlib.Core.Path.{◌∙◌}
 use borrow.Author.Rules.{rules}
 use borrow.Author.Tests.{tests}
 use Rattle.std.proofs.lemmas.Fn.{always_returns_same}
-use Rattle.leaves.proofs.text.RangeLaws.{side, found}
+use Rattle.leaves.proofs.text.LetterRangeLaws.{side, found}
 use Rattle.leaves.proofs.text.unicode_letters.in_ranges.Goals as goal
 
 pub returns : goal.returns

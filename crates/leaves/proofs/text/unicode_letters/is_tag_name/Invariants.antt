@@ -1,6 +1,6 @@
 -- `leaves::text::unicode_letters::is_tag_name` meets its contract.
 use Rattle.leaves.proofs.text.ScanLaws.{ScanAt}
-use Rattle.leaves.proofs.text.TagLaws.{tag_from}
+use Rattle.leaves.proofs.text.TagNameLaws.{tag_from}
 use Rattle.leaves.specs.Text.Utf8Expected.{expected_of}
 use Rattle.leaves.specs.Text.UnicodeLetters.{is_tag_name}
 use Rattle.leaves.proofs.text.unicode_letters.is_tag_name.Given as goal

@@ -5,29 +5,16 @@ use mathlib.Core.List.{List, [], ◌∷◌}
 use Prim.Native.Nat.{ℕ, zero, suc}
 use native.Mathlib.Omega.{arith}
 use lib.Dec.{eqb, eqb-suc-zero}
-use Rattle.std.specs.Prelude.{if◌then◌else◌}
 use Rattle.std.specs.List.{list_all}
-use Rattle.leaves.specs.Text.Utf8.{Range, within}
+use Rattle.leaves.specs.Text.Utf8.{Range}
 use Rattle.leaves.specs.Text.Scalars.{replacement, emit, decode, scalars}
 use Rattle.leaves.specs.Text.Utf8Scans.{breaks_character, expected_after}
 use Rattle.leaves.specs.Text.ScalarScans.{value_after}
 use Rattle.leaves.specs.Text.Utf8Expected.{trail_columns}
 use Rattle.leaves.specs.Text.UnicodeLetters.{letter_ranges, number_ranges, in_ranges, is_unicode_letter, is_tag_name_char, is_tag_name_of, is_tag_name}
-use Rattle.leaves.specs.Text.TagScans.{continues_tag_name}
+use Rattle.leaves.specs.Text.TagNameScans.{fits_tag_name}
 use Rattle.leaves.proofs.text.ScanLaws.{ScanAt}
-
--- one byte more: U+FFFD where it breaks what is expected, and then what it begins or goes on with
-abbrev step_next : List Range → ℕ → ℕ → List ℕ → List ℕ
-step_next o v b s = emit (expected_after o b) (value_after o v b) (decode (expected_after o b) (value_after o v b) s)
-
-decode-step : (o : List Range) (v b : ℕ) (s : List ℕ) → decode o v (b ∷ s) ≡ (if breaks_character o b then replacement ∷ step_next o v b s else step_next o v b s)
-unfolding decode expected_after value_after breaks_character
-decode-step [] v b s = refl
-decode-step (r ∷ o) v b s = go (within r b) refl
-  where
-    go : (t : Bool) → within r b ≡ t → decode (r ∷ o) v (b ∷ s) ≡ (if breaks_character (r ∷ o) b then replacement ∷ step_next (r ∷ o) v b s else step_next (r ∷ o) v b s)
-    go true e = rw e refl
-    go false e = rw e refl
+use Rattle.leaves.proofs.text.ScalarLaws.{step_next, decode-step}
 
 -- the characters that are left of a name, from its front (`first`) or behind others
 abbrev pub rest_of_name : Bool → List ℕ → Bool
@@ -37,14 +24,14 @@ rest_of_name false cs = list_all is_tag_name_char cs
 unfoldable pub tag_from : Bool → List Range → ℕ → List ℕ → Bool
 tag_from first o v s = rest_of_name first (decode o v s)
 
-rest-cons : (first : Bool) (c : ℕ) (cs : List ℕ) → rest_of_name first (c ∷ cs) ≡ (continues_tag_name first c && rest_of_name false cs)
-unfolding continues_tag_name is_tag_name_of
+rest-cons : (first : Bool) (c : ℕ) (cs : List ℕ) → rest_of_name first (c ∷ cs) ≡ (fits_tag_name first c && rest_of_name false cs)
+unfolding fits_tag_name is_tag_name_of
 rest-cons true c cs = refl
 rest-cons false c cs = refl
 
 -- U+FFFD is no letter and no number
-no-tag : (first : Bool) → continues_tag_name first replacement ≡ false
-unfolding continues_tag_name is_unicode_letter is_tag_name_char in_ranges letter_ranges number_ranges
+no-tag : (first : Bool) → fits_tag_name first replacement ≡ false
+unfolding fits_tag_name is_unicode_letter is_tag_name_char in_ranges letter_ranges number_ranges
 no-tag true = refl
 no-tag false = refl
 
@@ -66,10 +53,10 @@ module _ (first : Bool) (o : List Range) (v b : ℕ) (s : List ℕ) {r : Bool} (
         go zero z = refl
         go (suc m) z = absurd (true≢false (sym z ∙ eqb-suc-zero m))
 
-    pub tag-wrong : {w : Bool} → eqb more 0 ≡ true → w ≡ continues_tag_name first v' → w ≡ false → false ≡ tag_from first o v (b ∷ s)
+    pub tag-wrong : {w : Bool} → eqb more 0 ≡ true → w ≡ fits_tag_name first v' → w ≡ false → false ≡ tag_from first o v (b ∷ s)
     tag-wrong z h k = rw (steps, ends-character z, rest-cons first v' (decode (trail_columns more low high) v' s), ← h, k) refl
 
-    pub tag-right : {w : Bool} → eqb more 0 ≡ true → w ≡ continues_tag_name first v' → w ≡ true → tag_from first o v (b ∷ s) ≡ tag_from false (trail_columns more low high) v' s
+    pub tag-right : {w : Bool} → eqb more 0 ≡ true → w ≡ fits_tag_name first v' → w ≡ true → tag_from first o v (b ∷ s) ≡ tag_from false (trail_columns more low high) v' s
     unfolding tag_from
     tag-right z h k = rw (steps, ends-character z, rest-cons first v' (decode (trail_columns more low high) v' s), ← h, k) refl
 

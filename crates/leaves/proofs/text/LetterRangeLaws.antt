@@ -1,13 +1,13 @@
 -- Ranges that ascend and do not overlap: what a binary search among them says of membership.
 use mathlib.Core.Path.{◌≡◌, refl, sym, ap, ◌∙◌}
-use mathlib.Core.Bool.{Bool, true, false, ◌&&◌, or-true, and-false}
+use mathlib.Core.Bool.{Bool, true, false, ◌&&◌, ◌||◌, or-true, or-false, and-false}
 use mathlib.Core.List.{List, [], ◌∷◌}
 use Prim.Native.Nat.{ℕ, zero, suc, ◌<◌, ◌≤◌}
 use native.Mathlib.Omega.{arith}
-use borrow.Author.Tests.{ltb-true, ltb-false, leb-true, lt-ltb, le-ltb, le-leb, lt-leb}
+use borrow.Author.Tests.{ltb-true, ltb-false, leb-true, lt-ltb, le-ltb, le-leb, lt-leb, ne_eqb}
 use lib.Dec.{ltb, leb}
 use borrow.Author.Rules.{rules}
-use Rattle.std.specs.Bool.{beq}
+use Rattle.std.proofs.lemmas.Bool.{agree_below_at}
 use lib.ListN.{length, get_or}
 use Rattle.std.specs.Prelude.{if◌then◌else◌}
 use Rattle.std.specs.Ordering.{ordering_index}
@@ -17,9 +17,11 @@ use Rattle.std.specs.Result.{is_ok}
 use Rattle.std.proofs.Common.{Result, Ok, Err}
 use Rattle.std.specs.declared.cmp.Ordering.{Ordering}
 use Rattle.std.specs.declared.cmp.Ordering.TheVariants.{Less, Equal, Greater}
-use Rattle.leaves.proofs.text.TestLaws.{and_left, and_right, all_below, each}
-use Rattle.leaves.specs.Text.Bytes.{between, is_letter}
+use Rattle.leaves.proofs.text.TestLaws.{and_left, and_right}
+use Rattle.leaves.specs.Text.Bytes.{between, is_letter, slash, underscore, hyphen}
 use Rattle.leaves.specs.Text.UnicodeLetters.{letter_ranges, number_ranges, are_above, are_ranges, in_ranges, is_unicode_letter}
+use Rattle.leaves.specs.Text.UnicodeLetters.{is_tag_name_char}
+use Rattle.leaves.specs.Text.TagNameScans.{is_ascii_tag_name_char}
 
 -- on which side of c a range is
 abbrev pub side : ℕ → ℕ × ℕ → Ordering
@@ -113,24 +115,30 @@ letters_ascend e = rw e letters-are
 pub numbers_ascend : {rs : List (ℕ × ℕ)} → rs ≡ number_ranges → are_ranges rs ≡ true
 numbers_ascend e = rw e numbers-are
 
-same_answer : (t u : Bool) → beq t u ≡ true → t ≡ u
-same_answer true true e = refl
-same_answer true false e = sym e
-same_answer false true e = e
-same_answer false false e = refl
-
--- the letters of ASCII
-ascii-test : ℕ → Bool
-ascii-test c = beq (is_letter c) (is_unicode_letter c)
-
+-- the letters of ASCII, and the characters of ASCII that can continue a tag name
 pub ascii_letter : {c : ℕ} {t : Bool} → c < 0x80 → t ≡ is_letter c → t ≡ is_unicode_letter c
-unfolding all_below ascii-test is_unicode_letter in_ranges letter_ranges
-ascii_letter {c} h e = e ∙ same_answer _ _ (each ascii-test 0x80 refl c h)
+unfolding is_unicode_letter in_ranges letter_ranges
+ascii_letter {c} h e = e ∙ agree_below_at is_letter is_unicode_letter 0x80 c refl h
+
+pub ascii_char : {c : ℕ} {t : Bool} → c < 0x80 → t ≡ is_ascii_tag_name_char c → t ≡ is_tag_name_char c
+unfolding is_tag_name_char is_unicode_letter in_ranges letter_ranges number_ranges
+ascii_char {c} h e = e ∙ agree_below_at is_ascii_tag_name_char is_tag_name_char 0x80 c refl h
 
 pub letter_found : {rs : List (ℕ × ℕ)} (c : ℕ) {t : Bool} → rs ≡ letter_ranges → t ≡ in_ranges rs c → t ≡ is_unicode_letter c
 unfolding is_unicode_letter
 letter_found c e f = f ∙ ap (λ rs. in_ranges rs c) e
 
-pub ruleset letters = (letters_ascend, ascii_letter, letter_found, rules)
+-- behind ASCII no sign is one that a tag name may have
+no-sign : (c : ℕ) → 0x80 ≤ c → is_tag_name_char c ≡ (in_ranges letter_ranges c || in_ranges number_ranges c)
+unfolding is_tag_name_char is_unicode_letter
+no-sign c h = rw (ne_eqb c slash (λ e. absurd (omega arith)), ne_eqb c underscore (λ e. absurd (omega arith)), ne_eqb c hyphen (λ e. absurd (omega arith)), or-false (in_ranges letter_ranges c || in_ranges number_ranges c), or-false (in_ranges letter_ranges c || in_ranges number_ranges c), or-false (in_ranges letter_ranges c || in_ranges number_ranges c)) refl
 
-pub ruleset numbers = (numbers_ascend, rules)
+pub char_letter : {rs : List (ℕ × ℕ)} (c : ℕ) {t : Bool} → 0x80 ≤ c → rs ≡ letter_ranges → t ≡ in_ranges rs c → t ≡ true → true ≡ is_tag_name_char c
+char_letter c h e f y = let l : in_ranges letter_ranges c ≡ true = rw e at (sym f ∙ y) in sym (no-sign c h ∙ rw l refl)
+
+pub char_number : {rs ns : List (ℕ × ℕ)} (c : ℕ) {t u : Bool} → 0x80 ≤ c → rs ≡ letter_ranges → t ≡ in_ranges rs c → t ≡ false → ns ≡ number_ranges → u ≡ in_ranges ns c → u ≡ is_tag_name_char c
+char_number c h e f n g k = let l : in_ranges letter_ranges c ≡ false = rw e at (sym f ∙ n) in let m : in_ranges number_ranges c ≡ _ = rw g at (sym k) in sym (no-sign c h ∙ rw l m)
+
+pub ruleset letter_laws = (letters_ascend, ascii_letter, letter_found, rules)
+
+pub ruleset number_laws = (letters_ascend, numbers_ascend, ascii_char, char_letter, char_number, rules)
