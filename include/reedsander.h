@@ -193,7 +193,9 @@ enum {
     /* directive name must be runs of ASCII letters joined by single `-` */
     REEDSANDER_RULE_DIRECTIVE_NAME = 54,
     /* directive attribute name must start with a letter, `_`, or `-` */
-    REEDSANDER_RULE_ATTRIBUTE_NAME = 55
+    REEDSANDER_RULE_ATTRIBUTE_NAME = 55,
+    /* tag name must be a Unicode letter followed by letters, numbers, `/`, `_`, or `-` */
+    REEDSANDER_RULE_TAG_NAME = 56
 };
 
 /* The number of a check's answer: 0 accepted, or why it is refused, 1 to 11.

@@ -1,5 +1,5 @@
--- The walk of validate.rs over blocks, and the whole list of a sheet. The 14 messages that document 01 drops are left
--- out.
+-- The walk of validate.rs over blocks, and the whole list of a sheet. The 13 messages that stay dropped are left out
+-- (document 01 drops 14; document 02 brings back the tag's).
 -- A path has an index for each block, item, row and cell from the sheet down. Document 01: "Path indices count blocks,
 -- items, rows and cells only."
 use Rattle.std.specs.Prelude.{ℕ, suc, Bool, List, [], ◌∷◌, ◌++◌, eqb, if◌then◌else◌}

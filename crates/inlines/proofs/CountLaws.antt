@@ -9,7 +9,7 @@ use borrow.Author.Tests.{eqb-true}
 use lib.Dec.{eqb}
 use lib.ListN.{length}
 use Rattle.std.specs.Prelude.{if◌then◌else◌}
-use Rattle.leaves.specs.Sheet.Kinds.{is_inline, html_tag, attribute, text, escape, emphasis, strong, delete, mark, code, link, autolink, image, link_reference, image_reference, html, soft_break, line_break, math, footnote_reference, inline_footnote, wiki_link, text_directive}
+use Rattle.leaves.specs.Sheet.Kinds.{is_inline, html_tag, attribute, text, escape, emphasis, strong, delete, mark, code, link, autolink, image, link_reference, image_reference, html, soft_break, line_break, math, footnote_reference, inline_footnote, wiki_link, text_directive, tag}
 use Rattle.leaves.specs.Sheet.Classes.{is_break, is_link, is_emphasis_container, names_own_value, names_label}
 use Rattle.leaves.specs.Sheet.Forest.{Forest, no_tree, tree, size, records_in}
 use Rattle.leaves.specs.Report.Entries.{Entry, list_if, ◌⊕◌}
@@ -19,7 +19,7 @@ use Rattle.leaves.specs.declared.sheet.records.Span.{Span}
 use Rattle.leaves.proofs.sheet.KindLaws.{kind-cases}
 use Rattle.leaves.proofs.report.EntryLaws.{join-assoc, length-join, length-if, few-if}
 use Rattle.inlines.specs.Values.{is_unwritable, is_bad_attribute}
-use Rattle.inlines.specs.Single.{validate_destination, validate_identifier, validate_escape, validate_directive_name, validate_siblings}
+use Rattle.inlines.specs.Single.{validate_destination, validate_identifier, validate_escape, validate_directive_name, validate_tag, validate_siblings}
 use Rattle.inlines.specs.Literal.{validate_text, validate_code_inline, validate_math_inline}
 use Rattle.inlines.specs.Own.{validate_inline_values}
 use Rattle.inlines.specs.Link.{validate_link_text}
@@ -236,6 +236,8 @@ own_most k =
     then 1
     else if eqb k text
     then 1
+    else if eqb k tag
+    then 1
     else if eqb k image
     then 1
     else if eqb k image_reference
@@ -286,7 +288,7 @@ fences-apart a bare held =
     kind-cases (λ n. (eqb n 0 && bare) ≡ true → (eqb n 1 && held) ≡ false) a 0 (λ e. refl) (λ other e. absurd (false≢true (rw other at e)))
 
 own-most : (bytes path : List ℕ) (r : Rec) (kids : Forest) → Few (own_entries bytes path r kids) (own_most r.kind)
-unfolding own_entries own_most validate_inline_values validate_destination validate_identifier validate_escape validate_directive_name validate_text validate_code_inline validate_math_inline
+unfolding own_entries own_most validate_inline_values validate_destination validate_identifier validate_escape validate_directive_name validate_tag validate_text validate_code_inline validate_math_inline
 own-most bytes path r kids =
     let one : (b : Bool) (rule : ℕ) → Few (list_if b rule r.span path) 1 = λ b rule. one_entry b rule r.span path in
     few-either (is_emphasis_container r.kind) (emphasis-most path r.span (all_empty kids) (starts_with_whitespace bytes kids || ends_with_whitespace bytes kids) (holds_joined r.kind r.a kids))
@@ -295,13 +297,14 @@ own-most bytes path r kids =
     (few-either (eqb r.kind text_directive) (one _ _)
     (few-either (eqb r.kind inline_footnote) (one _ _)
     (few-either (eqb r.kind text) (one _ _)
+    (few-either (eqb r.kind tag) (one _ _)
     (few-either (eqb r.kind image) (one _ _)
     (few-either (eqb r.kind image_reference) (one _ _)
     (few-either (eqb r.kind escape) (one _ _)
     (few-either (eqb r.kind footnote_reference) (one _ _)
     (few-either (eqb r.kind wiki_link) (one _ _)
     (few-either (eqb r.kind code) (few-then (one _ _) (one _ _))
-    (few-either (eqb r.kind math) (few-then (one _ _) (one_of_two _ _ _ _ _ _ _ (fences-apart r.a (eqb r.b 0) _))) no-entry))))))))))))
+    (few-either (eqb r.kind math) (few-then (one _ _) (one_of_two _ _ _ _ _ _ _ (fences-apart r.a (eqb r.b 0) _))) no-entry)))))))))))))
 
 -- as one of the inlines side by side: 37 is of a break, and 38 of a strikethrough
 unfoldable siblings_most : ℕ → ℕ
@@ -358,11 +361,11 @@ charged-most bytes path rule before r kids =
     let cell : Few (cell_entries bytes path r) (bit (in_cell r.kind)) = cell-entry (names_own_value r.kind) (names_label r.kind) (eqb r.kind wiki_link) _ _ _ _ _ in
     few-then (node-most bytes path before r kids) (few-then break (few-then named (few-then linked (few-then line cell))))
 
--- No record has more than three entries: a line break that is the last inline of a cell, behind another break, has 30, 37 and 20. A tag has at most two, which the container lists.
+-- No record has more than three entries: a line break that is the last inline of a cell, behind another break, has 30, 37 and 20. An HTML tag has at most two, which the container lists.
 abbrev pub entries_of_inline : ℕ
 entries_of_inline = 3
 
--- what a container may list of one of its tags
+-- what a container may list of one of its HTML tags
 abbrev pub tag_most : ℕ → ℕ
 tag_most k = if eqb k html_tag then 2 else 0
 
@@ -392,7 +395,8 @@ kind-most k =
     kind-cases Most k html (omega arith) (λ e19.
     kind-cases Most k attribute (omega arith) (λ e20.
     kind-cases Most k html_tag (omega arith) (λ e21.
-    rw (e0, e1, e2, e3, e4, e5, e6, e7, e8, e9, e10, e11, e12, e13, e14, e15, e16, e17, e18, e19, e20, e21) (omega arith)))))))))))))))))))))))
+    kind-cases Most k tag (omega arith) (λ e22.
+    rw (e0, e1, e2, e3, e4, e5, e6, e7, e8, e9, e10, e11, e12, e13, e14, e15, e16, e17, e18, e19, e20, e21, e22) (omega arith))))))))))))))))))))))))
 
 pub inline-most : (bytes : List ℕ) (extra : Rec → ℕ) → ((r : Rec) → extra r ≤ tag_most r.kind) → EachInline bytes extra entries_of_inline
 inline-most bytes extra tags path rule before r kids =

@@ -9,16 +9,18 @@ use Rattle.leaves.specs.Text.Name.{is_directive_name, is_run, runs, is_attribute
 use Rattle.leaves.specs.Text.Part.{part_of}
 use Rattle.leaves.specs.Text.Pipe.{has_odd_escaped_pipe, odd_pipe_after}
 use Rattle.leaves.specs.Text.Scalars.{scalars, decode, emit, lead_bits, trail_bits}
+use Rattle.leaves.specs.Text.UnicodeLetters.{letter_ranges, number_ranges, in_ranges, is_unicode_letter}
+use Rattle.leaves.specs.Text.UnicodeLetters.{is_tag_name_char, is_tag_name_of, is_tag_name}
 use Rattle.leaves.specs.Text.Utf8.{follow, table_3_7}
 use Rattle.leaves.specs.Text.White.{is_white, starts_with_white, ends_with_white}
 use Rattle.leaves.specs.Sheet.Texts.{text_of}
 use Rattle.leaves.specs.Sheet.Forest.{Forest, no_tree, tree, records_in}
-use Rattle.leaves.specs.Sheet.Kinds.{attribute, text, escape, emphasis, strong, delete, mark, code, link, autolink, image, link_reference, image_reference, soft_break, line_break, math, footnote_reference, inline_footnote, wiki_link, text_directive}
+use Rattle.leaves.specs.Sheet.Kinds.{attribute, text, escape, emphasis, strong, delete, mark, code, link, autolink, image, link_reference, image_reference, soft_break, line_break, math, footnote_reference, inline_footnote, wiki_link, text_directive, tag}
 use Rattle.leaves.specs.Report.Entries.{Entry, list_if, ◌⊕◌}
 use Rattle.leaves.specs.declared.sheet.records.Rec.{Rec}
 use Rattle.leaves.specs.declared.sheet.records.Text.{Text}
 use Rattle.inlines.specs.Values.{starts_white, ends_white, is_unwritable, is_bad_attribute}
-use Rattle.inlines.specs.Single.{validate_destination, validate_identifier, validate_escape, validate_directive_name, validate_siblings}
+use Rattle.inlines.specs.Single.{validate_destination, validate_identifier, validate_escape, validate_directive_name, validate_tag, validate_siblings}
 use Rattle.inlines.specs.Literal.{validate_text, validate_code_inline, validate_math_inline}
 use Rattle.inlines.specs.Attribute.{validate_directive_attributes}
 use Rattle.inlines.specs.Link.{validate_link_text}
@@ -62,6 +64,11 @@ singles = (refl, refl, refl, refl, refl, refl, refl, refl, refl, refl, refl, ref
 values : (listed (one escape 0x2F 0 (part 0 0) (part 0 0)) ≡ []) × (listed (one escape 0x30 0 (part 0 0) (part 0 0)) ≡ 43 ∷ []) × (listed (one code 0 0 (part 0 0) (part 0 0)) ≡ 44 ∷ []) × (listed (one code 0 0 (part 0 2) (part 0 0)) ≡ 45 ∷ []) × (listed (one code 0 0 (part 0 1) (part 0 0)) ≡ []) × (listed (one math 0 0 (part 0 0) (part 0 0)) ≡ 46 ∷ 47 ∷ []) × (listed (one math 0 1 (part 0 1) (part 0 0)) ≡ []) × (listed (one math 1 0 (part 5 2) (part 0 0)) ≡ 48 ∷ []) × (listed (one math 0 1 (part 5 2) (part 0 0)) ≡ []) × (listed (one text_directive 0 0 (part 0 1) (part 0 0)) ≡ []) × (listed (one text_directive 0 0 (part 0 0) (part 0 0)) ≡ 54 ∷ []) × (listed (tree (rec text_directive 0 0 (part 4 1) (part 0 0)) (one attribute 0 0 (part 4 1) (part 0 0)) no_tree) ≡ 54 ∷ 55 ∷ []) × (listed (holds text_directive 0 (one attribute 0 0 (part 0 1) (part 0 0))) ≡ []) × (listed (one math 0 0 (part 0 1) (part 0 0)) ≡ 47 ∷ []) × (listed (one math 1 0 (part 0 0) (part 0 0)) ≡ 46 ∷ [])
 unfolding listed bytes validate_inlines validate_identifier validate_text final_break break_entries inlines_of get_last_d validate_inline_nodes validate_node validate_inline_nodes_after validate_siblings validate_inline validate_inline_values validate_escape validate_code_inline validate_math_inline validate_text_directive validate_directive_name validate_directive_attributes is_bad_attribute is_directive_name is_run runs longer is_attribute_name holds_line_ending holds_backtick_dollar starts_with text_of part_of list_if ◌⊕◌
 values = (refl, refl, refl, refl, refl, refl, refl, refl, refl, refl, refl, refl, refl, refl, refl)
+
+-- ---- 56: `a` and `é` are tag names; nothing, a space and `a LF` are not. It is listed behind the entries of the inline before it and before those of the next
+tags : (listed (one tag 0 0 (part 0 1) (part 0 0)) ≡ []) × (listed (one tag 0 0 (part 7 2) (part 0 0)) ≡ []) × (listed (one tag 0 0 (part 0 0) (part 0 0)) ≡ 56 ∷ []) × (listed (one tag 0 0 (part 4 1) (part 0 0)) ≡ 56 ∷ []) × (listed (one tag 0 0 (part 0 2) (part 0 0)) ≡ 56 ∷ []) × (listed (holds mark 0 (leaf soft_break (leaf soft_break (leaf tag (one code 0 0 (part 0 0) (part 0 0)))))) ≡ 40 ∷ 37 ∷ 56 ∷ 44 ∷ [])
+unfolding listed bytes validate_inlines validate_identifier validate_text final_break break_entries inlines_of get_last_d validate_inline_nodes validate_node validate_inline_nodes_after validate_siblings validate_inline validate_inline_values validate_tag is_tag_name is_tag_name_of is_tag_name_char is_unicode_letter in_ranges letter_ranges number_ranges validate_code_inline validate_emphasis_container all_empty starts_with_whitespace ends_with_whitespace without_empty_texts starts_white ends_white holds_joined is_one_joined no_inline is_empty_list starts_with_white ends_with_white is_white head_d scalars decode emit lead_bits trail_bits follow table_3_7 holds_line_ending text_of part_of list_if ◌⊕◌
+tags = (refl, refl, refl, refl, refl, refl)
 
 -- ---- 30: the last inline; it is not asked of the last child of a link, image, reference, inline footnote or text directive
 lasts : (listed (says 0 1 (leaf line_break no_tree)) ≡ 30 ∷ []) × (listed (leaf line_break (says 0 1 no_tree)) ≡ []) × (listed (says 0 1 (leaf soft_break no_tree)) ≡ []) × (listed (holds link 0 (says 0 1 (leaf line_break no_tree))) ≡ []) × (listed (holds image 0 (leaf line_break no_tree)) ≡ []) × (listed (holds link_reference 0 (leaf line_break no_tree)) ≡ []) × (listed (holds image_reference 0 (leaf line_break no_tree)) ≡ []) × (listed (holds inline_footnote 0 (leaf line_break no_tree)) ≡ []) × (listed (holds text_directive 0 (leaf line_break no_tree)) ≡ [])

@@ -4,6 +4,7 @@
 use Rattle.std.specs.Prelude.{ℕ, not, ◌&&◌, List, eqb}
 use Rattle.leaves.specs.Text.Name.{is_directive_name}
 use Rattle.leaves.specs.Text.Punctuation.{is_ascii_punctuation}
+use Rattle.leaves.specs.Text.UnicodeLetters.{is_tag_name}
 use Rattle.leaves.specs.Sheet.Kinds.{delete}
 use Rattle.leaves.specs.Sheet.Texts.{text_of}
 use Rattle.leaves.specs.Report.Entries.{Entry, list_if, ◌⊕◌}
@@ -30,6 +31,11 @@ validate_escape path span a = list_if (not (is_ascii_punctuation a)) Rules.escap
 unfoldable pub validate_directive_name : List ℕ → List ℕ → Span → Text → List Entry
 validate_directive_name bytes path span name =
     list_if (not (is_directive_name (text_of bytes name))) Rules.directive_name span path
+
+-- The arm of `validate_inline_nodes` for a tag: 56. Document 02: "by `is_tag_name` in `src/unicode_letters.rs`: a
+-- letter, then letters, numbers, `/`, `_` or `-`. An empty name fails."
+unfoldable pub validate_tag : List ℕ → List ℕ → Span → Text → List Entry
+validate_tag bytes path span name = list_if (not (is_tag_name (text_of bytes name))) Rules.tag_name span path
 
 -- `validate_siblings`: 37, 38. `before` is the kind of the inline before, `no_kind` where there is none.
 unfoldable pub validate_siblings : List ℕ → Span → ℕ → ℕ → ℕ → List Entry

@@ -8,6 +8,7 @@ ghost use Rattle.inlines.specs.Single.{
   validate_identifier,
   validate_escape,
   validate_directive_name,
+  validate_tag,
   validate_siblings,
 };
 
@@ -18,6 +19,7 @@ use leaves::sheet::texts::text_of;
 use leaves::sheet::{classes, empty, kinds};
 use leaves::text::name::is_directive_name;
 use leaves::text::punctuation::is_ascii_punctuation;
+use leaves::text::unicode_letters::is_tag_name;
 
 // Rule 25: a bare destination (`a` is 0) is not empty.
 #[tactic(auto, unfolding(crate::specs::Single::validate_destination))]
@@ -54,6 +56,15 @@ pub fn validate_directive_name(bytes: &[u8], report: &mut Report, span: Span, na
 {
     let fault = !is_directive_name(text_of(bytes, name));
     report.list_if(fault, Rule::DirectiveName, span);
+}
+
+// Rule 56: a tag's name is a letter, and then letters, numbers, `/`, `_` and `-`.
+#[tactic(auto, unfolding(crate::specs::Single::validate_tag))]
+pub(crate) fn validate_tag(bytes: &[u8], report: &mut Report, span: Span, name: Text)
+    ensures { Adds report.old report.new (validate_tag bytes.now (path_of report.old) span name) }
+{
+    let fault = !is_tag_name(text_of(bytes, name));
+    report.list_if(fault, Rule::TagName, span);
 }
 
 // Rules 37, 38: a break after a break would leave an empty line, and two strikethroughs join their delimiters.

@@ -196,5 +196,9 @@ fn long_values() -> Vec<Page> {
         ),
         page("frontmatter of 1 MiB", &[Block::yaml(&lines)]),
         page("names of 1 MiB", &[directive]),
+        page(
+            "tag of 1 MiB",
+            &[Block::paragraph([Inline::tag(&attribute)])],
+        ),
     ]
 }

@@ -9,6 +9,7 @@ pub mod exhaustive;
 pub mod films;
 pub mod letters;
 pub mod mend;
+pub mod names;
 pub mod numbers;
 pub mod random;
 pub mod templates;

@@ -3,7 +3,7 @@
 use crate::{
     draft::Draft,
     letters::{self, Letter},
-    Numbers, Sheet,
+    names, Numbers, Sheet,
 };
 
 /// Values: line endings, white space at the edges, pipes and backslashes,
@@ -72,7 +72,7 @@ const ATTRIBUTES: [&str; 14] = [
     "a", "_", "-", "a1", "_:", "Z-z", "", "1", ":a", "a b", "é", "aé", "a=", " a",
 ];
 
-/// Names of tags, and how they are written.
+/// Names of HTML tags, and how they are written.
 const TAGS: [&str; 6] = ["x", "x", "x", "X", "", "x "];
 
 /// Values of frontmatter.
@@ -427,7 +427,7 @@ impl Maker {
             45 => letters::html(&value),
             49 => letters::footnote_reference(&place, &label),
             51 => letters::wikilink(&place, &label),
-            _ => letters::tag(&value),
+            _ => letters::tag(&names::tag_name(&mut self.numbers)),
         }
     }
 

@@ -172,6 +172,7 @@ fn further_inlines() -> Vec<Letter> {
         letters::dollars(0, ""),
         letters::dollars(1, "`$"),
         letters::dollars(255, "\\|"),
+        letters::tag("é/2"),
         letters::code_math(""),
         letters::code_math("\\|"),
         letters::footnote_reference("x", "\\|"),

@@ -7,7 +7,7 @@ use oracle::REFUSED;
 use crate::expected::{Call, Expected};
 
 /// The numbers of rules, of stops, and of the refusals of each function.
-const RULES: u32 = 55;
+const RULES: u32 = 56;
 const STOPS: u32 = 14;
 const CHECK_REFUSALS: [u32; 11] = [1, 2, 3, 4, 5, 6, 7, 8, 9, 10, 11];
 const SET_REFUSALS: [u32; 11] = [1, 2, 3, 4, 5, 6, 7, 8, 9, 10, 12];
@@ -176,7 +176,7 @@ mod tests {
     fn both_sides() {
         let mut counts = Counts::default();
         let all = counts.unseen().len();
-        assert_eq!(all, 11 + 14 + 11 + 55);
+        assert_eq!(all, 11 + 14 + 11 + 56);
         counts.call(Call::Set(0), 268, 0);
         assert_eq!(counts.unseen().len(), all);
         counts.call(Call::Set(0), 268, 268 << 32);

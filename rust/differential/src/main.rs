@@ -152,8 +152,9 @@ fn run_published(files: &[PathBuf], seed: u64) -> ExitCode {
 /// A part of the run.
 type Part = (&'static str, fn(&mut Harness, Plan));
 
-const PARTS: [Part; 7] = [
+const PARTS: [Part; 8] = [
     ("limits", Harness::limits),
+    ("names of tags", Harness::names),
     ("small sheets", Harness::small),
     ("all small sheets", Harness::all_small),
     ("random trees", Harness::trees),
@@ -163,7 +164,7 @@ const PARTS: [Part; 7] = [
 ];
 
 /// The parts that make trees.
-const TREES: Range<usize> = 3..6;
+const TREES: Range<usize> = 4..7;
 
 fn run(plan: Plan, parts: &[Part]) -> ExitCode {
     let last = plan.seed + plan.trees - 1;

@@ -3,7 +3,7 @@
 use cases::{
     damage,
     exhaustive::{beginnings, nothing, Spelling},
-    mend, random, templates, Numbers, Sheet,
+    mend, names, random, templates, Numbers, Sheet,
 };
 
 use crate::{
@@ -20,12 +20,15 @@ const MOST_PRINTED: u64 = 5;
 /// How often one tree is mended at most.
 const MOST_MENDED: usize = 100;
 
+/// How many tags a sheet of names has.
+const NAMES: usize = 4096;
+
 /// How much a run does.
 #[derive(Clone, Copy, PartialEq, Eq, Debug)]
 pub struct Plan {
     /// The first seed of the random sheets.
     pub seed: u64,
-    /// Random trees, and as many damaged ones.
+    /// Random trees, as many damaged ones, and at least as many random names.
     pub trees: u64,
     /// Whether the small sheets are over the wide set of records too, also
     /// behind what is refused; and whether the limits are there whose plain
@@ -196,6 +199,27 @@ impl Harness {
             true
         };
         Spelling::new(&templates::wide()).sheets(&nothing(), 3, &mut see);
+    }
+
+    /// Each character as the name of a tag, alone and behind `a`; and at least
+    /// as many random names as trees.
+    pub fn names(&mut self, plan: Plan) {
+        let all: Vec<char> = ('\0'..=char::MAX).collect();
+        for front in ["", "a"] {
+            for characters in all.chunks(NAMES) {
+                let named = |character| format!("{front}{character}");
+                let names: Vec<String> = characters.iter().map(named).collect();
+                let (sheet, text) = names::tags(&names);
+                let name = format!("names from {:?}", names[0]);
+                self.sheet(&name, &sheet, &text);
+            }
+        }
+        for seed in (plan.seed..plan.seed + plan.trees).step_by(NAMES) {
+            let mut numbers = Numbers::new(seed);
+            let names: Vec<String> = (0..NAMES).map(|_| names::tag_name(&mut numbers)).collect();
+            let (sheet, text) = names::tags(&names);
+            self.sheet(&format!("random names {seed}"), &sheet, &text);
+        }
     }
 
     /// Random trees, one in four of them deep.

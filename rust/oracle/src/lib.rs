@@ -12,9 +12,9 @@
 //!   its message is not reported, and no stub keeps a kept message away.
 //!
 //! Diagnostics of the messages in [`DROPPED`] are not compared. The stubs do
-//! not silence all of them: the tag message is decided by
-//! `unicode_letters.rs`, and the second message on tight items partly in
-//! `validate.rs` itself. So compare with [`kept`], or drop by [`rule`].
+//! not silence all of them: the second message on tight items is decided
+//! partly in `validate.rs` itself. So compare with [`kept`], or drop by
+//! [`rule`].
 //!
 //! What the reference has not is read from document 01: the refusals
 //! ([`refusal()`]), the setting machine ([`set`]) and the listing program
@@ -68,7 +68,7 @@ pub fn is_attribute_name(name: &str) -> bool {
     validate::is_attribute_name(name)
 }
 
-/// Whether `name` passes the tag rule, whose message is among [`DROPPED`].
+/// Whether `name` passes rule 56.
 pub fn is_tag_name(name: &str) -> bool {
     unicode_letters::is_tag_name(name)
 }

@@ -1,8 +1,9 @@
-//! The messages of `validate.rs`, in the order in which they stand there.
+//! The messages of `validate.rs`.
 
-/// The messages that are compared. Document 01 numbers its rules by them: the
-/// rule of `KEPT[index]` is `index + 1`.
-pub const KEPT: [&str; 55] = [
+/// The messages that are compared: the rule of `KEPT[index]` is `index + 1`.
+/// Document 01 numbers those up to 55 in the order in which they stand;
+/// document 02 adds the tag's behind them.
+pub const KEPT: [&str; 56] = [
     // 1: adjacent lists
     "adjacent lists cannot use the same marker",
     // 2: empty paragraph
@@ -91,10 +92,13 @@ pub const KEPT: [&str; 55] = [
     "directive name must be runs of ASCII letters joined by single `-`",
     // 55: attribute name
     "directive attribute name must start with a letter, `_`, or `-`",
+    // 56: tag name (document 02, order 1)
+    "tag name must be a Unicode letter followed by letters, numbers, `/`, `_`, or `-`",
 ];
 
-/// The messages that document 01 drops.
-pub const DROPPED: [&str; 14] = [
+/// The messages that document 01 drops, but for the tag's, which document 02
+/// brings back.
+pub const DROPPED: [&str; 13] = [
     // HTML block left open
     "a block must not follow an HTML block that its value leaves open",
     // both tight-item messages
@@ -110,8 +114,6 @@ pub const DROPPED: [&str; 14] = [
     "footnote label must be one the parser reads as a footnote label",
     // shortcode
     "shortcode name must be a gemoji name",
-    // tag
-    "tag name must be a Unicode letter followed by letters, numbers, `/`, `_`, or `-`",
     // autolink
     "autolink text must be exactly one autolink of its form",
     // character reference
@@ -164,7 +166,8 @@ mod tests {
         found
     }
 
-    /// The literals of validate.rs are the messages and a few of no words.
+    /// The literals of validate.rs are the messages and a few of no words. The
+    /// tag's stands between those of 31 and 32, and is the last here.
     #[test]
     fn messages_stand_in_the_source() {
         let others = ["", "\\r\\n", "\\n", "`$"];
@@ -173,9 +176,13 @@ mod tests {
             .filter(|literal| !others.contains(literal))
             .collect();
         assert_eq!(messages.len(), KEPT.len() + DROPPED.len());
-        let (kept, dropped): (Vec<&str>, Vec<&str>) = messages
+        let (mut kept, dropped): (Vec<&str>, Vec<&str>) = messages
             .into_iter()
             .partition(|message| !DROPPED.contains(message));
+        let tag = kept.iter().position(|message| *message == KEPT[55]);
+        assert_eq!(tag, Some(31));
+        let tag = kept.remove(31);
+        kept.push(tag);
         assert_eq!(kept, KEPT);
         assert_eq!(dropped, DROPPED);
     }
@@ -198,9 +205,9 @@ mod tests {
         }
     }
 
-    /// A word of each message at document 01's ranges.
+    /// A word of each message at the numbers that the papers give.
     #[test]
-    fn rules_are_the_ranges_of_document_01() {
+    fn rules_are_as_the_papers_number_them() {
         for (rules, word) in [
             (1..=1, "adjacent lists"),
             (2..=2, "paragraph"),
@@ -235,6 +242,7 @@ mod tests {
             (51..=53, "blank line"),
             (54..=54, "directive name"),
             (55..=55, "directive attribute name"),
+            (56..=56, "tag name must be a Unicode letter"),
         ] {
             for rule in rules {
                 let message = KEPT[rule - 1];

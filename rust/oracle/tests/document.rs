@@ -213,10 +213,24 @@ fn entries_of_inlines() {
     );
 }
 
-/// An entry of a dropped message is left out.
+/// A tag's entry has the tag's span and the path of its paragraph.
+#[test]
+fn entry_of_a_tag() {
+    assert_eq!(
+        report(&[plain(3, 1), plain(1, 1), at(7, 8, plain(53, 2))]),
+        [56, 1, 7, 8, 1, 1]
+    );
+}
+
+/// An entry of a dropped message is left out: here that a block in a tight
+/// item is read as part of the one before it.
 #[test]
 fn dropped_entries() {
-    assert_eq!(report(&[plain(1, 1), plain(53, 2)]), []);
+    let tight = with([0, 0, 1], plain(6, 1));
+    let words = [tight, plain(20, 2), plain(4, 3), plain(4, 3)];
+    assert_eq!(report(&words), []);
+    let document = oracle::document(&words.concat(), b"");
+    assert_eq!(oracle::validate(&document).len(), 1);
 }
 
 #[test]

@@ -1,7 +1,7 @@
-//! Each rule of document 01 on a small document, through what the oracle
-//! makes public; and the dropped messages beside them.
+//! Each rule on a small document, through what the oracle makes public; and
+//! the dropped messages beside them.
 
-use oracle::{ast::*, kept, rule, span::Span, validate, DROPPED, KEPT};
+use oracle::{ast::*, is_tag_name, kept, rule, span::Span, validate, DROPPED, KEPT};
 
 fn rules(blocks: Vec<Block>) -> Vec<u32> {
     let list = kept(&Document::new(blocks));
@@ -401,6 +401,7 @@ fn faults() -> Vec<(u32, Vec<Block>, Vec<u32>)> {
         (53, vec![loose(vec![last])], vec![53]),
         (54, vec![leaf("x2", Vec::new())], vec![54]),
         (55, vec![attributed("2x")], vec![55]),
+        (56, vec![paragraph(vec![Tag::new("2").into()])], vec![56]),
     ]
 }
 
@@ -563,8 +564,8 @@ fn stubs_are_silent() {
     assert_eq!(validate(&Document::new(blocks)), []);
 }
 
-/// Two dropped messages are decided in the files themselves, so no stub can
-/// silence them: [`kept`] leaves them out.
+/// One dropped message is decided in part in the files themselves, so no
+/// stub can silence it: [`kept`] leaves it out.
 #[test]
 fn what_no_stub_silences() {
     let dropped = |blocks| -> Vec<String> {
@@ -582,12 +583,28 @@ fn what_no_stub_silences() {
     ] {
         assert_eq!(dropped(vec![list(vec![item(vec![left, right])])]), [taken]);
     }
-    let tag = "tag name must be a Unicode letter followed by letters, numbers, `/`, `_`, or `-`";
-    assert_eq!(dropped(vec![paragraph(vec![Tag::new("2").into()])]), [tag]);
-    assert!(dropped(vec![paragraph(vec![Tag::new("łódź/2").into()])]).is_empty());
-    for message in [taken, tag] {
-        assert!(DROPPED.contains(&message));
-        assert_eq!(rule(message), None);
+    assert!(DROPPED.contains(&taken));
+    assert_eq!(rule(taken), None);
+}
+
+/// Rule 56 goes by the files' own `is_tag_name`.
+#[test]
+fn names_of_tags() {
+    for (name, passes) in [
+        ("", false),
+        ("a", true),
+        ("2", false),
+        ("łódź/2", true),
+        ("_a", false),
+        ("a_b-1", true),
+        ("\u{2160}", false),
+        ("a\u{2160}", true),
+        ("a b", false),
+    ] {
+        assert_eq!(is_tag_name(name), passes, "{name:?}");
+        let found = rules(vec![paragraph(vec![Tag::new(name).into()])]);
+        let expected: &[u32] = if passes { &[] } else { &[56] };
+        assert_eq!(found, expected, "{name:?}");
     }
 }
 

@@ -4,7 +4,7 @@ use std::fmt;
 
 /// A rule of the checker, by its number.
 ///
-/// There is a constant for each of the rules 1 to 55, beside the sentence
+/// There is a constant for each of the rules 1 to 56, beside the sentence
 /// that the Rust reference reports for it. A constant may stand in a pattern:
 ///
 /// ```
@@ -158,6 +158,9 @@ rules! {
     DIRECTIVE_NAME = 54, "directive name";
     /// 55: directive attribute name must start with a letter, `_`, or `-`.
     ATTRIBUTE_NAME = 55, "attribute name";
+    /// 56: tag name must be a Unicode letter followed by letters, numbers,
+    /// `/`, `_`, or `-`.
+    TAG_NAME = 56, "tag name";
 }
 
 impl Rule {
@@ -221,18 +224,18 @@ mod tests {
     use super::*;
     use std::collections::BTreeSet;
 
-    /// The numbers are 1 to 55, there and back, and no two names are alike.
+    /// The numbers are 1 to 56, there and back, and no two names are alike.
     #[test]
     fn numbers() {
         let numbers: Vec<u32> = Rule::ALL.iter().map(|rule| rule.number()).collect();
-        assert_eq!(numbers, (1..=55).collect::<Vec<u32>>());
+        assert_eq!(numbers, (1..=56).collect::<Vec<u32>>());
         for &rule in Rule::ALL {
             assert_eq!(Rule::from_raw(rule.number()), Some(rule));
             assert_eq!(u32::from(rule), rule.number());
         }
         let names: BTreeSet<&str> = Rule::ALL.iter().map(|rule| rule.name()).collect();
         assert_eq!(names.len(), Rule::ALL.len());
-        for number in [0, 56, u32::MAX] {
+        for number in [0, 57, u32::MAX] {
             assert_eq!(Rule::from_raw(number), None);
         }
     }
@@ -245,6 +248,7 @@ mod tests {
             (Rule::LINK_IN_LINK, 42, "link in link"),
             (Rule::LONG_NUMBER, 50, "item number: over nine digits"),
             (Rule::ATTRIBUTE_NAME, 55, "attribute name"),
+            (Rule::TAG_NAME, 56, "tag name"),
         ] {
             assert_eq!((rule.number(), rule.name()), (number, name));
         }

@@ -135,9 +135,9 @@ fn rules_of_stops() {
         beside.extend(rules);
     }
     let page = sheet_page();
-    let (_, none) = page.split_once("36 rules stand beside none: ").unwrap();
+    let (_, none) = page.split_once("37 rules stand beside none: ").unwrap();
     let none = none.split(". ").next().unwrap().replace(" and ", ", ");
     let others = Rule::ALL.iter().map(|rule| rule.number());
     let others: Vec<u32> = others.filter(|rule| !beside.contains(rule)).collect();
-    assert_eq!((listed(&none), others.len()), (others, 36));
+    assert_eq!((listed(&none), others.len()), (others, 37));
 }

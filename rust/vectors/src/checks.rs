@@ -291,7 +291,7 @@ mod tests {
     #[test]
     fn every_rule_and_refusal_occurs() {
         let rules = count(&CASES);
-        assert!(rules.keys().copied().eq(1..=55), "{rules:?}");
+        assert!(rules.keys().copied().eq(1..=56), "{rules:?}");
         assert!(rules.values().all(|&count| count >= 20), "{rules:?}");
         let mut numbers = [0; 12];
         for case in &*CASES {

@@ -150,11 +150,14 @@ fn damaged(numbers: &mut Numbers, sheet: Sheet) -> Sheet {
     (words, text)
 }
 
-/// Films of larger and of deep trees, for longer lists and paths.
+/// Films of none to eight empty paragraphs, each with an entry; and of larger
+/// and of deep trees, for longer lists and paths.
 fn pages() -> Vec<Vec<u8>> {
+    let empty = (0..=8).map(|count| (vec![plain(1, 1); count].concat(), Vec::new()));
     let trees = (0..12).map(|seed| random::tree(seed, 30));
     let deep = (0..8).map(|seed| random::deep(seed, 6));
-    trees.chain(deep).map(|sheet| films::film(&sheet)).collect()
+    let sheets = empty.chain(trees).chain(deep);
+    sheets.map(|sheet| films::film(&sheet)).collect()
 }
 
 /// Films of random trees with something done to them.
@@ -197,7 +200,7 @@ mod tests {
     #[test]
     fn every_rule_refusal_and_stop_occurs() {
         let rules = count(&CASES);
-        assert!(rules.keys().copied().eq(1..=55), "{rules:?}");
+        assert!(rules.keys().copied().eq(1..=56), "{rules:?}");
         let mut endings = BTreeMap::new();
         for case in &*CASES {
             *endings.entry(case.ending()).or_insert(0) += 1;

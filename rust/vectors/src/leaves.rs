@@ -5,7 +5,7 @@
 use oracle::ast::{
     Alert, AlertKind, Block, CodeBlock, CodeBlockKind, CodeInline, Definition, DirectiveAttribute,
     Document, Frontmatter, FrontmatterKind, Inline, LeafDirective, LinkDestinationKind, MathInline,
-    MathInlineKind, NodeMeta, Paragraph, Table, TableAlignment, TableCell, TableRow, Text,
+    MathInlineKind, NodeMeta, Paragraph, Table, TableAlignment, TableCell, TableRow, Tag, Text,
 };
 
 /// How many functions a record of a text file answers for.
@@ -28,7 +28,7 @@ const OF_TEXT: [fn(&str) -> bool; FUNCTIONS - 1] = [
     is_attribute_name,
     is_blank_identifier,
     holds_backtick_dollar,
-    oracle::is_tag_name,
+    is_tag_name,
 ];
 
 /// Which functions are compared for `bytes`, and their answers: bit k of both
@@ -155,6 +155,11 @@ pub fn is_blank_identifier(text: &str) -> bool {
             title: None,
         },
     )
+}
+
+/// Not rule 56, for a paragraph of a tag of this name.
+pub fn is_tag_name(text: &str) -> bool {
+    !reports(56, Paragraph::new([Inline::Tag(Tag::new(text))]))
 }
 
 /// Rule 48, for code-form math of this value.

@@ -220,7 +220,7 @@ mod tests {
             let list = oracle::list(&words, &text);
             let mut rest = &list[..];
             while let [rule, flag, _, _, length, after @ ..] = rest {
-                assert!((1..=55).contains(rule) && *flag <= 1 && *length >= 1);
+                assert!((1..=56).contains(rule) && *flag <= 1 && *length >= 1);
                 rest = &after[*length as usize..];
             }
             assert!(rest.is_empty());

@@ -1,19 +1,21 @@
 -- The scalar values of a text, a byte at a time.
-use mathlib.Core.Path.{◌≡◌, refl, ap}
-use mathlib.Core.Bool.{Bool, true, false, not, ◌||◌}
+use mathlib.Core.Path.{◌≡◌, refl, sym, ap, ◌∙◌}
+use mathlib.Core.Bool.{Bool, true, false, not, ◌||◌, true≢false}
 use mathlib.Core.List.{List, [], ◌∷◌}
 use Prim.Native.Nat.{ℕ, zero, suc, ◌+◌, ◌*◌, ◌%◌, ◌<◌}
 use native.Mathlib.Omega.{arith}
 use lib.Dec.{eqb, ltb, eqb-suc-zero}
 use lib.ListN.{length}
-use borrow.Author.Tests.{ltb-true}
+use borrow.Author.Tests.{ltb-true, lt-ltb}
 use Rattle.std.specs.Prelude.{if◌then◌else◌}
 use Rattle.leaves.specs.Text.Utf8.{Range, ◌to◌, within, trail, table_3_7, follow}
 use Rattle.leaves.specs.Text.Scalars.{replacement, lead_bits, trail_bits, emit, decode}
 use Rattle.leaves.specs.Text.Utf8Scans.{breaks_character, expected_after}
 use Rattle.leaves.specs.Text.ScalarScans.{value_after, room}
-use Rattle.leaves.specs.Text.Utf8Expected.{trail_columns}
+use Rattle.leaves.specs.Text.Utf8Expected.{trail_columns, expecting, Expects}
+use Rattle.leaves.specs.declared.text.utf8.Expected.{Expected}
 use Rattle.leaves.proofs.text.TestLaws.{all_below, each}
+use Rattle.leaves.proofs.text.Utf8Laws.{ascii-alone}
 
 -- ---- the value of the bits
 
@@ -60,6 +62,24 @@ room_kept more low high before l h value b k f e =
     let g : value < room (length (trail_columns before l h)) = rw (long before l h) f in
     let r : value_after (trail_columns before l h) value b < room (length (trail_columns more low high)) = rw e (fits_after (trail_columns before l h) value b k g) in
     rw (long more low high) at r
+
+pub none_expected : (more low high : ℕ) → eqb more 0 ≡ true → trail_columns more low high ≡ []
+none_expected zero low high z = refl
+none_expected (suc m) low high z = absurd (true≢false (sym z ∙ eqb-suc-zero m))
+
+-- a byte of ASCII where none is expected is a character by itself
+module _ (more low high value b : ℕ) (z : eqb more 0 ≡ true) (h : b < 0x80) where
+  pub ascii_expected : [] ≡ expected_after (trail_columns more low high) b
+  unfolding expected_after
+  ascii_expected = rw (none_expected more low high z) (ascii-alone b h)
+
+  pub ascii_value : b ≡ value_after (trail_columns more low high) value b
+  unfolding value_after lead_bits
+  ascii_value = rw (none_expected more low high z, lt-ltb b 0x80 h) refl
+
+pub ascii_room : {o : Expected} {value : ℕ} → Expects [] o → value < 0x80 → value < room o.more
+unfolding expecting
+ascii_room e h = rw e.is (omega (arith, h))
 
 -- ---- one byte more
 

@@ -49,7 +49,7 @@ module _ (b : ℕ) where
   pub from-to : (low high : ℕ) → low ≤ b → b ≤ high → between low high b ≡ true
   from-to low high p q = rw (le-leb low b p, le-leb b high q)
 
-  ascii-alone : b < 0x80 → [] ≡ follow table_3_7 b
+  pub ascii-alone : b < 0x80 → [] ≡ follow table_3_7 b
   unfolding all_below row-test same-ranges follow table_3_7
   ascii-alone h = followed (between 0 0x7F) [] refl b (omega arith) (from-to 0 0x7F (omega arith) (omega arith))
 

@@ -60,3 +60,4 @@ rule_number Rule.BlankLineFirst = Rules.blank_line_first
 rule_number Rule.BlankLineLast = Rules.blank_line_last
 rule_number Rule.DirectiveName = Rules.directive_name
 rule_number Rule.AttributeName = Rules.attribute_name
+rule_number Rule.TagName = Rules.tag_name

@@ -1,4 +1,5 @@
 -- The rules. Document 01: "Rules numbered as their messages stand in source document 000, dropped ones skipped".
+-- Document 02: "Bring back the dropped tag message as rule 56".
 use Rattle.std.specs.Prelude.{ℕ}
 
 -- "adjacent lists cannot use the same marker"
@@ -220,3 +221,7 @@ directive_name = 54
 -- "directive attribute name must start with a letter, `_`, or `-`"
 abbrev pub attribute_name : ℕ
 attribute_name = 55
+
+-- "tag name must be a Unicode letter followed by letters, numbers, `/`, `_`, or `-`"
+abbrev pub tag_name : ℕ
+tag_name = 56

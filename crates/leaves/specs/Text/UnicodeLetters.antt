@@ -1,6 +1,6 @@
--- The letters and the numbers of the Unicode Character Database 15.1.0, as unicode_letters.rs has them: the code
--- points of the general categories `L*` and `N*`, in inclusive ranges. The entries are those of the Rust file, in its
--- order; NOTICE has its source.
+-- Rule 56: tag names. The letters and the numbers of the Unicode Character Database 15.1.0, as unicode_letters.rs has
+-- them: the code points of the general categories `L*` and `N*`, in inclusive ranges. The entries are those of the Rust
+-- file, in its order; NOTICE has its source.
 use Rattle.std.specs.Prelude.{ℕ, Bool, true, false, ◌&&◌, ◌||◌, List, [], ◌∷◌, eqb, leb, ltb}
 use Rattle.std.specs.List.{list_any, list_all}
 use Rattle.leaves.specs.Text.Bytes.{between, hyphen, underscore, slash}
@@ -826,7 +826,8 @@ are_ranges ranges = are_above 0 ranges
 unfoldable pub in_ranges : List (ℕ × ℕ) → ℕ → Bool
 in_ranges ranges c = list_any (λ r. between r.0 r.1 c) ranges
 
--- `is_letter`: "Whether `value` is a Unicode letter, which can start a tag name."
+-- `is_letter`: "Whether `value` is a Unicode letter, which can start a tag name." (The Rust tells characters of ASCII
+-- without the tables, which hold the same ones.)
 unfoldable pub is_unicode_letter : ℕ → Bool
 is_unicode_letter c = in_ranges letter_ranges c
 

@@ -1,4 +1,4 @@
-// The rules, as document 01 numbers them, each with its message.
+// The rules, as documents 01 and 02 number them, each with its message.
 ghost use Rattle.std.specs.Prelude.{◌≡◌};
 ghost use Rattle.leaves.specs.Report.RuleNumbers.{rule_number};
 
@@ -115,10 +115,12 @@ pub enum Rule {
     DirectiveName = 54,
     // "directive attribute name must start with a letter, `_`, or `-`"
     AttributeName = 55,
+    // "tag name must be a Unicode letter followed by letters, numbers, `/`, `_`, or `-`"
+    TagName = 56,
 }
 
 impl Rule {
-    // Document 01's number of the rule.
+    // The rule's number in an entry.
     pub fn number(self) -> u32
         ensures { result ≡ rule_number self }
     {

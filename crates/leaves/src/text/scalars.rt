@@ -60,10 +60,19 @@ impl Character {
         }
     }
 
+    // The character that `b` continues or begins. Most bytes are ASCII and come where no character is unfinished: they
+    // are tested first. It is inlined, since a call would pass the struct through memory.
+    #[inline(always)]
     pub(crate) fn after(self, b: u8) -> Character
         ensures expected { Expects (expected_after (expected_of self.expected) b) result.expected }
         ensures value { result.value ≡ value_after (expected_of self.expected) self.value b }
     {
+        if b < 0x80 && self.is_whole() {
+            return Character {
+                expected: Expected::trails(0),
+                value: u32::from(b),
+            };
+        }
         Character {
             expected: self.expected.after(b),
             value: self.value_after(b),

@@ -2,7 +2,7 @@
 ghost use Rattle.std.specs.Prelude.{◌≡◌, true};
 ghost use Rattle.leaves.specs.Text.UnicodeLetters.{letter_ranges, number_ranges, are_ranges, in_ranges};
 ghost use Rattle.leaves.specs.Text.UnicodeLetters.{is_unicode_letter, is_tag_name_char, is_tag_name};
-ghost use Rattle.leaves.specs.Text.TagNameScans.{is_ascii_tag_name_char, fits_tag_name};
+ghost use Rattle.leaves.specs.Text.TagNameScans.{is_ascii_tag_name_char, is_ascii_tag_name, fits_tag_name};
 
 use crate::text::bytes;
 use crate::text::bytes::{HYPHEN, SLASH, UNDERSCORE};
@@ -888,9 +888,19 @@ fn fits_tag_name(first: bool, c: u32) -> bool
     }
 }
 
-// Whether the name is a letter, and then letters, numbers, `/`, `_` and `-`. An ill-formed sequence of bytes is U+FFFD,
+// Whether the name is a tag name of ASCII alone.
+fn is_ascii_tag_name(s: &[u8]) -> bool
+    ensures { result ≡ is_ascii_tag_name s.now }
+{
+    match s {
+        [] => false,
+        [first, ..] => bytes::is_letter(*first) && s.iter().all(|b| is_ascii_tag_name_char(*b)),
+    }
+}
+
+// The same as `is_tag_name`, but reads the characters one after another. An ill-formed sequence of bytes is U+FFFD,
 // which is no letter and no number, so such a name is none.
-pub fn is_tag_name(s: &[u8]) -> bool
+fn reads_tag_name(s: &[u8]) -> bool
     ensures { result ≡ is_tag_name s.now }
 {
     let mut character = Character::new();
@@ -908,4 +918,13 @@ pub fn is_tag_name(s: &[u8]) -> bool
         }
     }
     !first && character.is_whole()
+}
+
+// Whether the name is a letter, and then letters, numbers, `/`, `_` and `-`. Names of ASCII are tried first: their bytes
+// are their characters.
+#[tactic(auto, using(crate::proofs::text::TagNameLaws::ascii_name))]
+pub fn is_tag_name(s: &[u8]) -> bool
+    ensures { result ≡ is_tag_name s.now }
+{
+    is_ascii_tag_name(s) || reads_tag_name(s)
 }

@@ -33,7 +33,7 @@ use Rattle.setter.proofs.agrees.Flat.{walk, filled, pile}
 use Rattle.setter.proofs.agrees.Fits.{Sub, sub-left, sub-right, sub-if, Clean, clean-none, clean-append, clean-if, clean-noise, Fits, fits-none, fits-map, still, one-stop, two-stops, alone, fits-alone, fits-tree, fits-leaf}
 use Rattle.setter.proofs.agrees.KindCases.{rank, InlineKind, i31, i32, i33, i34, i35, i36, i37, i38, i39, i40, i41, i42, i43, i44, i45, i46, i47, i48, i49, i50, i51, i52, i53, Inliny, inliny, Extra, tag, attr, Extras, extras}
 use Rattle.setter.proofs.agrees.Placed.{group_of, Stands, Placed, leaf, under-inlines, under-label}
-use Rattle.setter.proofs.agrees.Noise.{clean-destination, clean-identifier, clean-escape, clean-math, clean-text-directive, clean-final}
+use Rattle.setter.proofs.agrees.Noise.{clean-destination, clean-identifier, clean-escape, clean-math, clean-tag, clean-text-directive, clean-final}
 use Rattle.setter.proofs.agrees.Context.{place_other, nearest-inline, empty-kids}
 use Rattle.inlines.proofs.DepthLaws.{each-tree}
 
@@ -322,7 +322,7 @@ module _ (bytes : List ℕ) (es : List Entry) (f : Frame) (st : List Frame) (i b
   node-fits ih (i50 e) = node_through ih (hold-inlines r (rw e)) (rw e) (rw e) (rw e) (rw e) (rw e) (rw e) (rw e (clean-noise _ 35 r.span p refl))
   node-fits ih (i51 e) = node-auto (rw e) (rw e) (rw e) (rw e) (rw e) (rw e) (rw e (clean-identifier bytes p r.span 36 r.first refl))
   node-fits ih (i52 e) = node_through ih (hold-label r (rw e)) (rw e) (rw e) (rw e) (rw e) (rw e) (rw e) (rw e (clean-text-directive bytes p r.span r.first kids))
-  node-fits ih (i53 e) = node-plain (rw e) (rw e) (rw e) (rw e) (rw e) (rw e) (rw e clean-none)
+  node-fits ih (i53 e) = node-plain (rw e) (rw e) (rw e) (rw e) (rw e) (rw e) (rw e (clean-tag bytes p r.span r.first))
 
 -- a tag or an attribute
 pub extra-leaf : (r : Rec) (kids : Forest) → Placed r 0 kids → Extra r.kind → kids ≡ no_tree

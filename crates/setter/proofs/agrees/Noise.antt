@@ -11,7 +11,7 @@ use Rattle.leaves.specs.declared.sheet.records.Rec.{Rec}
 use Rattle.leaves.specs.declared.sheet.records.Span.{Span}
 use Rattle.leaves.specs.declared.sheet.records.Text.{Text}
 use Rattle.leaves.specs.Report.Entries.{Entry}
-use Rattle.inlines.specs.Single.{validate_destination, validate_identifier, validate_escape, validate_directive_name}
+use Rattle.inlines.specs.Single.{validate_destination, validate_identifier, validate_escape, validate_directive_name, validate_tag}
 use Rattle.inlines.specs.Literal.{validate_math_inline}
 use Rattle.inlines.specs.Attribute.{validate_directive_attributes}
 use Rattle.inlines.specs.Depth.{each_record, validate_cell_values}
@@ -51,6 +51,10 @@ module _ (bytes path : List ℕ) (span : Span) where
   pub clean-name : (t : Text) → Clean (validate_directive_name bytes path span t)
   unfolding validate_directive_name named
   clean-name t = clean-noise _ 54 span path refl
+
+  pub clean-tag : (t : Text) → Clean (validate_tag bytes path span t)
+  unfolding validate_tag named
+  clean-tag t = clean-noise _ 56 span path refl
 
   pub clean-alert : (a : ℕ) (t : Text) → Clean (validate_alert bytes path span a t)
   unfolding validate_alert named

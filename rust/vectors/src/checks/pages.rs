@@ -1,5 +1,5 @@
-//! Document 01's proved cases and traps, and pages for each rule of blocks,
-//! with what is easily got wrong there.
+//! Document 01's proved cases and traps, and pages for each rule of blocks and
+//! for rule 56, with what is easily got wrong there.
 
 use cases::{
     draft::Draft,
@@ -298,6 +298,25 @@ fn cells() -> Vec<Page> {
     all
 }
 
+/// Rule 56, with the path of the paragraph, heading, cell or directive around
+/// it.
+fn tags() -> Vec<Page> {
+    let mut all = Vec::new();
+    for name in ["a", "łódź/2", "Ωmega_1-a", "", "2", "²", "_", "a b", "a×"] {
+        let tag = || letters::tag(name).alone();
+        all.push(vec![
+            letters::paragraph().under([tag(), x(), tag()]),
+            letters::heading(1).under([letters::link(0, "x").under([tag()])]),
+            in_cell([letters::mark().under([tag()])]),
+        ]);
+        all.push(vec![
+            letters::leaf_directive("x").under([tag()]),
+            letters::container_directive("x").under([tag(), words()]),
+        ]);
+    }
+    all
+}
+
 /// Rules 22, 23, 54 and 55.
 fn directives() -> Vec<Page> {
     let mut all = Vec::new();
@@ -417,9 +436,12 @@ fn frontmatter() -> Vec<Page> {
     ]
 }
 
-/// Rules 49 to 53.
+/// Rules 49 to 53; and items without a number behind one that has the
+/// largest.
 fn items() -> Vec<Page> {
-    let mut all = Vec::new();
+    let numbers = [None, Some(999_999_999), None, None];
+    let items = numbers.map(|number| letters::item(0, number).under([words()]));
+    let mut all = vec![vec![letters::list(1, 3, 1).under(items)]];
     for number in [0, 1, 999_999_999, 1_000_000_000, u32::MAX] {
         let numbered = |ordered, delimiter| {
             let item = letters::item(0, Some(number)).under([words()]);
@@ -568,6 +590,7 @@ pub fn all() -> Vec<Case> {
         tables(),
         cells(),
         directives(),
+        tags(),
         values(),
         frontmatter(),
         items(),
@@ -622,15 +645,15 @@ mod tests {
         assert_eq!(proved().len(), expected.len());
     }
 
-    /// The rules of blocks all occur among the pages, and are not always
-    /// reported.
+    /// The rules of blocks, and 56, all occur among the pages, and are not
+    /// always reported.
     #[test]
     fn rules_of_blocks() {
         let seen: BTreeSet<u32> = all()
             .iter()
             .flat_map(|case| case.rules().collect::<Vec<_>>())
             .collect();
-        for rule in (1..=29).chain(49..=55) {
+        for rule in (1..=29).chain(49..=56) {
             assert!(seen.contains(&rule), "{rule}");
         }
         let silent = all().iter().filter(|case| case.answer == 0).count();

@@ -83,6 +83,7 @@ fn wide() -> Vec<Letter> {
         letters::wikilink("x", ""),
         letters::directive(""),
         letters::directive("x-"),
+        letters::tag("é/2"),
     ];
     narrow().into_iter().chain(further).collect()
 }

@@ -3,7 +3,7 @@
 use cases::{
     draft::Draft,
     letters::{self, Letter},
-    Numbers,
+    names, Numbers,
 };
 
 use super::{Case, MOST_RECORDS};
@@ -124,7 +124,7 @@ impl Maker {
             50 => letters::inline_footnote(),
             51 => letters::wikilink(place, label),
             52 => letters::directive(self.one(&NAMES)),
-            _ => letters::tag(value),
+            _ => letters::tag(&names::tag_name(&mut self.numbers)),
         }
     }
 

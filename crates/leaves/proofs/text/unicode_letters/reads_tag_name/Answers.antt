@@ -1,11 +1,11 @@
--- `leaves::text::unicode_letters::is_tag_name` meets its contract.
+-- `leaves::text::unicode_letters::reads_tag_name` meets its contract.
 use mathlib.Core.Path.{◌∙◌, sym, ap, refl}
 use mathlib.Core.Bool.{not, ◌&&◌}
 use lib.Dec.{eqb}
 use Rattle.leaves.proofs.text.ScanLaws.{stop, turn, end}
 use Rattle.leaves.proofs.text.TagNameLaws.{tag_init, tag-broken, tag-wrong, tag-right, tag-more, tag-end}
-use Rattle.leaves.proofs.text.unicode_letters.is_tag_name.Goals as goal
-use Rattle.leaves.proofs.text.unicode_letters.is_tag_name.Goals.{then-is_whole+else-not-fits_tag_name, else-is_whole}
+use Rattle.leaves.proofs.text.unicode_letters.reads_tag_name.Goals as goal
+use Rattle.leaves.proofs.text.unicode_letters.reads_tag_name.Goals.{then-is_whole+else-not-fits_tag_name, else-is_whole}
 
 pub loop-b-init : goal.loop-b-init
 loop-b-init c = tag_init c.args.s.now c.new-character.ensures.expected.all c.new-character.ensures.value
