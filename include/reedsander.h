@@ -322,10 +322,11 @@ uint64_t reedsander_check(const uint32_t *sheet, size_t sheet_words,
  *
  * Each record that was opened has its mark in the word of its own number,
  * counted from 0: a heading its depth; a cell its column, counted from 1; an
- * item of an ordered list its own number, else that of the item before plus
- * 1, else 1; every other record 0. All other words of the marks are as they
- * were: those of the record that stopped at its opening and of the records
- * behind it, and the words past the last record.
+ * item of an ordered list the number of the list's first item, or 1 where
+ * that has none, plus how many items stand before it in the list, whatever
+ * numbers these have; every other record 0. All other words of the marks are
+ * as they were: those of the record that stopped at its opening and of the
+ * records behind it, and the words past the last record.
  *
  * The machine and the check agree: it stops exactly when the check's list
  * holds a rule that belongs to a stop, and one of that very stop stands there

@@ -1,24 +1,25 @@
 -- What is kept of an open record is what its frame shows: as it opens, as a child of it closes, and to a record that opens under it.
-use mathlib.Core.Path.{◌≡◌, refl}
+use mathlib.Core.Path.{◌≡◌, refl, sym, ap}
 use mathlib.Core.Bool.{Bool, true, false, not, ◌&&◌, ◌||◌, true≢false}
-use mathlib.Core.List.{List, [], ◌∷◌}
+use mathlib.Core.List.{List, [], ◌∷◌, get_last_d}
 use Prim.Native.Nat.{ℕ, ◌≤◌}
 use native.Mathlib.Numerals.{add-one}
 use native.Mathlib.Omega.{arith}
 use lib.Dec.{eqb, ltb}
 use lib.ListN.{length}
-use borrow.Author.Tests.{eq-eqb, ltb-true, ltb-false}
+use borrow.Author.Tests.{eq-eqb, ne_eqb, eqb-true, ltb-true, ltb-false}
 use Rattle.std.specs.Prelude.{if◌then◌else◌}
 use Rattle.leaves.specs.Sheet.Kinds.{list, blank_line, item}
 use Rattle.leaves.specs.declared.sheet.records.Rec.{Rec}
 use Rattle.leaves.specs.Refusal.Fields.{most_a, most_b, most_c, is_surrogate, bad_number, bad_field}
+use Rattle.leaves.proofs.text.LastLaws.{last-cons}
 use Rattle.leaves.proofs.text.TestLaws.{and_left, and_right, or_left, or_right}
 use Rattle.leaves.specs.Text.Marker.{written_marker}
 use Rattle.leaves.specs.Refusal.Limits.{most_item_number}
 use Rattle.setter.specs.Steps.{Frame, fresh, with_kid}
-use Rattle.setter.specs.Seen.{columns, nearest, in_link, behind_list, only_empty, last_mark, Seen, seen}
+use Rattle.setter.specs.Seen.{columns, nearest, in_link, behind_list, only_empty, number_or_1, start_number, Seen, seen}
 use Rattle.setter.specs.Stops.{Moment, opening, same_moment, Row, stops, lowest, stop_at}
-use Rattle.setter.specs.Kept.{marker_behind, kept_of, seen_by, opened_in, after_kid}
+use Rattle.setter.specs.Kept.{marker_behind, start_behind, start_with, kept_of, seen_by, opened_in, after_kid}
 
 -- a list's written marker is never 0
 some-marker : (a b : ℕ) → eqb 0 (written_marker a b) ≡ false
@@ -43,17 +44,26 @@ joins-kept (s ∷ ss) r = go (eqb s.kind blank_line) (eqb s.kind list) (joins-ke
     go false true e = refl
     go false false e = some-marker r.a r.b
 
+-- the start number that is kept, and the next item, tell the start number of the list
+start-kept : (f : Frame) (st : List Frame) (r : Rec) → start_with r (kept_of f st) ≡ start_number f.kids r
+unfolding kept_of start_behind start_number get_last_d
+start-kept f st r = go f.kids
+  where
+    go : (ss : List Rec) → (if eqb (length ss) 0 && eqb r.b 1 then r.c else start_behind ss) ≡ start_number ss r
+    go [] = refl
+    go (s ∷ ss) = rw (ne_eqb (length (s ∷ ss)) 0 (λ z. omega arith)) (ap number_or_1 (sym (last-cons s r ss)))
+
 pub seen-kept : (f g : Frame) (st : List Frame) → seen_by f.of (kept_of g st) (length f.kids) (only_empty f.kids) ≡ seen f (g ∷ st)
 unfolding kept_of
-seen-kept f g st = rw (joins-kept g.kids f.of)
+seen-kept f g st = rw (joins-kept g.kids f.of, start-kept g st f.of)
 
 pub opened-kept : (i : ℕ) (r : Rec) (f : Frame) (st : List Frame) → opened_in i r (kept_of f st) ≡ kept_of (fresh i r) (f ∷ st)
-unfolding kept_of opened_in columns nearest in_link only_empty last_mark marker_behind
+unfolding kept_of opened_in columns nearest in_link only_empty start_behind marker_behind
 opened-kept i r f st = refl
 
 pub kid-kept : (r : Rec) (f : Frame) (st : List Frame) → after_kid (kept_of f st) r ≡ kept_of (with_kid r f) st
-unfolding kept_of after_kid columns nearest in_link only_empty last_mark marker_behind
-kid-kept r f st = rw (add-one (length f.kids))
+unfolding kept_of after_kid columns nearest in_link only_empty start_behind marker_behind
+kid-kept r f st = rw (add-one (length f.kids), start-kept f st r)
 
 -- ---- an item that opens has a small number, or none
 -- where the lowest of the stops is none, no row of that moment holds
@@ -101,3 +111,13 @@ small-number bytes r s h bad e =
     go false f o g x y = omega (arith, plain-small r bad f)
     go true f true g x y = ltb-false _ _ x
     go true f false g x y = absurd (true≢false y)
+
+-- so the start number that is kept is small
+pub start-small : (r : Rec) (ss : List Rec) → (r.b ≡ 1 → r.c ≤ most_item_number) → start_behind ss ≤ most_item_number → start_behind (r ∷ ss) ≤ most_item_number
+unfolding start_behind start_number get_last_d
+start-small r (s ∷ ss) own h = rw (last-cons s r ss) h
+start-small r [] own h = go (eqb r.b 1) refl
+  where
+    go : (t : Bool) → eqb r.b 1 ≡ t → (if t then r.c else 1) ≤ most_item_number
+    go true e = own (eqb-true _ _ e)
+    go false e = omega arith

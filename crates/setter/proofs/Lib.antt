@@ -2,6 +2,7 @@ pub mod BothLaws
 pub mod KeptLaws
 pub mod MachineExamples
 pub mod ExportLaws
+pub mod MarkLaws
 pub mod RunLaws
 pub mod SetLaws
 pub mod StepLaws

@@ -7,8 +7,8 @@ use Prim.Native.Nat.{ℕ, suc, ◌+◌, ◌-◌, ◌*◌, ◌<◌, ◌≤◌}
 use native.Mathlib.Numerals.{add-one}
 use native.Mathlib.Nat.{sub-zero}
 use native.Mathlib.Omega.{arith}
-use borrow.Author.Tests.{ltb-true, ltb-false, le-leb, lt-leb, leb-true, leb-false, eqb-true}
-use lib.Dec.{eqb, ltb, leb}
+use borrow.Author.Tests.{ltb-true, ltb-false, le-leb, lt-leb, leb-true, leb-false}
+use lib.Dec.{ltb, leb}
 use lib.ListN.{length, get_or, set, replicate, length-set}
 use lib.Seq.{get_or-set_same, get_or-set_other}
 use Rattle.leaves.specs.Sheet.Records.{record_words, records_of, record_at}
@@ -23,12 +23,12 @@ use Rattle.setter.specs.Steps.{Frame, fresh, with_kid, the_sheet, Step, closings
 use Rattle.setter.specs.Machine.{run_of, run, run_answer}
 use Rattle.setter.specs.Marks.{mark_of, marks_of}
 use Rattle.setter.specs.Stops.{opening, closing, stop_at, stop_of}
-use Rattle.setter.specs.Seen.{only_empty, last_mark, item_mark, seen}
+use Rattle.setter.specs.Seen.{only_empty, seen}
 use Rattle.setter.proofs.StepLaws.{Low, open-one, close-one, goes_on, stops-here}
-use Rattle.setter.specs.Kept.{most_kids, most_item_mark, kept_of, seen_by, opened_in, after_kid}
+use Rattle.setter.specs.Kept.{most_kids, start_behind, kept_of, seen_by, opened_in, after_kid}
 use Rattle.setter.specs.declared.kept.Kept.{Kept}
 use Rattle.setter.proofs.SetLaws.{stop-numbered}
-use Rattle.setter.proofs.KeptLaws.{seen-kept, opened-kept, kid-kept, small-number}
+use Rattle.setter.proofs.KeptLaws.{seen-kept, opened-kept, kid-kept, small-number, start-small}
 use Rattle.setter.specs.Answer.{stop_number, Answers}
 use Rattle.setter.specs.SetOutcome.{after_run}
 use Rattle.setter.specs.MachineRunning.{next_level}
@@ -52,7 +52,7 @@ module _ (w bytes : List ℕ) (ok : judge_sheet w bytes ≡ Ok tt) where
 
 -- what no record is kept as
 abbrev pub unkept : Kept
-unkept = record { at = 0; columns = 0; nearest = 0; linked = false; ordered = false; kids = 0; broke = false; marker = 0; empty = false; number = 0 }
+unkept = record { at = 0; columns = 0; nearest = 0; linked = false; ordered = false; kids = 0; broke = false; marker = 0; empty = false; start_number = 0 }
 
 -- an open record f, where i records have opened, m of them under it and still open
 pub record One (w : List ℕ) (n i m : ℕ) (os : List Kept) (f : Frame) (st : List Frame) : Type 0 where
@@ -60,7 +60,7 @@ pub record One (w : List ℕ) (n i m : ℕ) (os : List Kept) (f : Frame) (st : L
   pub kept : get_or os (length st) unkept ≡ kept_of f st
   pub from : 0 < length st → (f.at < n) × (f.of ≡ record_at w f.at)
   pub few : m + length f.kids ≤ i
-  pub small : last_mark f.kids ≤ most_item_number + length f.kids
+  pub small : start_behind f.kids ≤ most_item_number
   pub own : f.of.b ≡ 1 → f.of.c ≤ most_item_number
 
 unfoldable pub Held : List ℕ → ℕ → ℕ → ℕ → List Kept → List Frame → Type 0
@@ -106,7 +106,7 @@ pub record Running (w bytes old : List ℕ) (n : ℕ) (new : List ℕ) (os : Lis
   pub marked : marks_of (run w bytes).steps old ≡ marks_of (run_of bytes (steps_from (record { top = top; around = around }) i (records_from w (n - i) i))).steps new
 
 pub run-start : (w bytes marks : List ℕ) (n : ℕ) {k : Kept} → k ≡ kept_of the_sheet [] → judge_sheet w bytes ≡ Ok tt → n ≡ records_of w → n ≤ length marks → Running w bytes marks n marks (replicate 65 k) 0 0
-unfolding Held last_mark run steps_of
+unfolding Held start_behind run steps_of
 run-start w bytes marks n e ok all room =
     record {
       ok = ok;
@@ -204,13 +204,6 @@ module _ {w bytes old : List ℕ} {n : ℕ} {new : List ℕ} {os : List Kept} {d
             marked = rw (a, step) at v.marked;
           }
 
-mark-small : (r : Rec) (before m : ℕ) → (r.b ≡ 1 → r.c ≤ most_item_number) → before ≤ most_item_number + m → item_mark r before ≤ most_item_number + suc m
-mark-small r before m own h = go (eqb r.b 1) refl
-  where
-    go : (t : Bool) → eqb r.b 1 ≡ t → (if t then r.c else before + 1) ≤ most_item_number + suc m
-    go true e = omega (arith, own (eqb-true _ _ e))
-    go false e = omega arith
-
 module _ {w bytes old : List ℕ} {n : ℕ} {new : List ℕ} {os : List Kept} {depth i : ℕ} (z : Closing w bytes old n new os depth i) where
   abbrev after-close : List Step
   after-close = steps_from (record { top = with_kid z.top.of z.under; around = z.around }) i (records_from w (n - i) i)
@@ -234,11 +227,11 @@ module _ {w bytes old : List ℕ} {n : ℕ} {new : List ℕ} {os : List Kept} {d
       rw top-at (omega (arith, (accepted w bytes z.running.ok).whole, z.running.all))
 
   -- what is kept can be counted on
-  pub close-fits : ((get_or os (depth - 1) unkept).kids ≤ most_kids) × ((get_or os (depth - 1) unkept).number ≤ most_item_mark)
+  pub close-fits : (get_or os (depth - 1) unkept).kids ≤ most_kids
   unfolding Held kept_of
   close-fits =
       let few = z.running.few in
-      rw under-kept (omega (arith, z.held.1.0.few, z.running.within, z.running.all), omega (arith, z.held.1.0.small, z.held.1.0.few, z.running.within, z.running.all))
+      rw under-kept (omega (arith, z.held.1.0.few, z.running.within, z.running.all))
 
   module _ {r : Rec} {s : ℕ} (er : r ≡ record_at w (get_or os depth unkept).at) (es : (t : List ℕ) → s ≡ stop_at closing t r (seen_by r (get_or os (depth - 1) unkept) (get_or os depth unkept).kids (get_or os depth unkept).empty)) where
     closes-of : r ≡ z.top.of
@@ -257,7 +250,7 @@ module _ {w bytes old : List ℕ} {n : ℕ} {new : List ℕ} {os : List Kept} {d
         record { answer = rw (z.ends, z.marked, here, top-at, ← e, closes-stop) }
 
     pub close-turn : {q : Kept} → s ≡ 0 → q ≡ after_kid (get_or os (depth - 1) unkept) r → Running w bytes old n new (set os (depth - 1) q) (depth - 1) i
-    unfolding Held marks_of last_mark
+    unfolding Held marks_of
     close-turn {q} h eq =
         let on = goes_on bytes (closes z.top (z.under ∷ z.around)) after-close (sym closes-stop ∙ h) in
         let d : length z.around ≡ depth - 1 = omega (arith, z.deep) in
@@ -276,7 +269,7 @@ module _ {w bytes old : List ℕ} {n : ℕ} {new : List ℕ} {os : List Kept} {d
           top = with_kid z.top.of z.under;
           around = z.around;
           deep = d;
-          held = (record { level = o.level; kept = rw d (get_or-set_same os (depth - 1) q unkept (omega (arith, z.running.long, z.running.shallow)) ∙ e); from = o.from; few = omega (arith, o.few); small = mark-small z.top.of (last_mark z.under.kids) (length z.under.kids) z.held.0.own o.small; own = o.own }, held-set w n os (depth - 1) q i i z.around (omega arith) (omega arith) z.held.1.1);
+          held = (record { level = o.level; kept = rw d (get_or-set_same os (depth - 1) q unkept (omega (arith, z.running.long, z.running.shallow)) ∙ e); from = o.from; few = omega (arith, o.few); small = start-small z.top.of z.under.kids z.held.0.own o.small; own = o.own }, held-set w n os (depth - 1) q i i z.around (omega arith) (omega arith) z.held.1.1);
           ends = z.ends ∙ rw on;
           marked = z.marked ∙ rw on refl;
         }
@@ -327,12 +320,12 @@ module _ {w bytes old : List ℕ} {n : ℕ} {new : List ℕ} {os : List Kept} {d
       let l : (record_at w i).level ≡ suc top.of.level = omega (arith, z.level, z.running.held.0.level, z.running.deep) in
       rw (left-more w n i z.inside, open-one top around i (record_at w i) (records_from w (n - (i + 1)) (i + 1)) l, add-one i)
 
-  pub open-fits : ((get_or os depth unkept).kids ≤ most_kids) × ((get_or os depth unkept).number ≤ most_item_mark)
+  pub open-fits : ((get_or os depth unkept).kids ≤ most_kids) × ((get_or os depth unkept).start_number ≤ most_item_number)
   unfolding Held kept_of
   open-fits =
       let few = z.running.few in
       let o = z.running.held.0 in
-      rw is-kept (omega (arith, o.few, z.running.within, z.running.all), omega (arith, o.small, o.few, z.running.within, z.running.all))
+      rw is-kept (omega (arith, o.few, z.running.within, z.running.all), o.small)
 
   module _ {r : Rec} {s : ℕ} (er : r ≡ record_at w i) (es : s ≡ stop_at opening bytes r (seen_by r (get_or os depth unkept) 0 true)) where
     seen-is : seen_by r (get_or os depth unkept) 0 true ≡ seen (fresh i (record_at w i)) (top ∷ around)
@@ -351,7 +344,7 @@ module _ {w bytes old : List ℕ} {n : ℕ} {new : List ℕ} {os : List Kept} {d
         record { answer = rw (z.running.ends, z.running.marked, steps-are, here, ← e, opens-stop) }
 
     pub open_turn : {m : ℕ} {q : Kept} → s ≡ 0 → m ≡ mark_of r (seen_by r (get_or os depth unkept) 0 true) → q ≡ opened_in i r (get_or os depth unkept) → Running w bytes old n (set new i m) (set os (depth + 1) q) (depth + 1) (i + 1)
-    unfolding Held marks_of last_mark stop_of
+    unfolding Held marks_of start_behind stop_of
     open_turn {m} {q} h em eq =
         let on = goes_on bytes open_step after_open (sym opens-stop ∙ h) in
         let v = z.running in

@@ -7,18 +7,14 @@ use Rattle.leaves.specs.declared.sheet.records.Rec.{Rec}
 use Rattle.leaves.specs.Sheet.Classes.{is_break}
 use Rattle.leaves.specs.Sheet.Empty.{is_empty_text}
 use Rattle.leaves.specs.Text.Marker.{written_marker}
-use Rattle.leaves.specs.Refusal.Limits.{most_records, most_item_number}
+use Rattle.leaves.specs.Refusal.Limits.{most_records}
 use Rattle.setter.specs.Steps.{Frame}
-use Rattle.setter.specs.Seen.{Seen, columns, nearest, in_link, behind_break, only_empty, item_mark, last_mark}
+use Rattle.setter.specs.Seen.{Seen, columns, nearest, in_link, behind_break, only_empty, start_number}
 use Rattle.setter.specs.declared.kept.Kept.{Kept}
 
 -- no record has more children: a sheet has no more records
 abbrev pub most_kids : ℕ
 most_kids = most_records
-
--- no item has a larger number: the largest own number, and 1 more for each item behind it
-abbrev pub most_item_mark : ℕ
-most_item_mark = most_item_number + most_kids
 
 -- the marker kept once record r has closed: for a list its written one, for a blank line the one before, and 0 for any
 -- other kind
@@ -35,6 +31,15 @@ unfoldable pub marker_behind : List Rec → ℕ
 marker_behind [] = 0
 marker_behind (s ∷ ss) = next_marker s (marker_behind ss)
 
+-- the start number kept once these children have closed, newest first; 1 where none has
+unfoldable pub start_behind : List Rec → ℕ
+start_behind [] = 1
+start_behind (s ∷ ss) = start_number ss s
+
+-- the start number of an ordered list of which k is kept, where r is its next item
+abbrev pub start_with : Rec → Kept → ℕ
+start_with r k = if eqb k.kids 0 && eqb r.b 1 then r.c else k.start_number
+
 -- what is kept of an open record
 unfoldable pub kept_of : Frame → List Frame → Kept
 kept_of f around =
@@ -48,7 +53,7 @@ kept_of f around =
       broke = behind_break f.kids;
       marker = marker_behind f.kids;
       empty = only_empty f.kids;
-      number = last_mark f.kids;
+      start_number = start_behind f.kids;
     }
 
 -- what record r sees, where k is kept of the record around it. `kids` of the children of r have closed, and `empty`
@@ -63,7 +68,7 @@ seen_by r k kids empty =
       siblings_before = k.kids;
       broke = k.broke;
       joins = eqb k.marker (written_marker r.a r.b);
-      number = k.number;
+      start_number = start_with r k;
       kids = kids;
       empty = empty;
     }
@@ -81,7 +86,7 @@ opened_in i r k =
       broke = false;
       marker = 0;
       empty = true;
-      number = 0;
+      start_number = 1;
     }
 
 -- what is kept of a record once its child r has closed; k was kept before
@@ -97,5 +102,5 @@ after_kid k r =
       broke = is_break r.kind;
       marker = next_marker r k.marker;
       empty = is_empty_text r && k.empty;
-      number = item_mark r k.number;
+      start_number = start_with r k;
     }

@@ -1,10 +1,12 @@
 -- The marks of the setting machine. "Each record opened without a stop gets a mark: heading depth; cell's column from
--- 1; ordered item's own number, else the item before plus 1, else 1; 0 otherwise. Other marks stay."
+-- 1; .. 0 otherwise. Other marks stay." Order 2: "The machine's mark for an ordered item becomes the first item's
+-- number, or 1 without one, plus the item's position from 0." A list holds nothing but items, so an item's position is
+-- how many siblings stand before it.
 use Rattle.std.specs.Prelude.{ℕ, ◌+◌, ◌&&◌, List, [], ◌∷◌, eqb, set, if◌then◌else◌}
 use Rattle.leaves.specs.Sheet.Kinds.{heading, item, cell}
 use Rattle.leaves.specs.declared.sheet.records.Rec.{Rec}
 use Rattle.setter.specs.Steps.{Step, opens, closes}
-use Rattle.setter.specs.Seen.{Seen, item_mark, seen}
+use Rattle.setter.specs.Seen.{Seen, seen}
 
 unfoldable pub mark_of : Rec → Seen → ℕ
 mark_of r s =
@@ -13,7 +15,7 @@ mark_of r s =
     else if eqb r.kind cell
     then s.siblings_before + 1
     else if eqb r.kind item && s.ordered
-    then item_mark r s.number
+    then s.start_number + s.siblings_before
     else 0
 
 -- the marks after the openings and closings of a run

@@ -1,7 +1,8 @@
 -- What the stops and the marks of the setting machine go by: what is open around a record, its siblings before it, and
 -- its own children that have closed.
-use Rattle.std.specs.Prelude.{ℕ, ◌+◌, Bool, true, false, ◌&&◌, ◌||◌, List, [], ◌∷◌, eqb, length}
+use Rattle.std.specs.Prelude.{ℕ, Bool, true, false, ◌&&◌, ◌||◌, List, [], ◌∷◌, eqb, length}
 use Rattle.std.specs.Prelude.{if◌then◌else◌}
+use mathlib.Core.List.{get_last_d}
 use Rattle.leaves.specs.Sheet.Kinds.{among, no_kind, is_inline, list, table, blank_line}
 use Rattle.leaves.specs.Sheet.Kinds.{text, link, link_reference, soft_break, line_break}
 use Rattle.leaves.specs.declared.sheet.records.Rec.{Rec}
@@ -53,15 +54,14 @@ unfoldable pub only_empty : List Rec → Bool
 only_empty [] = true
 only_empty (s ∷ ss) = (eqb s.kind text && eqb s.first.len 0) && only_empty ss
 
--- the number of an ordered item: its "own number, else the item before plus 1, else 1", where `last` is that of the
--- item before, and 0 where there is none
-abbrev pub item_mark : Rec → ℕ → ℕ
-item_mark r last = if eqb r.b 1 then r.c else last + 1
+-- an item's number, "or 1 without one"
+abbrev pub number_or_1 : Rec → ℕ
+number_or_1 r = if eqb r.b 1 then r.c else 1
 
--- the number of the newest of those items; 0 where there is none
-unfoldable pub last_mark : List Rec → ℕ
-last_mark [] = 0
-last_mark (s ∷ ss) = item_mark s (last_mark ss)
+-- the start number of an ordered list: "the first item's number, or 1 without one". The first item is the oldest of
+-- the siblings before item r, or r itself where there is none.
+unfoldable pub start_number : List Rec → Rec → ℕ
+start_number before r = number_or_1 (get_last_d before r)
 
 -- what the stops and the mark go by when a record opens or closes, beside the record itself
 pub record Seen : Type 0 where
@@ -79,8 +79,8 @@ pub record Seen : Type 0 where
   pub broke : Bool
   -- the sibling before it, only blank lines skipped, is a list of its written marker (asked only where it is a list)
   pub joins : Bool
-  -- the number of the item before it, as an ordered item's; 0 where there is none
-  pub number : ℕ
+  -- the start number of its list (asked only where it is an item of an ordered list)
+  pub start_number : ℕ
   -- how many children it has that have closed: none as it opens, and all as it closes
   pub kids : ℕ
   -- these are nothing but empty texts
@@ -97,7 +97,7 @@ seen f around =
       siblings_before = length (siblings around);
       broke = behind_break (siblings around);
       joins = behind_list (siblings around) f.of;
-      number = last_mark (siblings around);
+      start_number = start_number (siblings around) f.of;
       kids = length f.kids;
       empty = only_empty f.kids;
     }

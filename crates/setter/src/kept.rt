@@ -1,16 +1,15 @@
 // What the machine keeps of each open record, and how it changes as records open and close.
 ghost use Rattle.std.specs.Prelude.{◌≡◌, ◌≤◌, []};
 ghost use Rattle.setter.specs.Steps.{the_sheet};
-ghost use Rattle.setter.specs.Kept.{kept_of, opened_in, after_kid, next_marker, most_kids, most_item_mark};
+ghost use Rattle.setter.specs.Kept.{kept_of, opened_in, after_kid, next_marker, start_with, most_kids};
 
-use crate::marks::item_mark;
 use leaves::sheet::records::Rec;
 use leaves::sheet::{classes, empty, kinds};
 use leaves::text::marker::written_marker;
 
 // What the machine keeps of an open record. The first five fields are of the record and of what is open around it, the
-// others of its children that have closed. Four fields have 0 for none, and no Option: `nearest` and `marker` are only
-// compared with values that are not 0, `number` is counted on from, and `columns` is asked only under a table.
+// others of its children that have closed. Three fields have 0 for none, and no Option: `nearest` and `marker` are only
+// compared with values that are not 0, and `columns` is asked only under a table.
 #[derive(Clone, Copy)]
 pub(crate) struct Kept {
     // the record's number in the sheet, from 0
@@ -31,8 +30,8 @@ pub(crate) struct Kept {
     pub marker: u32,
     // the children are nothing but empty texts
     pub empty: bool,
-    // the newest child's number, as an ordered item's; 0 where there is none
-    pub number: u32,
+    // of an ordered list, its start number once an item has closed: the first item's number, or 1 without one; 1 before
+    pub start_number: u32,
 }
 
 // The marker kept once record r has closed: for a list its written one, for a blank line the one before, and 0 for any
@@ -49,7 +48,7 @@ fn next_marker(r: Rec, before: u32) -> u32
 
 impl Kept {
     // What is kept of the sheet itself, before anything opens.
-    #[tactic(auto, unfolding(crate::specs::Kept::kept_of, crate::specs::Kept::marker_behind, crate::specs::Seen::columns, crate::specs::Seen::nearest, crate::specs::Seen::in_link, crate::specs::Seen::only_empty, crate::specs::Seen::last_mark))]
+    #[tactic(auto, unfolding(crate::specs::Kept::kept_of, crate::specs::Kept::marker_behind, crate::specs::Seen::columns, crate::specs::Seen::nearest, crate::specs::Seen::in_link, crate::specs::Seen::only_empty, crate::specs::Kept::start_behind))]
     pub(crate) fn the_sheet() -> Kept
         ensures { result ≡ kept_of the_sheet [] }
     {
@@ -63,12 +62,12 @@ impl Kept {
             broke: false,
             marker: 0,
             empty: true,
-            number: 0,
+            start_number: 1,
         }
     }
 
     // What is kept of record `i`, which is r, as it opens under the record of which this is kept.
-    #[tactic(auto, unfolding(crate::specs::Kept::opened_in, crate::specs::Kept::kept_of, crate::specs::Kept::marker_behind, crate::specs::Seen::only_empty, crate::specs::Seen::last_mark))]
+    #[tactic(auto, unfolding(crate::specs::Kept::opened_in, crate::specs::Kept::kept_of, crate::specs::Kept::marker_behind, crate::specs::Seen::only_empty, crate::specs::Kept::start_behind))]
     pub(crate) fn opened(self, i: u32, r: Rec) -> Kept
         ensures { result ≡ opened_in i r self }
     {
@@ -90,10 +89,21 @@ impl Kept {
         }
     }
 
+    // The start number of an ordered list of which this is kept, where r is its next item.
+    pub(crate) fn start_with(self, r: Rec) -> u32
+        ensures { result ≡ start_with r self }
+    {
+        if self.kids == 0 && r.b == 1 {
+            r.c
+        } else {
+            self.start_number
+        }
+    }
+
     // What is kept of a record once its child r has closed; this was kept before.
     #[tactic(auto, unfolding(crate::specs::Kept::after_kid))]
     pub(crate) fn after_kid(self, r: Rec) -> Kept
-        requires { (self.kids ≤ most_kids) × (self.number ≤ most_item_mark) }
+        requires { self.kids ≤ most_kids }
         ensures { result ≡ after_kid self r }
     {
         Kept {
@@ -101,7 +111,7 @@ impl Kept {
             broke: classes::is_break(r.kind),
             marker: next_marker(r, self.marker),
             empty: empty::is_empty_text(r) && self.empty,
-            number: item_mark(r, self.number),
+            start_number: self.start_with(r),
             ..self
         }
     }

@@ -21,8 +21,8 @@ struct Open {
     /// The written marker of the last child but for blank lines, where that
     /// is a list.
     marker: Option<u8>,
-    /// The mark of the last child.
-    mark: u32,
+    /// The mark of the next item, where this is an ordered list that has one.
+    next: u32,
     /// Whether a child is no empty text.
     filled: bool,
     /// Whether what is under it must stay on one line.
@@ -111,8 +111,9 @@ fn mark(words: &[u32; RECORD_WORDS], parent: &Open) -> u32 {
     let [kind, .., a, b, c, _, _, _, _] = *words;
     match kind {
         2 => a,
+        20 if parent.a == 1 && parent.children > 0 => parent.next,
         20 if parent.a == 1 && b == 1 => c,
-        20 if parent.a == 1 => parent.mark + 1,
+        20 if parent.a == 1 => 1,
         22 => parent.children + 1,
         _ => 0,
     }
@@ -123,7 +124,7 @@ fn note_child(parent: &mut Open, words: &[u32; RECORD_WORDS], mark: u32) {
     let [kind, .., a, b, _, _, length, _, _] = *words;
     parent.children += 1;
     parent.last = kind;
-    parent.mark = mark;
+    parent.next = mark + 1;
     parent.filled |= kind != 31 || length > 0;
     if kind != 17 {
         parent.marker = (kind == 6).then(|| written_marker(a, b));

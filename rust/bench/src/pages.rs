@@ -78,11 +78,12 @@ fn good_headings() -> Page {
     page(format!("{MOST_RECORDS} headings"), &blocks)
 }
 
-/// One list of numbered items, every tenth with its own number.
+/// One list of numbered items, every tenth with a number of its own, which is
+/// not what it is counted to but for the first's.
 fn numbered() -> Page {
     let count = MOST_RECORDS - 1;
     let item = |at: usize| match at % 10 {
-        0 => Item::new([]).number(at as u32),
+        0 => Item::new([]).number(7 + at as u32 / 10),
         _ => Item::new([]),
     };
     let list = Block::tight_list(Marker::PERIOD, (0..count).map(item));

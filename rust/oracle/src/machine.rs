@@ -1,6 +1,6 @@
-//! The setting machine, read from document 01 as plainly as can be: it keeps
-//! a stack of the records that are open, and looks back for siblings. It is
-//! quadratic.
+//! The setting machine, read from document 01 and order 2 as plainly as can
+//! be: it keeps a stack of the records that are open, and looks back for
+//! siblings. It is quadratic.
 
 use alloc::vec::Vec;
 
@@ -248,18 +248,20 @@ impl Machine<'_> {
         lowest(&conditions)
     }
 
-    /// "heading depth; cell's column from 1; ordered item's own number, else
-    /// the item before plus 1, else 1; 0 otherwise."
+    /// "heading depth; cell's column from 1; [...] 0 otherwise." And order 2:
+    /// "The machine's mark for an ordered item becomes the first item's
+    /// number, or 1 without one, plus the item's position from 0."
     fn mark(&self, record: usize) -> u32 {
         match self.kind(record) {
             HEADING => self.word(record, A),
             CELL => self.position(record) as u32 + 1,
             ITEM if self.is_in_ordered() => {
-                if self.word(record, B) == 1 {
-                    return self.word(record, C);
-                }
-                let before = self.siblings_before(record).next_back();
-                before.map_or(1, |before| self.run.marks[before] + 1)
+                let first = self.siblings_before(record).next().unwrap_or(record);
+                let start = match self.word(first, B) {
+                    1 => self.word(first, C),
+                    _ => 1,
+                };
+                start + self.position(record) as u32
             }
             _ => 0,
         }

@@ -181,9 +181,11 @@ fn stop_7() {
     let ordered = |number| list(1, numbered(number, 2));
     stops(7, 1, &[0], &ordered(1_000_000_000), &ordered(999_999_999));
     stops(7, 1, &[0], &ordered(u32::MAX), &ordered(0));
-    // One that has its number from the item before is not asked.
+    // Every item's own number is looked at, and not what it is counted to.
     let [list, item] = ordered(999_999_999);
     assert_eq!(stop(&[list, item, plain(20, 2)]), None);
+    let later = [list, item, numbered(1_000_000_000, 2)];
+    assert_eq!(stop(&later), Some((7, 2, vec![0])));
 }
 
 #[test]
@@ -378,12 +380,15 @@ fn marks() {
     assert_eq!(marks(&table(3, 3)), [0, 0, 1, 2, 3]);
     let rows = [&table(2, 2)[..], &table(2, 2)[1..]].concat();
     assert_eq!(marks(&rows), [0, 0, 1, 2, 0, 1, 2]);
-    // Own number, else the item before plus 1, else 1.
+    // The first item's number, or 1 without one, plus the position.
     let item = plain(20, 2);
     let ordered = |items: &[Record]| [&[a(1, plain(6, 1))][..], items].concat();
     assert_eq!(marks(&ordered(&[item, item])), [0, 1, 2]);
-    let counted = [item, numbered(7, 2), item, numbered(0, 2), item];
-    assert_eq!(marks(&ordered(&counted)), [0, 1, 7, 8, 0, 1]);
+    let first_unnumbered = [item, numbered(7, 2), item, numbered(0, 2), item];
+    assert_eq!(marks(&ordered(&first_unnumbered)), [0, 1, 2, 3, 4, 5]);
+    let seven = [numbered(7, 2), numbered(3, 2), item];
+    assert_eq!(marks(&ordered(&seven)), [0, 7, 8, 9]);
+    assert_eq!(marks(&ordered(&[numbered(0, 2), item])), [0, 0, 1]);
     let past = [numbered(999_999_999, 2), item, item];
     assert_eq!(
         marks(&ordered(&past)),

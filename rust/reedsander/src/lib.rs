@@ -58,10 +58,11 @@
 //!
 //! The setting machine ([`set`]) opens and closes the records of a sheet in
 //! order, and gives each a mark: a heading its depth, a cell its column, an
-//! item of a numbered list its number. Where it cannot go on it stops, see
-//! [`Stop`]. It does not read the checker's list, but the two agree: it stops
-//! exactly when the list has an entry of a rule that belongs to a stop. So a
-//! sheet whose list is empty is set to its end.
+//! item of an ordered list its number, counted on from that of the first item.
+//! Where it cannot go on it stops, see [`Stop`]. It does not read the checker's
+//! list, but the two agree: it stops exactly when the list has an entry of a
+//! rule that belongs to a stop. So a sheet whose list is empty is set to its
+//! end.
 //!
 //! A setter that hands on no page while there is something in the list, and
 //! marks each fault where its path leads. The records of all paths are found

@@ -424,7 +424,9 @@ impl<'a> Item<'a> {
         Self(self.0.a(1 + u32::from(checked)))
     }
 
-    /// With its own number.
+    /// With its own number. An ordered list is numbered on from its first
+    /// item's, or from 1 where that has none. A later item's own number changes
+    /// no mark; rules 49 and 50 and stops 7 and 8 still look at it.
     pub fn number(self, number: u32) -> Self {
         Self(self.0.b(1).c(number))
     }

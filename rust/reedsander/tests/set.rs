@@ -117,7 +117,7 @@ fn the_end() {
         bullets([Item::new([])]),
     ]);
     let heading = [6, 0, 0];
-    let items = [0, 1, 0, 1, 0, 0, 1, 2, 999_999_999, 1_000_000_000];
+    let items = [0, 1, 2, 3, 0, 0, 1, 2, 4, 5];
     let marks = [&heading[..], &items, &[0, 0]].concat();
     let ended = Setting::Ended { records: 15 };
     assert_eq!(sheet.set(), Ok((ended, marks.clone())));

@@ -26,7 +26,7 @@ use Rattle.blocks.specs.Block.{validate_own}
 use Rattle.blocks.specs.Walk.{validate_block, validate_blocks, validate_document, validate_item, validate_list_items}
 use Rattle.blocks.specs.Check.{check_outcome}
 use Rattle.setter.specs.Steps.{closings, remain, steps_from, steps_of}
-use Rattle.setter.specs.Seen.{columns, nearest, in_link, behind_list, only_empty, last_mark}
+use Rattle.setter.specs.Seen.{columns, nearest, in_link, behind_list, only_empty, start_number}
 use Rattle.setter.specs.Stops.{stop_at, stop_of}
 use Rattle.setter.specs.Machine.{position, frame_path, block_path, run_of, run, run_answer}
 use Rattle.leaves.specs.Text.Field.{front, field, past_spaces, read_digits, read_number, read_field}
@@ -37,7 +37,7 @@ use Rattle.setter.specs.Listing.Program.{sheet_lines, listing}
 
 -- what is printed; a declaration that unfolds this unfolds all that it computes with
 printed : List ℕ → List ℕ
-unfolding listing sheet_lines refusal_line entry_lines list_lines are_records sheet_of film_sheet text_behind film_of front field past_spaces read_digits read_number read_field fields line are_fields is_line numbers check_outcome run closings remain steps_from steps_of columns nearest in_link behind_list only_empty stop_at stop_of position frame_path block_path run_of run_answer last_mark records_from validate_document validate_blocks validate_block validate_list_items validate_item before_next holds_blocks validate_own takes_indented_code validate_heading validate_taken_block written_marker final_break break_entries inlines_of get_last_d no_inline is_empty_list validate_inline_nodes validate_inline_nodes_after validate_inlines words flat list_if ◌⊕◌ judge_sheet or_else judge_from judge_at judge judge_texts level_before bad_level tags_from lacks_tags record_at deeper after_deeper grow forest_at forest_of count_trees count_kind misplaced open_at fold_siblings before_children after_child parent_group other_group child_group holds place_in place_of bad_field bad_number most_a most_b most_c is_surrogate bad_span has_first has_second bad_text text_outside text_ill_formed text_of part_of is_utf8 well_formed follow Rattle.leaves.specs.Text.Utf8.table_3_7
+unfolding listing sheet_lines refusal_line entry_lines list_lines are_records sheet_of film_sheet text_behind film_of front field past_spaces read_digits read_number read_field fields line are_fields is_line numbers check_outcome run closings remain steps_from steps_of columns nearest in_link behind_list only_empty stop_at stop_of position frame_path block_path run_of run_answer start_number records_from validate_document validate_blocks validate_block validate_list_items validate_item before_next holds_blocks validate_own takes_indented_code validate_heading validate_taken_block written_marker final_break break_entries inlines_of get_last_d no_inline is_empty_list validate_inline_nodes validate_inline_nodes_after validate_inlines words flat list_if ◌⊕◌ judge_sheet or_else judge_from judge_at judge judge_texts level_before bad_level tags_from lacks_tags record_at deeper after_deeper grow forest_at forest_of count_trees count_kind misplaced open_at fold_siblings before_children after_child parent_group other_group child_group holds place_in place_of bad_field bad_number most_a most_b most_c is_surrogate bad_span has_first has_second bad_text text_outside text_ill_formed text_of part_of is_utf8 well_formed follow Rattle.leaves.specs.Text.Utf8.table_3_7
 printed s = listing s
 
 -- a record with a kind, a level and A

@@ -10,7 +10,8 @@ use crate::{Entry, Refusal, Report, Rule, Setting};
 pub enum Page<N> {
     /// The list is empty: each node with its mark, in the order of the sheet.
     /// A heading's mark is its depth, a cell's its column from 1, that of an
-    /// item of a numbered list its number, and every other 0.
+    /// item of an ordered list its number, counted on from the first item's,
+    /// and every other 0.
     Set(Vec<(N, u32)>),
     /// The entries of the list in their order, each with its node. Nothing
     /// was set.

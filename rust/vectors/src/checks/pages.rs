@@ -436,12 +436,19 @@ fn frontmatter() -> Vec<Page> {
     ]
 }
 
-/// Rules 49 to 53; and items without a number behind one that has the
-/// largest.
+/// Rules 49 to 53; and lists that go on from a number, or from none, whatever
+/// numbers the later items have.
 fn items() -> Vec<Page> {
-    let numbers = [None, Some(999_999_999), None, None];
-    let items = numbers.map(|number| letters::item(0, number).under([words()]));
-    let mut all = vec![vec![letters::list(1, 3, 1).under(items)]];
+    let numbers: [&[Option<u32>]; 5] = [
+        &[None, Some(999_999_999), None, None],
+        &[Some(999_999_999), None, Some(3), None],
+        &[Some(7), Some(3), None],
+        &[Some(0), None, Some(5)],
+        &[None, Some(7), Some(1_000_000_000)],
+    ];
+    let item_of = |&number: &Option<u32>| letters::item(0, number).under([words()]);
+    let list = |numbers: &[Option<u32>]| letters::list(1, 3, 1).under(numbers.iter().map(item_of));
+    let mut all: Vec<Page> = numbers.map(|numbers| vec![list(numbers)]).into();
     for number in [0, 1, 999_999_999, 1_000_000_000, u32::MAX] {
         let numbered = |ordered, delimiter| {
             let item = letters::item(0, Some(number)).under([words()]);
