@@ -78,8 +78,8 @@ fn good_headings() -> Page {
     page(format!("{MOST_RECORDS} headings"), &blocks)
 }
 
-/// One list of numbered items, every tenth with a number of its own, which is
-/// not what it is counted to but for the first's.
+/// One list that is numbered from 7. Every tenth item has a number of its own,
+/// by which only the first is marked.
 fn numbered() -> Page {
     let count = MOST_RECORDS - 1;
     let item = |at: usize| match at % 10 {
