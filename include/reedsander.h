@@ -9,6 +9,8 @@
  * sheet and the text may overlap each other; the written buffer overlaps
  * neither of them.
  *
+ * Linking. The library needs no function from outside but `memset`.
+ *
  * Threads. Calls share nothing, keep nothing and allocate nothing. So any
  * number of calls may run at once, in any threads and on one sheet and text,
  * where each has a written buffer of its own, and where nothing writes into

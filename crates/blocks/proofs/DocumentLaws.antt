@@ -1,10 +1,12 @@
 -- The whole list: the trees of an accepted sheet are those that a walk from its first record goes through.
 use mathlib.Core.Path.{◌≡◌, refl, ap, ◌∙◌}
 use mathlib.Core.List.{List, []}
-use Prim.Native.Nat.{ℕ, ◌<◌}
+use Prim.Native.Nat.{ℕ, ◌<◌, ◌≤◌}
 use native.Mathlib.Nat.{sub-zero}
 use native.Mathlib.Omega.{arith}
 use borrow.Author.Tests.{lt-ltb}
+use lib.ListN.{length, take}
+use Rattle.leaves.specs.Refusal.Limits.{most_level}
 use Rattle.leaves.specs.Sheet.Records.{records_of}
 use Rattle.leaves.specs.Sheet.Forest.{Forest, no_tree, tree, deeper, forest_of, under}
 use Rattle.leaves.specs.Refusal.Places.{after_child}
@@ -17,6 +19,7 @@ use Rattle.leaves.specs.Report.Listed.{path_of}
 use Rattle.leaves.specs.declared.sheet.trees.Records.{Records}
 use Rattle.leaves.specs.declared.report.entries.Report.{Report}
 use Rattle.inlines.specs.Walk.{Walked}
+use Rattle.inlines.proofs.WalkLaws.{WalkStart, start_of}
 use Rattle.blocks.specs.Before.{no_block}
 use Rattle.blocks.specs.Walk.{validate_blocks, validate_document}
 
@@ -45,3 +48,15 @@ lists-as s x y e l = rw (y, ← e, ← s, ← x) l
 pub document-done : (w : List ℕ) {bytes : List ℕ} → Sound w bytes → {k j : Records} {x y : Report} → OfSheet w bytes k → {before after : List ℕ} → x.words.now ≡ before → x.tally ≡ empty_tally → (x.depth ≡ 0) × (x.level ≡ 0) → Walked k j x.level x y (validate_blocks k.bytes.now (path_of x) 0 no_block (trees k x.level)) → after ≡ y.words.now → WritesEntries empty_tally y.tally before after (validate_document w bytes)
 document-done w s {k} a v t top d f =
     lists-as t v f (document-is w a.bytes (rw top.0) (ap (trees k) top.1 ∙ document-trees s a)) d.adds.lists
+
+-- what a walk that makes paths starts with: p is an array of `most_level` words, whose first `len` words are the path of
+-- the record under which it walks; that record has the level `level`
+pub record WalkBegin (w p : List ℕ) (n from len level : ℕ) : Type 0 where
+  pub start : WalkStart w (take len p) n from
+  pub words : length p ≡ most_level
+  pub short : len ≤ level
+  pub fits : len ≤ most_level
+
+-- what acceptance gives the walk of the whole sheet, which begins at record 0 with a path of no words
+pub document-begin : {w bytes p : List ℕ} {n : ℕ} → Sound w bytes → n ≡ records_of w → length p ≡ most_level → WalkBegin w p n 0 0 0
+document-begin s e l = record { start = start_of s e (omega arith) (omega arith); words = l; short = omega arith; fits = omega arith }

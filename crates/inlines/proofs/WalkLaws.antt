@@ -2,12 +2,15 @@
 use mathlib.Core.Path.{◌≡◌, refl, sym, ap, ◌∙◌}
 use mathlib.Core.Bool.{Bool, true, false}
 use mathlib.Core.List.{List, []}
-use Prim.Native.Nat.{ℕ, ◌+◌, ◌-◌, ◌<◌, ◌≤◌}
+use Prim.Native.Nat.{ℕ, ◌+◌, ◌-◌, ◌*◌, ◌<◌, ◌≤◌}
 use native.Mathlib.Nat.{sub-add-eq}
 use native.Mathlib.Omega.{arith}
 use borrow.Author.Tests.{ltb-true, ltb-false}
 use lib.Dec.{ltb}
-use Rattle.leaves.specs.Sheet.Records.{record_at}
+use lib.ListN.{length}
+use Rattle.leaves.specs.Refusal.Limits.{most_records, most_level}
+use Rattle.leaves.specs.Refusal.Formed.{Sound}
+use Rattle.leaves.specs.Sheet.Records.{record_at, records_of, record_words}
 use Rattle.leaves.specs.Sheet.Forest.{Forest, no_tree, tree, deeper, after_deeper, forest_at, under, size}
 use Rattle.leaves.specs.Sheet.Trees.{trees, ReadsNext, Ends}
 use Rattle.leaves.specs.Report.Entries.{Entry, ◌⊕◌}
@@ -89,3 +92,30 @@ module _ {level : ℕ} {x : Records} {p : Report} where
     loop-end e k =
         let r : v.before ≡ es = sym (join-none v.before) ∙ rw (k.empty, e) at v.rest in
         record { moved = passing-end v.passing k; adds = rw r at v.adds }
+
+-- ---- the levels left. `left` levels are enough below `level` where both together are at least `most_level`. Then one
+-- level less is enough below a deeper record, of the level m, and the number of a cycle of calls falls: twice the levels
+-- left for a loop, and one more for a record. The walks take `levels_left` for `left`. Document 01: "remaining levels, at
+-- most 64, are the falling number".
+pub record Left (left level : ℕ) : Type 0 where
+  pub enough : most_level ≤ left + level
+
+pub record Falls (left m : ℕ) : Type 0 where
+  pub some : 1 ≤ left
+  pub rest : Left (left - 1) m
+  pub less : 2 * (left - 1) + 1 < 2 * left
+
+pub levels-fall : {left level m : ℕ} → Left left level → m ≤ most_level → level < m → Falls left m
+levels-fall left most d = record { some = omega (arith, left.enough); rest = record { enough = omega (arith, left.enough) }; less = omega (arith, left.enough) }
+
+-- ---- what acceptance gives a walk of the first n records of a sheet from record `from` on, with a path of at most
+-- `most_level` words: the facts that `Records` and `Report` keep in their types
+pub record WalkStart (w path : List ℕ) (n from : ℕ) : Type 0 where
+  pub whole : n * record_words ≤ length w
+  pub few : n ≤ most_records
+  pub shallow : (i : ℕ) → i < n → (record_at w i).level ≤ most_level
+  pub inside : from ≤ n
+  pub short : length path ≤ most_level
+
+pub start_of : {w bytes path : List ℕ} {n from : ℕ} → Sound w bytes → n ≡ records_of w → from ≤ n → length path ≤ most_level → WalkStart w path n from
+start_of sound e b s = rw e (record { whole = omega (arith, sound.whole); few = sound.few; shallow = sound.shallow; inside = rw e at b; short = s })

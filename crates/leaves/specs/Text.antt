@@ -10,6 +10,7 @@ pub mod Lines
 pub mod Marker
 pub mod Math
 pub mod Name
+pub mod NameScans
 pub mod Over
 pub mod Part
 pub mod Pipe

@@ -1,3 +1,4 @@
+pub mod FileLaws
 pub mod FilmLaws
 pub mod ListLaws
 pub mod LongLaws

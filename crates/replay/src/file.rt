@@ -1,6 +1,7 @@
 // A file of stored answers, replayed record by record.
-ghost use Rattle.std.specs.Prelude.{◌≡◌, ◌≤◌, IfOk, IfSome, length};
-ghost use Rattle.replay.specs.File.{Found};
+ghost use Rattle.std.specs.Prelude.{◌≡◌, ◌≤◌, ◌<◌, IfOk, IfSome, length, take};
+ghost use Rattle.std.specs.Io.KnownBytes.{Consumes, IsAtEnd};
+ghost use Rattle.replay.specs.File.{Stepped, Found};
 ghost use Rattle.replay.specs.Tally.{together};
 
 use crate::films;
@@ -8,7 +9,8 @@ use crate::format::Format;
 use crate::line::write_line;
 use crate::tally::Tally;
 use setter::listing::input::read_full;
-use std::io::Read;
+use std::io::{ErrorKind, Read};
+use std::ops::ControlFlow;
 use std::rt::Files;
 use std::{fs, io};
 
@@ -30,9 +32,33 @@ fn room() -> [u8; films::MOST] {
     [0u8; films::MOST]
 }
 
-// Reads the next record into the front of the buffer, and answers how many bytes it has; None at the file's end. Its
-// first byte is read alone: a file that cannot be read where a record would begin ends there, and one that cannot be
-// read inside a record is a difference.
+// Reads once, and again where the reading was interrupted, and answers how many bytes were read: they stand at the
+// buffer's front. There are none at the file's end alone.
+fn read_once<R: Read>(file: &mut R, buffer: &mut [u8]) -> io::Result<usize>
+    ensures within { IfOk result (λ n. n ≤ length buffer.new) }
+    ensures bytes { IfOk result
+        (λ n. Consumes (R.remaining file.old) (R.remaining file.new) (take n buffer.new)) }
+    ensures end { IfOk result
+        (λ n. n ≡ 0 → 0 < length buffer.new → IsAtEnd (R.remaining file.new)) }
+{
+    // a `for`, so that each run ends: nothing says how often a reading is interrupted
+    for _ in 0..u64::MAX {
+        match file.read(buffer) {
+            Ok(n) => return Ok(n),
+            Err(error) => {
+                if error.kind() != ErrorKind::Interrupted {
+                    return Err(error);
+                }
+            }
+        }
+    }
+    // No file is read so often.
+    Err(io::Error::from(ErrorKind::TimedOut))
+}
+
+// Reads the next record into the front of the buffer, and answers how many bytes it has; None at the file's end. The
+// first reading of its head is apart: a file that cannot be read where a record would begin ends there, and one that
+// cannot be read inside a record is a difference. One reading mostly takes the whole head; each is a system call.
 fn read_record<R: Read, F: Format>(
     file: &mut R,
     format: &F,
@@ -44,7 +70,7 @@ fn read_record<R: Read, F: Format>(
     if buffer.len() < head {
         return Err(Broken);
     }
-    let first = match read_full(file, &mut buffer[..head.min(1)]) {
+    let first = match read_once(file, &mut buffer[..head]) {
         Ok(0) | Err(_) => return Ok(None),
         Ok(n) => n,
     };
@@ -62,8 +88,25 @@ fn read_record<R: Read, F: Format>(
     Ok(Some(end))
 }
 
-// Replays the records of an open file. A record that cannot be replayed counts as a difference and is the last, and so
-// does a file that does not end within RECORDS records.
+// Replays the next record, behind which another may follow. Or none follows: the file is at its end, or the record
+// cannot be replayed, which counts as a difference.
+fn replay_next<R: Read, F: Format>(
+    file: &mut R,
+    format: &F,
+    buffer: &mut [u8],
+    tally: Tally,
+) -> ControlFlow<Tally, Tally>
+    ensures { Stepped (F.replayed format.now) tally result }
+{
+    match read_record(file, format, buffer) {
+        Ok(Some(n)) => ControlFlow::Continue(format.replay(&buffer[..n], tally)),
+        Ok(None) => ControlFlow::Break(tally),
+        Err(_) => ControlFlow::Break(tally.differs()),
+    }
+}
+
+// Replays the records of an open file. A record that cannot be replayed is the last, and a file that does not end
+// within RECORDS records counts as a difference.
 fn replay_opened<R: Read, F: Format>(file: &mut R, format: &F) -> Tally
     ensures { Found (F.replayed format.now) result }
 {
@@ -71,10 +114,9 @@ fn replay_opened<R: Read, F: Format>(file: &mut R, format: &F) -> Tally
     let mut tally = Tally::empty();
     // a `for`, so that each run ends: a file does not say how many records it has
     for _ in 0..RECORDS {
-        match read_record(file, format, &mut buffer) {
-            Ok(Some(n)) => tally = format.replay(&buffer[..n], tally),
-            Ok(None) => return tally,
-            Err(_) => return tally.differs(),
+        match replay_next(file, format, &mut buffer, tally) {
+            ControlFlow::Continue(after) => tally = after,
+            ControlFlow::Break(last) => return last,
         }
     }
     tally.differs()

@@ -7,8 +7,9 @@ use native.Mathlib.Numerals.{add-one}
 use native.Mathlib.Omega.{arith}
 use lib.Dec.{eqb, ltb}
 use lib.ListN.{length}
-use borrow.Author.Tests.{eq-eqb, ne_eqb, eqb-true, ltb-true, ltb-false}
+use borrow.Author.Tests.{eq-eqb, ne_eqb, eqb-true, ltb-true, ltb-false, le-leb}
 use Rattle.std.specs.Prelude.{if◌then◌else◌}
+use Rattle.leaves.specs.Text.Bytes.{between}
 use Rattle.leaves.specs.Sheet.Kinds.{list, blank_line, item}
 use Rattle.leaves.specs.declared.sheet.records.Rec.{Rec}
 use Rattle.leaves.specs.Refusal.Fields.{most_a, most_b, most_c, is_surrogate, bad_number, bad_field}
@@ -19,6 +20,7 @@ use Rattle.leaves.specs.Refusal.Limits.{most_item_number}
 use Rattle.setter.specs.Steps.{Frame, fresh, with_kid}
 use Rattle.setter.specs.Seen.{columns, nearest, in_link, behind_list, only_empty, number_or_1, start_number, Seen, seen}
 use Rattle.setter.specs.Stops.{Moment, opening, same_moment, Row, stops, lowest, stop_at}
+use Rattle.setter.specs.Answer.{last_stop}
 use Rattle.setter.specs.Kept.{marker_behind, start_behind, start_with, kept_of, seen_by, opened_in, after_kid}
 
 -- a list's written marker is never 0
@@ -64,6 +66,30 @@ opened-kept i r f st = refl
 pub kid-kept : (r : Rec) (f : Frame) (st : List Frame) → after_kid (kept_of f st) r ≡ kept_of (with_kid r f) st
 unfolding kept_of after_kid columns nearest in_link only_empty start_behind marker_behind
 kid-kept r f st = rw (add-one (length f.kids), start-kept f st r)
+
+-- ---- a stop is one of the table: its number is 1 to `last_stop`
+Small : List Row → Type 0
+Small [] = Unit {0}
+Small (t ∷ ts) = (t.stop ≤ last_stop) × Small ts
+
+small-stops : Small stops
+unfolding Small
+small-stops = omega arith
+
+lowest-small : (m : Moment) (bytes : List ℕ) (r : Rec) (s : Seen) (ts : List Row) → Small ts → lowest m bytes r s ts ≤ last_stop
+unfolding Small
+lowest-small m bytes r s [] h = omega arith
+lowest-small m bytes r s (t ∷ ts) h = go (same_moment m t.moment && t.holds bytes r s) (lowest-small m bytes r s ts h.1)
+  where
+    go : (b : Bool) → lowest m bytes r s ts ≤ last_stop → (if b then t.stop else lowest m bytes r s ts) ≤ last_stop
+    go true later = h.0
+    go false later = later
+
+pub proper-stop : (m : Moment) (bytes : List ℕ) (r : Rec) (s : Seen) {n : ℕ} → n ≡ stop_at m bytes r s → (n ≡ 0 → ⊥) → between 1 last_stop n ≡ true
+unfolding stop_at
+proper-stop m bytes r s {n} e h =
+    let most : n ≤ last_stop = rw e (lowest-small m bytes r s stops small-stops) in
+    rw (le-leb 1 n (omega arith), le-leb n last_stop most)
 
 -- ---- an item that opens has a small number, or none
 -- where the lowest of the stops is none, no row of that moment holds

@@ -4,10 +4,11 @@ use mathlib.Core.Bool.{Bool, true, false}
 use mathlib.Core.List.{List, [], ◌∷◌, ◌++◌, append_assoc, append-nil}
 use Prim.Native.Nat.{ℕ, zero, suc, min, ◌+◌, ◌-◌, ◌*◌, ◌^◌, ◌≤◌, ◌<◌}
 use native.Mathlib.Nat.{zero-add, sub-zero, le_refl}
+use native.Mathlib.Numerals.{add-one}
 use native.Mathlib.Omega.{arith}
 use lib.Dec.{leb}
-use lib.ListN.{length, take, drop, length-append, length-drop, take-append-drop, drop_of_length-le}
-use lib.Seq.{take_all, take-nil, drop-drop, take-append_seam, drop-append_seam}
+use lib.ListN.{length, get_or, set, take, drop, length-set, length-append, length-drop, take-append-drop, drop_of_length-le}
+use lib.Seq.{paste, paste-zero, paste-suc, take-length, take_all, take-nil, drop-drop, take-append_seam, drop-append_seam}
 use borrow.Author.Rules.{rules}
 use borrow.Author.Tests.{leb-true, leb-false, le-leb, lt-leb}
 use borrow.Rule.Slice.PartMut.{put_mid}
@@ -75,6 +76,23 @@ length-words e = omega arith
 
 -- ---- the functions of `entries`, one law for each way through
 
+-- `copy_at`: the first i words of s stand over those of d from `at` on
+pub record Copying (d : List ℕ) (at : ℕ) (s : List ℕ) (i : ℕ) (e : List ℕ) : Type 0 where
+  pub inside : i ≤ length s
+  pub same : length e ≡ length d
+  pub is : e ≡ paste d at s i
+
+pub copy_start : (d : List ℕ) (at : ℕ) (s : List ℕ) → Copying d at s 0 d
+copy_start d at s = record { inside = omega arith; same = refl; is = paste-zero d at s }
+
+module _ {d s e : List ℕ} {at i : ℕ} (copy : Copying d at s i e) (room : at + length s ≤ length d) where
+  pub copy-next : i < length s → Copying d at s (i + 1) (set e (at + i) (get_or s i 0))
+  copy-next h =
+      record { inside = omega arith; same = length-set e (at + i) (get_or s i 0) ∙ copy.same; is = rw (copy.is, add-one i) (paste-suc d at s i 0 (omega arith) h) }
+
+  pub copy-end : length s ≤ i → e ≡ over d at s
+  copy-end h = let n : i ≡ length s = omega arith in copy.is ∙ rw (n, take-length) (sym (over-fits d at s room))
+
 -- `write_entry`: the head, and the path behind it; or nothing
 module _ (w p : List ℕ) (rule : ℕ) (span : Span) where
   pub write_done : {x y : List ℕ} → head_words + length p ≤ length w → x ≡ over w 0 (rule ∷ span.flag ∷ span.start ∷ span.end ∷ length p ∷ []) → y ≡ over x head_words p → y ≡ over w 0 (words (record { rule = rule; span = span; path = p }))
@@ -110,7 +128,7 @@ module _ (x : List ℕ) (at : ℕ) where
     pub tail-past : length x < at → x ≡ over x at e
     tail-past h = sym (over-not x at e (omega arith))
 
-pub ruleset reports = (write_done, write-none, tail-back, tail-past, rules)
+pub ruleset reports = (copy_start, copy-next, copy-end, write_done, write-none, tail-back, tail-past, rules)
 
 -- ---- counting
 

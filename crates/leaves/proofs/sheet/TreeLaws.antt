@@ -4,7 +4,7 @@ use mathlib.Core.Bool.{Bool, true, false, true≢false}
 use mathlib.Core.List.{List}
 use Prim.Native.Nat.{ℕ, suc, ◌+◌, ◌<◌, ◌≤◌}
 use native.Mathlib.Omega.{arith}
-use borrow.Author.Tests.{leb-true, leb-false, ltb-true, ltb-false, ne_eqb}
+use borrow.Author.Tests.{leb-true, leb-false, ltb-true, ltb-false, ne_eqb, eqb-true}
 use lib.Dec.{eqb, leb, ltb}
 use Rattle.leaves.specs.Sheet.Records.{record_at}
 use Rattle.leaves.specs.Sheet.Forest.{under, count_trees, size}
@@ -64,6 +64,9 @@ pub record Counting (w : List ℕ) (n from level i trees : ℕ) : Type 0 where
   pub all : trees + count_trees (under w n i level) ≡ count_trees (under w n from level)
 
 module _ (w : List ℕ) (n from level : ℕ) where
+  pub counting-start : from ≤ n → Counting w n from level from 0
+  counting-start h = record { inside = h; few = omega arith; all = omega arith }
+
   module _ {i trees : ℕ} {e : Bool} (v : Counting w n from level i trees) (q : e ≡ eqb (count_trees (under w n i level)) 0) where
     pub counting-turn : {m j : ℕ} → e ≡ false → m ≡ (record_at w i).level → j ≡ i + 1 + size (under w n (i + 1) m) → Counting w n from level j (trees + 1)
     counting-turn {j = j} f k g =
@@ -72,3 +75,6 @@ module _ (w : List ℕ) (n from level : ℕ) where
         let c : count_trees (under w n i level) ≡ suc (count_trees (under w n (behind_kids w n i) level)) = count-in w n i level d.0 d.1 in
         let h : behind_kids w n i ≤ n = under-fits w n (i + 1) (record_at w i).level (omega arith) in
         rw g' (record { inside = h; few = omega (arith, v.few); all = omega (arith, v.all) })
+
+    pub counting-end : e ≡ true → trees ≡ count_trees (under w n from level)
+    counting-end t = let z : count_trees (under w n i level) ≡ 0 = eqb-true _ _ (sym q ∙ t) in omega (arith, v.all)

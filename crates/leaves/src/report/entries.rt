@@ -51,8 +51,20 @@ fn sum(a: usize, b: usize) -> usize
     a.saturating_add(b).min(CAP)
 }
 
+// Writes `src` over `dst` from `at` on. Not by `copy_from_slice`: for a path of any length that calls C's `memmove`, and
+// the library for C must need none from outside but `memset`.
+#[tactic(auto, using(crate::proofs::report::EntryLaws::reports))]
+fn copy_at(dst: &mut [u32], at: usize, src: &[u32])
+    requires { at + length src.now ≤ length dst.old }
+    ensures { dst.new ≡ over dst.old at src.now }
+{
+    for (i, &word) in src.iter().enumerate() {
+        dst[at + i] = word;
+    }
+}
+
 // Writes an entry at the front of the tail, if the whole entry fits.
-#[tactic(auto, using(crate::proofs::report::EntryLaws::reports), unfolding(crate::specs::Text::Over::over))]
+#[tactic(auto, using(crate::proofs::report::EntryLaws::reports))]
 fn write_entry(tail: &mut [u32], rule: u32, span: Span, path: &[u32])
     requires { length path.now ≤ most_level }
     ensures { tail.new
@@ -63,8 +75,8 @@ fn write_entry(tail: &mut [u32], rule: u32, span: Span, path: &[u32])
         return;
     }
     let head = [rule, span.flag, span.start, span.end, n as u32];
-    tail[..HEAD].copy_from_slice(&head);
-    tail[HEAD..HEAD + n].copy_from_slice(path);
+    copy_at(tail, 0, &head);
+    copy_at(tail, HEAD, path);
 }
 
 // The same from word `at` on.

@@ -3,7 +3,6 @@ ghost use Rattle.std.specs.Prelude.{◌≡◌};
 ghost use Rattle.leaves.specs.Text.Name.{
   begins_run,
   continues_run,
-  is_run,
   is_directive_name,
   begins_attribute,
   continues_attribute,
@@ -11,6 +10,7 @@ ghost use Rattle.leaves.specs.Text.Name.{
   is_trimmed_byte,
   is_blank_identifier,
 };
+ghost use Rattle.leaves.specs.Text.NameScans.{may_stand};
 
 use crate::text::bytes;
 use crate::text::bytes::{COLON, HYPHEN, UNDERSCORE};
@@ -28,21 +28,34 @@ fn continues_run(b: u8) -> bool
     bytes::is_letter(b)
 }
 
-// Whether a run has a byte, and each of its bytes can stand in it.
-fn is_run(run: &[u8]) -> bool
-    ensures { result ≡ is_run run.now }
+// Whether the byte can stand there in a directive's name. `start`: a run has to start at it; else one has begun.
+#[tactic(auto, unfolding(crate::specs::Text::NameScans::may_stand))]
+fn may_stand(start: bool, b: u8) -> bool
+    ensures { result ≡ may_stand start b }
 {
-    match run {
-        [] => false,
-        [first, rest @ ..] => begins_run(*first) && rest.iter().all(|b| continues_run(*b)),
+    if b == HYPHEN {
+        !start
+    } else if start {
+        begins_run(b)
+    } else {
+        continues_run(b)
     }
 }
 
-// Whether the name is runs joined by single hyphens.
+// Whether the name is runs joined by single hyphens. `start`: a run has to start at the byte being read. Not by `split`
+// at the hyphens: that looks for the next hyphen before it looks at the run, and so reads a long name whose first byte
+// is wrong to its end.
 pub fn is_directive_name(s: &[u8]) -> bool
     ensures { result ≡ is_directive_name s.now }
 {
-    s.split(|b| *b == HYPHEN).all(|run| is_run(run))
+    let mut start = true;
+    for &b in s {
+        if !may_stand(start, b) {
+            return false;
+        }
+        start = b == HYPHEN;
+    }
+    !start
 }
 
 fn begins_attribute(b: u8) -> bool
