@@ -33,7 +33,7 @@ fn room() -> [u8; films::MOST] {
 }
 
 // Reads once, and again where the reading was interrupted, and answers how many bytes were read: they stand at the
-// buffer's front. There are none at the file's end alone.
+// buffer's front. The answer is 0 only at the file's end, or where the buffer has no room.
 fn read_once<R: Read>(file: &mut R, buffer: &mut [u8]) -> io::Result<usize>
     ensures within { IfOk result (λ n. n ≤ length buffer.new) }
     ensures bytes { IfOk result
